@@ -4,6 +4,7 @@ mod counting;
 mod feeds;
 mod frames;
 mod histories;
+mod keeping;
 mod lists;
 mod members;
 mod mirrors;

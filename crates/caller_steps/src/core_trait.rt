@@ -1,5 +1,5 @@
 // The trait of callers by turns.
-ghost use Rattle.std.specs.Prelude.{◌≡◌, ◌<◌, ℕ, Bool, IsTrue, IsFalse, length};
+ghost use Rattle.std.specs.Prelude.{◌≡◌, ◌<◌, ℕ, Bool, IsTrue, IsFalse, IsSome, IfSome, length};
 ghost use Rattle.history.specs.Locks.{has_table};
 ghost use Rattle.history.specs.declared.call.Call.TheVariants.{Purge};
 ghost use Rattle.history.specs.declared.call.Reply.TheVariants.{Dead};
@@ -8,13 +8,16 @@ ghost use Rattle.caller_steps.specs.Fate.{is_busy, is_refusal};
 ghost use Rattle.caller_steps.specs.Locked.{IsLocked};
 ghost use Rattle.caller_steps.specs.Purging.{PurgeCause};
 
-use history::{Call, History, Reply};
+use history::{Call, Done, Reply};
 use record_slots::Names;
 
 /// Makes one step at a time: a caller's call on a table of records, with locks on keys that are held until the transaction ends.
 pub trait Core {
     /// Whether it tells its records. The clauses on replies and images hold if it does.
     ghost tells: { Bool };
+
+    /// Whether it keeps its history in memory, so that it can be read again.
+    ghost keeps: { Bool };
 
     ghost view: { Self → CoreView };
 
@@ -50,14 +53,17 @@ pub trait Core {
     fn told(&self) -> u64
         ensures { result ≡ length (view self.now).state.history };
 
-    /// The transactions committed since the opening, in the order of their commits.
-    fn history(&self) -> &History
-        ensures { result.now ≡ (view self.now).state.history };
+    /// The transactions committed since the opening, in the order of their commits, if they are kept.
+    fn history(&self) -> Option<&[Done]>
+        ensures history { IfSome result (λ dones. dones.now ≡ (view self.now).state.history) }
+        ensures kept { IsTrue keeps → IsSome result };
 }
 
 /// A core behind a pointer, which is quick to hand on.
 impl<C: Core> Core for Box<C> {
     ghost tells = { C.tells };
+
+    ghost keeps = { C.keeps };
 
     ghost view = { λ core. C.view core.value };
 
@@ -98,8 +104,9 @@ impl<C: Core> Core for Box<C> {
         self.as_ref().told()
     }
 
-    fn history(&self) -> &History
-        ensures { result.now ≡ (C.view self.now.value).state.history }
+    fn history(&self) -> Option<&[Done]>
+        ensures history { IfSome result (λ dones. dones.now ≡ (C.view self.now.value).state.history) }
+        ensures kept { IsTrue C.keeps → IsSome result }
     {
         self.as_ref().history()
     }

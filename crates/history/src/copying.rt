@@ -5,13 +5,13 @@ use crate::{Done, History};
 use mars_base::NoMemory;
 use std::alloc::Global;
 
-/// A copy of the transactions of a history that come after the first `from`, in their order.
-pub fn since(alloc: Global, history: &History, from: u64) -> Result<History, NoMemory>
+/// A copy of the transactions that come after the first `from`, in their order.
+pub fn since(alloc: Global, history: &[Done], from: u64) -> Result<History, NoMemory>
     requires { from ≤ length history.now }
     ensures { IfOk result (λ copy. copy ≡ drop from history.now) }
 {
     let mut copy = History::new(alloc);
-    let dones = &history.as_slice()[from as usize..];
+    let dones = &history[from as usize..];
     for i in 0..dones.len() {
         let done = &dones[i];
         let calls = done.calls.copy()?;

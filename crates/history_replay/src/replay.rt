@@ -10,7 +10,7 @@ ghost use Rattle.history.specs.declared.call.Reply.TheVariants.{Fine, Found, Abs
 ghost use Rattle.history.specs.Rows.{records_in, table_of};
 ghost use Rattle.history_replay.specs.Replay.{table_in, work_in, with_rows, is_listed};
 
-use history::{Call, Calls, History, Key, Reply, Rows, Tables};
+use history::{Call, Calls, Done, Key, Reply, Rows, Tables};
 use mars_base::NoMemory;
 use record_slots::{Name, Value};
 use std::alloc::Global;
@@ -24,11 +24,11 @@ struct Replay {
 }
 
 /// The records after a history, by rising key. If a key stands twice in `base`, the first record counts.
-pub fn play(history: &History, base: &Tables, alloc: Global) -> Result<Tables, NoMemory>
+pub fn play(history: &[Done], base: &Tables, alloc: Global) -> Result<Tables, NoMemory>
     ensures { IfOk result (λ tables. records_in tables ≡ entries (records (table_of base.now) history.now)) }
 {
     let mut replay = Replay::new(base, alloc)?;
-    for done in history.as_slice() {
+    for done in history {
         replay.make_all(&done.calls)?;
     }
     replay.tables(alloc)
@@ -36,13 +36,12 @@ pub fn play(history: &History, base: &Tables, alloc: Global) -> Result<Tables, N
 
 /// Whether the history is legal on the records of `base`: each transaction has the next number, and its replies are those of a table that
 /// has been through the transactions before it.
-pub fn is_legal(history: &History, base: &Tables, alloc: Global) -> Result<bool, NoMemory>
+pub fn is_legal(history: &[Done], base: &Tables, alloc: Global) -> Result<bool, NoMemory>
     ensures { IfOk result (λ legal. IsTrue legal ↔ IsLegal (table_of base.now) history.now) }
 {
     let mut replay = Replay::new(base, alloc)?;
-    let items = history.as_slice();
-    for i in 0..items.len() {
-        let done = &items[i];
+    for i in 0..history.len() {
+        let done = &history[i];
         if done.at != i as u64 + 1 {
             return Ok(false);
         }

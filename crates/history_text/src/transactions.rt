@@ -5,15 +5,15 @@ ghost use Rattle.texts.specs.Written.{Appends};
 ghost use Rattle.script_text.specs.Replies.{reply_line};
 ghost use Rattle.history_text.specs.Text.{done_lines};
 
-use history::{Calls, Done, History};
+use history::{Calls, Done};
 use script_text::put_kept;
 use texts::{Piece, TextOut, put_pieces};
 
 /// Puts the lines of each transaction.
-pub fn put_history<E, T: TextOut<E>>(out: &mut T, history: &History) -> Result<(), E>
+pub fn put_history<E, T: TextOut<E>>(out: &mut T, history: &[Done]) -> Result<(), E>
     ensures { Appends T.tells (T.view out.old) (T.view out.new) result (flat_map done_lines history.now) }
 {
-    for done in history.as_slice() {
+    for done in history {
         put_done(out, done)?;
     }
     Ok(())

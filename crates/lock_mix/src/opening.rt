@@ -9,6 +9,7 @@ use caller_steps::Core as Steps;
 use eaw_device::{Eaw, format};
 use eaw_face::EawStore;
 use mars_core::Core;
+use noted::KeepsNothing;
 use page_store::SaveRoom;
 use pcm_media::{Media, MemoryMedia};
 use std::alloc::Global;
@@ -30,8 +31,11 @@ pub fn fresh(alloc: Global) -> Option<MemoryMedia> {
 }
 
 /// A core of four callers over the array on any medium, if it has numbers for them.
-pub fn opened<M: Media + Drop>(alloc: Global, media: M) -> Option<Core<Eaw<M>, BTreePages>>
-    ensures shared { IfSome result (λ core. CanShare ⟦<Core<Eaw<M>, BTreePages> as Steps>⟧.tells 4 (⟦<Core<Eaw<M>, BTreePages> as Steps>⟧.view core)) }
+pub fn opened<M: Media + Drop>(
+    alloc: Global,
+    media: M,
+) -> Option<Core<Eaw<M>, BTreePages, KeepsNothing>>
+    ensures shared { IfSome result (λ core. CanShare ⟦<Core<Eaw<M>, BTreePages, KeepsNothing> as Steps>⟧.tells 4 (⟦<Core<Eaw<M>, BTreePages, KeepsNothing> as Steps>⟧.view core)) }
 {
     let Ok(store) = Eaw::attach(alloc, media) else {
         return None;
@@ -43,11 +47,14 @@ pub fn opened<M: Media + Drop>(alloc: Global, media: M) -> Option<Core<Eaw<M>, B
 }
 
 // A core of four callers at least over the records of a store.
-fn core_over<S: EawStore + Drop>(alloc: Global, store: S) -> Option<Core<S, BTreePages>>
+fn core_over<S: EawStore + Drop>(
+    alloc: Global,
+    store: S,
+) -> Option<Core<S, BTreePages, KeepsNothing>>
     requires alive { IsAlive (S.view store) }
     requires free { (t : ℕ) → (S.view store).ranges t ≡ None }
     requires enough { 4 ≤ (S.view store).shape.numbers }
-    ensures shared { IfSome result (λ core. CanShare ⟦<Core<S, BTreePages> as Steps>⟧.tells 4 (⟦<Core<S, BTreePages> as Steps>⟧.view core)) }
+    ensures shared { IfSome result (λ core. CanShare ⟦<Core<S, BTreePages, KeepsNothing> as Steps>⟧.tells 4 (⟦<Core<S, BTreePages, KeepsNothing> as Steps>⟧.view core)) }
 {
     let room = SaveRoom::new(alloc).ok()?;
     match Core::attach(alloc, room, store) {

@@ -1,7 +1,6 @@
 pub mod Over
 pub mod Held
 pub mod Seats
-pub mod Doubt
 pub mod Masks
 pub mod Kept
 pub mod Attached

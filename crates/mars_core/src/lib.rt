@@ -6,7 +6,6 @@
 #![tactic(auto)]
 
 mod asking;
-mod doubt;
 mod fault;
 mod live;
 mod locks;

@@ -1,5 +1,5 @@
 // The callers, each with what it has, and the names of the tables that they ask for.
-ghost use Rattle.std.specs.Prelude.{◌≡◌, ◌+◌, ◌<◌, ◌≤◌, [], List, ℕ, Some, None, IfOk, IfSome, IfNone, is_some, length, slice_set, vec_capacity};
+ghost use Rattle.std.specs.Prelude.{◌≡◌, ◌+◌, ◌<◌, ◌≤◌, [], List, ℕ, Some, None, IfOk, IfSome, IfNone, is_some, length, slice_set};
 ghost use Rattle.array_shape.specs.NumberSet.{members};
 ghost use Rattle.caller_steps.specs.Locked.{IsFree, IsBusyWith};
 ghost use Rattle.caller_steps.specs.Offers.{is_offered};
@@ -16,8 +16,9 @@ use crate::masks::Masks;
 use crate::offer::Offer;
 use crate::seat::{Ending, Seat};
 use array_shape::NumberSet;
-use history::{Call, Done};
+use history::Call;
 use mars_base::NoMemory;
+use noted::{Dones, Keeper};
 use record_slots::Names;
 use std::alloc::Global;
 use std::marker::Model;
@@ -215,10 +216,16 @@ impl Seats {
 
     /// Ends all transactions that were offered, as one group, and puts them behind those of a list that has room for them, by rising caller.
     /// `before` transactions were committed before it, and `last` is the number of the group's last one.
-    pub fn take_offered(&mut self, ending: Ending, before: u64, last: u64, into: &mut Vec<Done>)
+    pub fn take_offered<H: Keeper>(
+        &mut self,
+        ending: Ending,
+        before: u64,
+        last: u64,
+        into: &mut Dones<H>,
+    )
         requires few { length self.old.places ≤ 64 }
         requires last { before + length (offered_in self.old) ≡ last }
-        requires room { length into.old.items + length (offered_in self.old) ≤ vec_capacity into.old }
+        requires room { length into.old.items + length (offered_in self.old) ≤ into.old.capacity }
         ensures { (state : State) → IsOf self.old before state → Ends ending last state (offered_in self.old) self.old into.old.items into.new.items self.new }
     {
         let mut at = before;
@@ -227,12 +234,7 @@ impl Seats {
                 at += 1;
                 let live = self.take_offer(caller, ending.seat(at));
                 let calls = live.calls.fitted();
-                into.push_reserved(Done {
-                    caller,
-                    calls,
-                    at,
-                    last,
-                });
+                into.push_reserved(caller, calls, at, last);
             }
         }
     }

@@ -1,5 +1,5 @@
 // Callers by turns over records.
-ghost use Rattle.std.specs.Prelude.{◌≡◌, ◌+◌, ◌<◌, ◌≤◌, [], ℕ, None, Ok, IfOk, IfErr, OnErr, IsTrue, IsFalse, is_some, length, slice_index_or, vec_capacity};
+ghost use Rattle.std.specs.Prelude.{◌≡◌, ◌+◌, ◌<◌, ◌≤◌, ◌^◌, [], ℕ, None, Ok, IfOk, IfErr, IfSome, IsSome, OnErr, IsTrue, IsFalse, is_some, length, slice_index_or};
 ghost use Rattle.std.specs.FinMap.{entries};
 ghost use Rattle.history.specs.Rows.{records_in};
 ghost use Rattle.eaw_face.specs.Causes.{IsAlive};
@@ -28,7 +28,6 @@ ghost use Rattle.mars_core.specs.TableCall.{call_of};
 ghost use Rattle.mars_core.specs.Works.{IsShown};
 
 use crate::asking::answer;
-use crate::doubt::Doubt;
 use crate::fault::CoreFault;
 use crate::live::Live;
 use crate::locks::Locks;
@@ -39,8 +38,9 @@ use crate::seats::Seats;
 use crate::table_call::{Asked, TableCall};
 use caller_steps::Core as Steps;
 use eaw_face::EawStore;
-use history::{Call, Done, History, Reply, Rows, Tables};
+use history::{Call, Done, Reply, Rows, Tables};
 use mars_base::NoMemory;
+use noted::{Base, Dones, Doubt, Keeper};
 use page_store::{KeyIndex, Pages, SaveRoom};
 use record_slots::{Name, Names};
 use record_table::Records;
@@ -49,19 +49,20 @@ use std::marker::Model;
 use std::mem::replace;
 
 /// Callers that take turns on records over a store, under an index. Each call locks the stripe of its key in its table (of 64), and a scan
-/// all stripes, until the transaction ends: a get and a scan beside other readers, a put and a removal alone.
+/// all stripes, until the transaction ends: a get and a scan beside other readers, a put and a removal alone. The keeper says whether the
+/// history and the records at the opening stay in memory.
 #[derive(Drop)]
-pub struct Core<S: EawStore, K: KeyIndex> {
+pub struct Core<S: EawStore, K: KeyIndex, H: Keeper> {
     alloc: Global,
     records: Records<S, K>,
-    base: Tables,
+    base: Base<H>,
     seats: Seats,
-    history: History,
+    history: Dones<H>,
     /// The transactions whose commit met a fault of the medium. They may be durable or not.
-    doubt: Doubt,
+    doubt: Doubt<H>,
 }
 
-impl<S: EawStore, K: KeyIndex> Model for Core<S, K> {
+impl<S: EawStore, K: KeyIndex, H: Keeper> Model for Core<S, K, H> {
     ghost use Rattle.std.specs.Prelude.{length};
     ghost use Rattle.page_store.specs.Shown.{pages_of};
     ghost use Rattle.mars_core.specs.Held.{Held, state_over};
@@ -69,16 +70,16 @@ impl<S: EawStore, K: KeyIndex> Model for Core<S, K> {
 
     ghost Value = { Held S };
 
-    ghost view = { λ c. record { records = c.records; base = c.base; seats = c.seats; history = c.history; doubt = c.doubt } };
+    ghost view = { λ c. record { records = c.records; base = c.base; seats = c.seats; history = c.history.items; doubt = c.doubt } };
 
     ghost invariant = { λ c. IsKept S.tells S.opens K.index (pages_of (S.view c.records.store) c.records) (length c.seats.places) c.base
-        (state_over K.index (S.view c.records.store) (record { records = c.records; base = c.base; seats = c.seats; history = c.history; doubt = c.doubt })) };
+        (state_over K.index (S.view c.records.store) (record { records = c.records; base = c.base; seats = c.seats; history = c.history.items; doubt = c.doubt })) };
 }
 
-impl<S: EawStore, K: KeyIndex> Core<S, K> {
+impl<S: EawStore, K: KeyIndex, H: Keeper> Core<S, K, H> {
     /// A core over a store that is not dead and on which no number is live. It begins with the records of the store's data, which it brings
     /// to version 2 last. An error returns the store: the data is not a sound index, the medium failed, or memory ran out.
-    pub fn attach(alloc: Global, room: SaveRoom, store: S) -> Result<Core<S, K>, (CoreFault, S)>
+    pub fn attach(alloc: Global, room: SaveRoom, store: S) -> Result<Core<S, K, H>, (CoreFault, S)>
         requires alive { IsAlive (S.view store) }
         requires idle { (t : ℕ) → (S.view store).ranges t ≡ None }
         ensures begins { IfOk result (λ core. Begins S.tells (S.opens (S.view store).shape) K.index (S.view store) (S.view core.records.store)
@@ -93,17 +94,19 @@ impl<S: EawStore, K: KeyIndex> Core<S, K> {
         begin_over(alloc, records, tables)
     }
 
-    /// The records at the opening, in the order of their keys: of each table its rows.
-    pub fn base(&self) -> &Tables
-        ensures base { result.now ≡ self.now.base }
-        ensures entries { IsTrue S.tells → records_in result.now ≡ entries (core_of S.opens K.index (S.view self.now.records.store) self.now).state.base }
+    /// The records at the opening, in the order of their keys: of each table its rows. There are some if they are kept.
+    pub fn base(&self) -> Option<&Tables>
+        ensures base { IfSome result (λ tables. tables.now ≡ self.now.base) }
+        ensures kept { IsTrue H.keeps → IsSome result }
+        ensures entries { IsTrue S.tells → IfSome result (λ tables. records_in tables.now ≡ entries (core_of S.opens K.index (S.view self.now.records.store) self.now).state.base) }
     {
-        &self.base
+        self.base.tables()
     }
 
-    /// The transactions whose commit met a fault of the medium: one that was committed alone, or a group.
-    pub fn doubt(&self) -> &[Done]
-        ensures { result.now ≡ self.now.doubt }
+    /// The transactions whose commit met a fault of the medium: one that was committed alone, or a group. They are there if they are kept.
+    pub fn doubt(&self) -> Option<&[Done]>
+        ensures doubt { IfSome result (λ dones. dones.now ≡ self.now.doubt) }
+        ensures kept { IsTrue H.keeps → IsSome result }
     {
         self.doubt.as_slice()
     }
@@ -231,30 +234,27 @@ impl<S: EawStore, K: KeyIndex> Core<S, K> {
         ensures sends { Mirrors S.tells (S.view self.old.records.store) (S.view self.new.records.store) }
         ensures not_busy { IsFalse (is_busy result) }
     {
-        let at = self.history.as_slice().len() as u64 + 1;
+        let at = self.history.count() + 1;
         let Some(live) = self.seats.take(caller) else {
             return Reply::NoTransaction;
         };
         let Live { calls, masks } = live;
         let calls = calls.fitted();
-        // The history takes the transaction first, so that nothing is committed that there is no memory to keep.
-        match self.history.push(Done {
-            caller,
-            calls,
-            at,
-            last: at,
-        }) {
+        // There is room for the transaction first, so that nothing is committed that there is no memory to keep.
+        match self.history.reserve(1) {
             Ok(()) => {}
-            Err(failed) => {
-                let calls = failed.value.calls;
+            Err(NoMemory) => {
                 self.seats.put(caller, Live { calls, masks });
                 return Reply::NoMemory;
             }
         }
         match self.records.commit(caller) {
-            Ok(()) => Reply::Committed(at),
+            Ok(()) => {
+                self.history.push_reserved(caller, calls, at, at);
+                Reply::Committed(at)
+            }
             Err(fault) => {
-                self.doubt = Doubt::holding(self.history.pop());
+                self.doubt = Doubt::single(caller, calls, at);
                 Reply::from(fault)
             }
         }
@@ -362,23 +362,24 @@ impl<S: EawStore, K: KeyIndex> Core<S, K> {
     {
         let (callers, count) = self.seats.offered();
         // There is room for the group before its commit, so that nothing is committed that there is no memory to keep.
-        let Ok((mut history, mut doubt)) = rooms(self.alloc, &mut self.history, count) else {
+        let Ok((mut history, mut doubt)) = rooms(self.alloc, &mut self.history, count as u64) else {
             return Reply::NoMemory;
         };
-        let before = history.len() as u64;
+        let before = history.count();
         let last = before + count as u64;
         match self.records.commit_group(callers) {
             Ok(()) => {
                 self.seats
                     .take_offered(Ending::Committed, before, last, &mut history);
-                self.history = History::from(history);
+                drop(doubt);
+                self.history = history;
                 Reply::Committed(self.seats.settle(caller))
             }
             Err(fault) => {
                 self.seats
                     .take_offered(Ending::Doubtful, before, last, &mut doubt);
-                self.history = History::from(history);
-                self.doubt = Doubt::holding_group(doubt);
+                self.history = history;
+                self.doubt = Doubt::group(doubt);
                 Reply::from(fault)
             }
         }
@@ -449,11 +450,13 @@ impl<S: EawStore, K: KeyIndex> Core<S, K> {
     }
 }
 
-impl<S: EawStore, K: KeyIndex> Steps for Core<S, K> {
+impl<S: EawStore, K: KeyIndex, H: Keeper> Steps for Core<S, K, H> {
     ghost use Rattle.eaw_face.specs.Mirroring.{Mirrors};
     ghost use Rattle.mars_core.specs.Held.{core_of};
 
     ghost tells = { S.tells };
+
+    ghost keeps = { H.keeps };
 
     ghost view = { λ core. core_of S.opens K.index (S.view core.records.store) core };
 
@@ -472,43 +475,39 @@ impl<S: EawStore, K: KeyIndex> Steps for Core<S, K> {
     }
 
     fn told(&self) -> u64 {
-        self.history.len() as u64
+        self.history.count()
     }
 
-    fn history(&self) -> &History {
-        &self.history
+    fn history(&self) -> Option<&[Done]> {
+        self.history.as_slice()
     }
 }
 
-// The history in a vector, and an empty one, each with room for so many more. Without memory the history stays.
-fn rooms(
+// Takes a history out, and makes an empty one, each with room for so many more. Without memory the history stays.
+fn rooms<H: Keeper>(
     alloc: Global,
-    history: &mut History,
-    more: usize,
-) -> Result<(Vec<Done>, Vec<Done>), NoMemory>
-    ensures items { IfOk result (λ made. made.0.items ≡ history.old) }
-    ensures room { IfOk result (λ made. length made.0.items + more ≤ vec_capacity made.0) }
+    history: &mut Dones<H>,
+    more: u64,
+) -> Result<(Dones<H>, Dones<H>), NoMemory>
+    ensures items { IfOk result (λ made. made.0.items ≡ history.old.items) }
+    ensures room { IfOk result (λ made. length made.0.items + more ≤ made.0.capacity) }
+    ensures few { IfOk result (λ made. made.0.capacity ≤ 2 ^ 63) }
     ensures empty { IfOk result (λ made. made.1.items ≡ []) }
-    ensures second_room { IfOk result (λ made. more ≤ vec_capacity made.1) }
-    ensures err { OnErr result (history.new ≡ history.old) }
+    ensures second_room { IfOk result (λ made. more ≤ made.1.capacity) }
+    ensures err { OnErr result (history.new.items ≡ history.old.items) }
 {
-    let empty = Vec::with_capacity(alloc, more)?;
-    let mut items = replace(history, History::new(alloc)).into_items();
-    match items.reserve(more) {
-        Ok(()) => Ok((items, empty)),
-        Err(_) => {
-            *history = History::from(items);
-            Err(NoMemory)
-        }
-    }
+    let mut empty = Dones::new(alloc);
+    empty.reserve(more)?;
+    history.reserve(more)?;
+    Ok((replace(history, Dones::new(alloc)), empty))
 }
 
 // Makes room for the callers, over the records at the opening and their rows, and then brings the data to version 2.
-fn begin_over<S: EawStore, K: KeyIndex>(
+fn begin_over<S: EawStore, K: KeyIndex, H: Keeper>(
     alloc: Global,
     records: Records<S, K>,
     tables: Vec<(Name, Rows)>,
-) -> Result<Core<S, K>, (CoreFault, S)>
+) -> Result<Core<S, K, H>, (CoreFault, S)>
     requires alive { IsAlive (S.view records.store) }
     requires free { (t : ℕ) → (S.view records.store).ranges t ≡ None }
     requires sound { IsTrue S.tells → K.index.sound (S.view records.store).state.bytes }
@@ -538,16 +537,16 @@ fn begin_over<S: EawStore, K: KeyIndex>(
         records,
         base,
         seats,
-        history: History::new(alloc),
+        history: Dones::new(alloc),
         doubt: Doubt::none(),
     })
 }
 
 // Tables with their names, as they stand.
-fn gathered(alloc: Global, tables: Vec<(Name, Rows)>) -> Result<Tables, NoMemory>
+fn gathered<H: Keeper>(alloc: Global, tables: Vec<(Name, Rows)>) -> Result<Base<H>, NoMemory>
     ensures { IfOk result (λ all. all ≡ tables.items) }
 {
-    let mut all = Tables::new(alloc);
+    let mut all = Base::new(alloc);
     for (name, rows) in tables {
         all.push(name, rows)?;
     }

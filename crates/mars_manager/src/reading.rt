@@ -1,6 +1,7 @@
 // A pass reads the history of the shared core.
-ghost use Rattle.std.specs.Prelude.{◌≡◌, ◌≤◌, ◌+◌, IsTrue, drop, length, IfOk, IfErr};
+ghost use Rattle.std.specs.Prelude.{◌≡◌, ◌≤◌, ◌+◌, IsTrue, List, drop, length, IfOk, IfErr, IfSome, IsErrOf, IsSome};
 ghost use Rattle.history.specs.Legal.{AreNumberedFrom};
+ghost use Rattle.history.specs.declared.transaction.Done.{Done};
 ghost use Rattle.caller_steps.specs.Prefix.{Grows};
 ghost use Rattle.mars_manager.specs.Pass.{told_of, finds, IsOther};
 ghost use Rattle.mars_manager.specs.Sharing.{IsLegalIn, SeesOwn, Reads};
@@ -12,9 +13,16 @@ use crate::rule::{GiveRead, Take};
 use crate::view::View;
 use atomic_table::Seat;
 use caller_steps::Core;
-use history::{History, since};
+use history::{Done, History, since};
 use mars_base::NoMemory;
 use std::alloc::Global;
+
+/// Why transactions were not copied: the core does not keep its history, or there was no memory.
+#[derive(Clone, Copy, Debug, PartialEq, Eq)]
+pub enum NotCopied {
+    NotKept,
+    NoMemory,
+}
 
 impl<C: Core + Drop> Mars<C> {
     // Tries once for the turn and, if it gets it, copies what the history has behind the first `from` transactions.
@@ -24,7 +32,7 @@ impl<C: Core + Drop> Mars<C> {
         seat: &mut Seat<Option<C>, View<C>>,
         number: u8,
         from: u64,
-    ) -> Result<Result<History, NoMemory>, Again>
+    ) -> Result<Result<History, NotCopied>, Again>
         requires table { seat.old.table_id ≡ self.now.table }
         requires seat { IsSeat number seat.old.me }
         requires from { from ≤ length (first_of seat.old.me.0.passes).seen }
@@ -33,6 +41,7 @@ impl<C: Core + Drop> Mars<C> {
         ensures reads { IfOk result (λ _. Reads C.tells C.view (first_of seat.old.me.0.passes) (first_of seat.new.me.0.passes)) }
         ensures copy { IfOk result (λ copied. IfOk copied (λ history. history ≡ drop from (first_of seat.new.me.0.passes).seen)) }
         ensures numbered { IfOk result (λ copied. IfOk copied (λ history. AreNumberedFrom (from + 1) history)) }
+        ensures kept { IsTrue C.keeps → IfOk result (λ copied. IsErrOf copied NotCopied.NotKept → ⊥) }
         ensures again { IfErr result (λ a. IsOther (first_of seat.old.me.0.passes) a.holder × (seat.new.me ≡ seat_of (finds (a.holder + 1) (first_of seat.old.me.0.passes)))) }
     {
         let shared = &self.table.shared;
@@ -44,26 +53,27 @@ impl<C: Core + Drop> Mars<C> {
             });
         }
         let core = shared.exchange(seat, CORE, None).unwrap();
-        let copied = since(alloc, core.history(), from);
+        let copied = kept_since(alloc, core.history(), from);
         drop(shared.exchange(seat, CORE, Some(core)));
         shared.store::<GiveRead>(seat, TURN, 0);
         Ok(copied)
     }
 
     /// Tries once for the turn and, if it gets it, copies the transactions that the history has behind the first `from`, in the order of
-    /// their commits, as a feed of readers takes them. The pass has then seen the whole history, also where there was no memory for the
-    /// copy. It makes no step of the core.
+    /// their commits, as a feed of readers takes them. The pass has then seen the whole history, also where there is no copy.
+    /// It makes no step of the core.
     pub fn since(
         &self,
         alloc: Global,
         pass: &mut Pass<C>,
         from: u64,
-    ) -> Result<Result<History, NoMemory>, Again>
+    ) -> Result<Result<History, NotCopied>, Again>
         requires own { pass.old.table ≡ self.now.table }
         requires from { from ≤ length pass.old.known.seen }
         ensures table { pass.new.table ≡ pass.old.table }
         ensures copy { IfOk result (λ copied. IfOk copied (λ history. history ≡ drop from pass.new.known.seen)) }
         ensures numbered { IfOk result (λ copied. IfOk copied (λ history. AreNumberedFrom (from + 1) history)) }
+        ensures kept { IsTrue C.keeps → IfOk result (λ copied. IsErrOf copied NotCopied.NotKept → ⊥) }
         ensures reads { IfOk result (λ _. Reads C.tells C.view pass.old.known pass.new.known) }
         ensures seen { Grows pass.old.known.seen pass.new.known.seen }
         ensures legal { IfOk result (λ _. IsTrue C.tells → IsLegalIn C.view pass.new.known) }
@@ -73,5 +83,20 @@ impl<C: Core + Drop> Mars<C> {
         ensures again { IfErr result (λ a. IsOther pass.old.known a.holder × (pass.new.known ≡ finds (a.holder + 1) pass.old.known)) }
     {
         self.read(alloc, &mut pass.seat, pass.number, from)
+    }
+}
+
+// A copy of what a history has behind the first `from` transactions, if it is kept.
+fn kept_since(alloc: Global, history: Option<&[Done]>, from: u64) -> Result<History, NotCopied>
+    requires { IfSome history (λ dones. from ≤ length dones.now) }
+    ensures copy { (log : List Done) → IfSome history.entry (λ dones. dones.now ≡ log) → IfOk result (λ copy. copy ≡ drop from log) }
+    ensures kept { IsSome history.entry → IsErrOf result NotCopied.NotKept → ⊥ }
+{
+    let Some(history) = history else {
+        return Err(NotCopied::NotKept);
+    };
+    match since(alloc, history, from) {
+        Ok(copy) => Ok(copy),
+        Err(NoMemory) => Err(NotCopied::NoMemory),
     }
 }

@@ -19,6 +19,7 @@ ghost use Rattle.mars_shell.specs.Served.{Serves, ServedCounts};
 ghost use Rattle.array_runs.specs.Statuses.{Counts, IsEarly, IsRefusal};
 
 use crate::joint::{WorkLines, tell_end};
+use crate::kept::{base_of, history_of};
 use array_runs::{Status, find_form, open_for, served_status};
 use btree_pages::BTreePages;
 use caller_plans::{Script, read_script};
@@ -30,6 +31,7 @@ use eaw_face::EawStore;
 use key_list::KeyList;
 use mars_base::NoMemory;
 use mars_core::{Core, CoreFault};
+use noted::KeepsAll;
 use outside::{Sink, Source};
 use page_store::{KeyIndex, SaveRoom};
 use pcm_media::Media;
@@ -181,7 +183,7 @@ fn work_under<
     ensures untold { IfErr result.0 (λ fault. sink.new ≡ sink.old) }
     ensures counts { ServedCounts result.0 (K.faults sink.old) (K.faults sink.new) (S.view store).faults (S.view result.1).faults }
 {
-    let core = match Core::<S, I>::attach(alloc, room, store) {
+    let core = match Core::<S, I, KeepsAll>::attach(alloc, room, store) {
         Ok(core) => core,
         Err((fault, store)) => return (Err(fault), store),
     };
@@ -204,9 +206,9 @@ fn work_jointly<
     alloc: Global,
     input: &[u8],
     sink: &mut K,
-    core: Core<S, I>,
+    core: Core<S, I, KeepsAll>,
     crew: &Crew<R, G>,
-) -> (Result<Ended, NoMemory>, Core<S, I>)
+) -> (Result<Ended, NoMemory>, Core<S, I, KeepsAll>)
     requires some { 0 < crew.now.numbers.callers }
     requires few { passes_for crew.now.numbers.callers crew.now.numbers.readers ≤ 32 }
     requires readers { crew.now.numbers.readers ≤ 8 }
@@ -238,7 +240,7 @@ fn work_jointly<
         Ok(core) => core,
         Err(full) => return (Err(NoMemory), full.value),
     };
-    let (names, base) = (core.as_ref().names(), core.as_ref().base());
+    let (names, base) = (core.as_ref().names(), base_of(core.as_ref()));
     let Ok(readership) = open_readership(crew.rt, alloc, names, base, asks) else {
         return (Err(NoMemory), Box::into_inner(core));
     };
@@ -258,7 +260,7 @@ fn work_jointly<
                 fates,
                 answers,
             };
-            let ended = tell_end(alloc, sink, &lines, core.history(), core.base(), end);
+            let ended = tell_end(alloc, sink, &lines, history_of(&core), base_of(&core), end);
             (Ok(ended), core)
         }
         Err((NoMemory, core)) => (Err(NoMemory), Box::into_inner(core)),

@@ -14,6 +14,7 @@ use crate::record_work::RecordWork;
 use eaw_face::EawStore;
 use mars_base::NoMemory;
 use mars_core::{Core, CoreFault};
+use noted::Keeper;
 use outside::Sink;
 use page_store::{KeyIndex, SaveRoom};
 use script_run::Ended;
@@ -21,6 +22,9 @@ use std::alloc::Global;
 
 /// Work on a core that has just begun with the records of an array.
 pub trait CoreWork {
+    /// Says what stays in memory of the core that it is done on.
+    type Kept: Keeper + Send;
+
     /// Whether it reads the input.
     ghost reads: { Bool };
 
@@ -40,8 +44,8 @@ pub trait CoreWork {
         input: &[u8],
         numbers: u8,
         sink: &mut K,
-        core: Core<S, I>,
-    ) -> (Result<Ended, NoMemory>, Core<S, I>)
+        core: Core<S, I, Self::Kept>,
+    ) -> (Result<Ended, NoMemory>, Core<S, I, Self::Kept>)
         requires set { can_be_done self.now }
         requires numbers { numbers ≡ (S.view core.records.store).shape.numbers }
         requires ready { CanShare S.tells 0 (core_of S.opens I.index (S.view core.records.store) core) }
@@ -79,7 +83,7 @@ impl<W: CoreWork> RecordWork for OnCore<W> {
         store: S,
     ) -> (Result<Ended, CoreFault>, S) {
         let numbers = store.shape().numbers;
-        let core = match Core::<S, I>::attach(alloc, room, store) {
+        let core = match Core::<S, I, W::Kept>::attach(alloc, room, store) {
             Ok(core) => core,
             Err((fault, store)) => return (Err(fault), store),
         };

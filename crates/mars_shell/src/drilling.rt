@@ -8,15 +8,16 @@ ghost use Rattle.mars_shell.specs.Made.{SummedUp, EndsEarly};
 
 use crate::core_work::CoreWork;
 use crate::final_rows::final_rows;
+use crate::kept::{base_of, history_of};
 use crate::summary::summary_text;
 use crate::turns::make_turns;
 use array_runs::write_ended;
-use caller_steps::Core as Steps;
 use command_words::DrillNumbers;
 use drill_gen::script;
 use eaw_face::EawStore;
 use mars_base::NoMemory;
 use mars_core::Core;
+use noted::KeepsAll;
 use outside::Sink;
 use page_store::KeyIndex;
 use script_run::{Ended, Stop};
@@ -39,6 +40,8 @@ impl CoreWork for DrawnScript {
 
     ghost does = { λ work input. Drills work.numbers };
 
+    type Kept = KeepsAll;
+
     fn reads(&self) -> bool {
         false
     }
@@ -49,8 +52,8 @@ impl CoreWork for DrawnScript {
         _input: &[u8],
         numbers: u8,
         sink: &mut K,
-        core: Core<S, I>,
-    ) -> (Result<Ended, NoMemory>, Core<S, I>) {
+        core: Core<S, I, KeepsAll>,
+    ) -> (Result<Ended, NoMemory>, Core<S, I, KeepsAll>) {
         let mut core = core;
         match sum_up(alloc, &self.numbers, numbers, &mut core) {
             Ok(text) => (Ok(write_ended(sink, &text)), core),
@@ -69,7 +72,7 @@ fn sum_up<S: EawStore, I: KeyIndex>(
     alloc: Global,
     numbers: &DrillNumbers,
     callers: u8,
-    core: &mut Core<S, I>,
+    core: &mut Core<S, I, KeepsAll>,
 ) -> Result<Vec<u8>, Stop>
     requires seed { numbers.now.seed < 2 ^ 31 }
     requires callers { callers ≡ (S.view core.old.records.store).shape.numbers }
@@ -87,7 +90,7 @@ fn sum_up<S: EawStore, I: KeyIndex>(
         Ok(tally) => tally,
         Err(stop) => return Err(stop),
     };
-    let Ok(rows) = final_rows(core.history(), core.base(), alloc) else {
+    let Ok(rows) = final_rows(history_of(core), base_of(core), alloc) else {
         return Err(Stop::NoMemory);
     };
     match summary_text(alloc, numbers, &tally, &rows) {

@@ -6,14 +6,14 @@ ghost use Rattle.history.specs.Rows.{table_of, records_in};
 ghost use Rattle.history.specs.Writes.{rows_of};
 ghost use Rattle.mars_shell.specs.MainRows.{rows_among};
 
-use history::{History, Rows, Tables, main_table};
+use history::{Done, Rows, Tables, main_table};
 use history_replay::play;
 use mars_base::NoMemory;
 use record_slots::Name;
 use std::alloc::Global;
 
 // The rows of the table `main` after a history on the records of `base`.
-pub fn final_rows(history: &History, base: &Tables, alloc: Global) -> Result<Rows, NoMemory>
+pub fn final_rows(history: &[Done], base: &Tables, alloc: Global) -> Result<Rows, NoMemory>
     ensures { IfOk result (λ rows. rows ≡ rows_of main_name (records (table_of base.now) history.now)) }
 {
     let tables = play(history, base, alloc)?;

@@ -25,6 +25,7 @@ use frame_lines::answer_framed;
 use key_list::KeyList;
 use mars_core::{Core, CoreFault};
 use mirror::{MemoryLink, Primary};
+use noted::KeepsNothing;
 use outside::{Sink, Source};
 use page_store::{KeyIndex, SaveRoom};
 use pcm_media::Media;
@@ -131,7 +132,7 @@ fn work_framed<K: Sink, S: EawStore + Drop + Send, I: KeyIndex + Send>(
         Ok(primary) => primary,
         Err((_, store, _)) => return (Err(CoreFault::NoMemory), store),
     };
-    let core = match Core::<Primary<S, MemoryLink>, I>::attach(alloc, room, primary) {
+    let core = match Core::<Primary<S, MemoryLink>, I, KeepsNothing>::attach(alloc, room, primary) {
         Ok(core) => core,
         Err((fault, primary)) => {
             let (store, _link) = primary.into_parts();

@@ -12,7 +12,7 @@ ghost use Rattle.mars_shell.specs.Told.{TellsEnd, answers_in};
 use array_runs::write_ended;
 use caller_plans::LineFaults;
 use caller_work::{Fates, WorkEnd};
-use history::{Answers, History, Tables};
+use history::{Answers, Done, Tables};
 use history_replay::play;
 use history_text::{put_history, write_answers, write_fates, write_faults, write_tables};
 use mars_base::NoMemory;
@@ -34,7 +34,7 @@ pub fn tell_end<K: Sink>(
     alloc: Global,
     sink: &mut K,
     lines: &WorkLines,
-    history: &History,
+    history: &[Done],
     base: &Tables,
     end: WorkEnd,
 ) -> Ended
@@ -62,7 +62,7 @@ pub fn tell_end<K: Sink>(
 fn work_text(
     alloc: Global,
     lines: &WorkLines,
-    history: &History,
+    history: &[Done],
     base: &Tables,
 ) -> Result<Vec<u8>, NoMemory>
     requires few { length lines.now.fates.items ≤ 255 }
@@ -94,7 +94,7 @@ fn write_all_fates(text: &mut Vec<u8>, fates: &[Fates]) -> Result<(), NoMemory>
 }
 
 // Writes the history and that the medium failed. No text is formed, so how the work ended and what is told of it do not depend on memory.
-fn tell_media_fault<K: Sink>(sink: &mut K, history: &History)
+fn tell_media_fault<K: Sink>(sink: &mut K, history: &[Done])
     ensures { Wrote K.tells (K.written sink.old) (K.written sink.new) (K.faults sink.old) (K.faults sink.new)
         (λ cut text. IsWritten cut text (flat_map done_lines history.now ++ media_line)) }
 {
@@ -104,7 +104,7 @@ fn tell_media_fault<K: Sink>(sink: &mut K, history: &History)
     }
 }
 
-fn put_fault_text<E, T: TextOut<E>>(out: &mut T, history: &History) -> Result<(), E>
+fn put_fault_text<E, T: TextOut<E>>(out: &mut T, history: &[Done]) -> Result<(), E>
     ensures { Appends T.tells (T.view out.old) (T.view out.new) result (flat_map done_lines history.now ++ media_line) }
 {
     put_history(out, history)?;

@@ -20,6 +20,7 @@ mod formatting;
 mod framed_run;
 mod images;
 mod joint;
+mod kept;
 mod laws;
 mod lines;
 mod media_room;

@@ -4,6 +4,7 @@ use crate::responder::LineCore;
 use eaw_face::EawStore;
 use mars_base::NoMemory;
 use mars_core::Core;
+use noted::KeepsNothing;
 use outside::Sink;
 use page_store::KeyIndex;
 use script_run::{Ended, answer_lines};
@@ -23,6 +24,8 @@ impl CoreWork for ByTurns {
 
     ghost does = { λ work. Answers };
 
+    type Kept = KeepsNothing;
+
     fn reads(&self) -> bool {
         true
     }
@@ -33,8 +36,8 @@ impl CoreWork for ByTurns {
         input: &[u8],
         numbers: u8,
         sink: &mut K,
-        core: Core<S, I>,
-    ) -> (Result<Ended, NoMemory>, Core<S, I>) {
+        core: Core<S, I, KeepsNothing>,
+    ) -> (Result<Ended, NoMemory>, Core<S, I, KeepsNothing>) {
         let mut lines = LineCore {
             core,
             callers: numbers,

@@ -3,9 +3,10 @@ use crate::responder::LineCore;
 use eaw_face::EawStore;
 use frame_lines::Mirrored;
 use mars_core::Core;
+use noted::Keeper;
 use page_store::KeyIndex;
 
-impl<S: EawStore, I: KeyIndex> Mirrored for LineCore<Core<S, I>> {
+impl<S: EawStore, I: KeyIndex, H: Keeper> Mirrored for LineCore<Core<S, I, H>> {
     ghost use Rattle.std.proofs.Common.{⊎_elim, ap, sym, subst};
     ghost use Rattle.eaw_face.specs.Mirroring.{Mirrors};
     ghost use Rattle.caller_steps.specs.State.{State};

@@ -9,6 +9,7 @@ use caller_steps::{Core as Steps, steps_keep_all_sound};
 use eaw_device::{AttachFault, Eaw};
 use eaw_face::EawStore;
 use mars_core::{Core, CoreFault};
+use noted::Keeper;
 use page_store::{KeyIndex, SaveRoom};
 use pcm_media::Media;
 use std::alloc::Global;
@@ -30,23 +31,23 @@ pub enum OpenFault {
     NoMemory,
 }
 
-/// Opens the array that the medium holds, as a loss of power left it, and its records under the index, for at least so many callers. An
-/// error returns the medium.
-pub fn open<M: Media, K: KeyIndex>(
+/// Opens the array that the medium holds, as a loss of power left it, and its records under the index, for at least so many callers. With
+/// `KeepsNothing` its memory does not grow with what is committed. An error returns the medium.
+pub fn open<M: Media, K: KeyIndex, H: Keeper>(
     alloc: Global,
     media: M,
     callers: u8,
-) -> Result<Core<Eaw<M>, K>, (OpenFault, M)>
+) -> Result<Core<Eaw<M>, K, H>, (OpenFault, M)>
     // The medium holds an array, and the core begins with the records of its data, which are those of the data with which the image opens.
-    ensures array { IfOk result (λ core. IsTrue M.tells → BeginsOn K.index (M.view media) (⟦<Core<Eaw<M>, K> as Steps>⟧.view core)) }
-    ensures opened { IfOk result (λ core. OfData M.tells (M.view media) (λ shape bytes. Begins K.index shape bytes (⟦<Core<Eaw<M>, K> as Steps>⟧.view core))) }
-    ensures sound { IfOk result (λ core. IsTrue M.tells → IsSound (⟦<Core<Eaw<M>, K> as Steps>⟧.view core).state) }
-    ensures fresh { IfOk result (λ core. ((⟦<Core<Eaw<M>, K> as Steps>⟧.view core).state.history ≡ []) × ((caller : ℕ) → (⟦<Core<Eaw<M>, K> as Steps>⟧.view core).state.live caller ≡ None)
-        × ((⟦<Core<Eaw<M>, K> as Steps>⟧.view core).state.doubt ≡ []) × ((caller : ℕ) → (⟦<Core<Eaw<M>, K> as Steps>⟧.view core).state.offers caller ≡ unoffered)) }
-    ensures enough { IfOk result (λ core. callers ≤ (⟦<Core<Eaw<M>, K> as Steps>⟧.view core).limits.callers) }
-    ensures whole { IfOk result (λ core. (⟦<Core<Eaw<M>, K> as Steps>⟧.view core).faults ≡ (M.view media).faults) }
+    ensures array { IfOk result (λ core. IsTrue M.tells → BeginsOn K.index (M.view media) (⟦<Core<Eaw<M>, K, H> as Steps>⟧.view core)) }
+    ensures opened { IfOk result (λ core. OfData M.tells (M.view media) (λ shape bytes. Begins K.index shape bytes (⟦<Core<Eaw<M>, K, H> as Steps>⟧.view core))) }
+    ensures sound { IfOk result (λ core. IsTrue M.tells → IsSound (⟦<Core<Eaw<M>, K, H> as Steps>⟧.view core).state) }
+    ensures fresh { IfOk result (λ core. ((⟦<Core<Eaw<M>, K, H> as Steps>⟧.view core).state.history ≡ []) × ((caller : ℕ) → (⟦<Core<Eaw<M>, K, H> as Steps>⟧.view core).state.live caller ≡ None)
+        × ((⟦<Core<Eaw<M>, K, H> as Steps>⟧.view core).state.doubt ≡ []) × ((caller : ℕ) → (⟦<Core<Eaw<M>, K, H> as Steps>⟧.view core).state.offers caller ≡ unoffered)) }
+    ensures enough { IfOk result (λ core. callers ≤ (⟦<Core<Eaw<M>, K, H> as Steps>⟧.view core).limits.callers) }
+    ensures whole { IfOk result (λ core. (⟦<Core<Eaw<M>, K, H> as Steps>⟧.view core).faults ≡ (M.view media).faults) }
     // At each moment of it, what a loss of power leaves opens with data that was left before, or with the same in version 2.
-    ensures time { IfOk result (λ core. KeepsRecords M.tells (M.view media) (⟦<Core<Eaw<M>, K> as Steps>⟧.view core).moment (⟦<Core<Eaw<M>, K> as Steps>⟧.view core).left_since) }
+    ensures time { IfOk result (λ core. KeepsRecords M.tells (M.view media) (⟦<Core<Eaw<M>, K, H> as Steps>⟧.view core).moment (⟦<Core<Eaw<M>, K, H> as Steps>⟧.view core).left_since) }
     ensures cause { IfErr result (λ failed. IsUnopened M.tells K.index callers (M.view media) (M.view failed.1).faults failed.0) }
     // The medium that is given back is as it was, unless it failed, but that an array on it may be recovered.
     ensures gives_back { IfErr result (λ failed. GivesBack M.tells (M.view media) (M.view failed.1) failed.0) }

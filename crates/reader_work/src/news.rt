@@ -59,7 +59,7 @@ impl<C: Core + Drop, B: Board> News<'_, C, B> {
     }
 }
 
-// Tries once for the turn and, if it gets it, publishes all that was committed. `None` if memory was short.
+// Tries once for the turn and, if it gets it, publishes all that was committed. `None` if memory was short, or if the core keeps no history.
 fn try_publish<R: Wait, C: Core + Drop>(
     rt: &R,
     alloc: Global,
@@ -80,13 +80,13 @@ fn try_publish<R: Wait, C: Core + Drop>(
             Ok(receipt) => Ok(Some(receipt)),
             Err(NoMemory) => Ok(None),
         },
-        Ok(Err(NoMemory)) => Ok(None),
+        Ok(Err(_)) => Ok(None),
         Err(again) => Err(again),
     }
 }
 
-/// Publishes all that callers have committed so far: the receipt says all that the pass has then seen. `None` if memory was short; what is
-/// left out then goes out with the next. It waits for its turn on the core.
+/// Publishes all that callers have committed so far: the receipt says all that the pass has then seen. `None` if memory was short, and what is
+/// left out then goes out with the next; or if the core keeps no history. It waits for its turn on the core.
 pub fn publish<R: Wait, C: Core + Drop>(
     rt: &R,
     alloc: Global,

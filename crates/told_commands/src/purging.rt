@@ -9,6 +9,7 @@ use caller_steps::Core as Steps;
 use eaw_face::EawStore;
 use history::{Call, Reply};
 use mars_core::{Core, CoreFault};
+use noted::KeepsNothing;
 use page_store::{KeyIndex, SaveRoom};
 use pcm_media::Media;
 use std::alloc::Global;
@@ -38,7 +39,7 @@ impl ToldWork for Purge {
         room: SaveRoom,
         store: S,
     ) -> (Result<Told, Status>, S) {
-        let mut core = match Core::<S, I>::attach(alloc, room, store) {
+        let mut core = match Core::<S, I, KeepsNothing>::attach(alloc, room, store) {
             Ok(core) => core,
             Err((fault, store)) => return (Err(served_status(Err(fault))), store),
         };

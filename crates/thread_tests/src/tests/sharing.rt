@@ -10,6 +10,7 @@ use caller_steps::Core as Steps;
 use eaw_device::{Eaw, format};
 use eaw_face::EawStore;
 use mars_core::Core;
+use noted::KeepsAll;
 use page_store::SaveRoom;
 use pcm_media::{Media, MemoryMedia};
 use std::alloc::Global;
@@ -37,8 +38,11 @@ pub fn array(alloc: Global) -> Option<HeldMedia<MemoryMedia>> {
 }
 
 /// A core of three callers over the array on any medium, if it has numbers for them.
-pub fn opened<M: Media + Drop>(alloc: Global, media: M) -> Option<Core<Eaw<M>, BTreePages>>
-    ensures shared { IfSome result (λ core. CanShare ⟦<Core<Eaw<M>, BTreePages> as Steps>⟧.tells 3 (⟦<Core<Eaw<M>, BTreePages> as Steps>⟧.view core)) }
+pub fn opened<M: Media + Drop>(
+    alloc: Global,
+    media: M,
+) -> Option<Core<Eaw<M>, BTreePages, KeepsAll>>
+    ensures shared { IfSome result (λ core. CanShare ⟦<Core<Eaw<M>, BTreePages, KeepsAll> as Steps>⟧.tells 3 (⟦<Core<Eaw<M>, BTreePages, KeepsAll> as Steps>⟧.view core)) }
 {
     let Ok(store) = Eaw::attach(alloc, media) else {
         return None;
@@ -50,11 +54,11 @@ pub fn opened<M: Media + Drop>(alloc: Global, media: M) -> Option<Core<Eaw<M>, B
 }
 
 // A core of three callers at least over the records of a store.
-fn core_over<S: EawStore + Drop>(alloc: Global, store: S) -> Option<Core<S, BTreePages>>
+fn core_over<S: EawStore + Drop>(alloc: Global, store: S) -> Option<Core<S, BTreePages, KeepsAll>>
     requires alive { IsAlive (S.view store) }
     requires free { (t : ℕ) → (S.view store).ranges t ≡ None }
     requires enough { 3 ≤ (S.view store).shape.numbers }
-    ensures shared { IfSome result (λ core. CanShare ⟦<Core<S, BTreePages> as Steps>⟧.tells 3 (⟦<Core<S, BTreePages> as Steps>⟧.view core)) }
+    ensures shared { IfSome result (λ core. CanShare ⟦<Core<S, BTreePages, KeepsAll> as Steps>⟧.tells 3 (⟦<Core<S, BTreePages, KeepsAll> as Steps>⟧.view core)) }
 {
     let room = SaveRoom::new(alloc).ok()?;
     match Core::attach(alloc, room, store) {

@@ -1,4 +1,4 @@
-use Rattle.std.proofs.Common.{refl, sym, subst, ◌∙◌, arith}
+use Rattle.std.proofs.Common.{refl, subst, arith}
 use Rattle.std.proofs.lemmas.List.{take_all}
 use Rattle.std.proofs.lemmas.Bool.{both_ways, false≢true}
 use Rattle.history.specs.Legal.{IsLegal}
@@ -11,29 +11,29 @@ pub returns-then-done-i : goal.returns-then-done-i
 returns-then-done-i c =
     let base = table_of c.args.base.now in (
       λ never. absurd (false≢true never),
-      λ legal. absurd (is_misnumbered base c.as_slice-items.result.now c.loop-i.i c.index-items-i.result c.loop-i-test.true c.index-items-i.is
-          (table_in c.loop-i.replay.table) c.loop-i.invariant.table (λ is. omega (arith, is)) (subst (λ history. IsLegal base history) (sym c.as_slice-items.ensures) legal)),
+      λ legal. absurd (is_misnumbered base c.args.history.now c.loop-i.i c.index-history-i.result c.loop-i-test.true c.index-history-i.is
+          (table_in c.loop-i.replay.table) c.loop-i.invariant.table (λ is. omega (arith, is)) legal),
     )
 
 pub returns-then-not-branch : goal.returns-then-not-branch
 returns-then-not-branch c =
     let base = table_of c.args.base.now in (
       λ never. absurd (false≢true never),
-      λ legal. absurd (is_illegal base c.as_slice-items.result.now c.loop-i.i c.index-items-i.result c.loop-i-test.true c.index-items-i.is
+      λ legal. absurd (is_illegal base c.args.history.now c.loop-i.i c.index-history-i.result c.loop-i-test.true c.index-history-i.is
           (table_in c.loop-i.replay.table) c.loop-i.invariant.table (λ right. both_ways c.in_ok-is_right.field-0 c.if-not-branch.true (c.in_ok-is_right.ensures.right.1 right))
-          (subst (λ history. IsLegal base history) (sym c.as_slice-items.ensures) legal)),
+          legal),
     )
 
 pub loop-i-preserved : goal.loop-i-preserved
 loop-i-preserved c =
     let base = table_of c.args.base.now in
     record {
-      table = left-next base c.as_slice-items.result.now c.loop-i.i c.index-items-i.result c.loop-i-test.true c.index-items-i.is
+      table = left-next base c.args.history.now c.loop-i.i c.index-history-i.result c.loop-i-test.true c.index-history-i.is
           (table_in c.loop-i.replay.table) c.loop-i.invariant.table (table_in c.is_right.new.self.table) (c.in_ok-is_right.ensures.made c.if-not-branch.false);
-      legal = stays_legal base c.as_slice-items.result.now c.loop-i.i c.index-items-i.result c.loop-i-test.true c.index-items-i.is
+      legal = stays_legal base c.args.history.now c.loop-i.i c.index-history-i.result c.loop-i-test.true c.index-history-i.is
           (table_in c.loop-i.replay.table) c.loop-i.invariant.table c.loop-i.invariant.legal (omega arith) (c.in_ok-is_right.ensures.right.0 c.if-not-branch.false);
     }
 
 pub returns : goal.returns
 returns c =
-    (λ _. subst (IsLegal (table_of c.args.base.now)) (take_all c.loop-i.i c.as_slice-items.result.now c.loop-i-test.false ∙ c.as_slice-items.ensures) c.loop-i.invariant.legal, λ _. refl)
+    (λ _. subst (IsLegal (table_of c.args.base.now)) (take_all c.loop-i.i c.args.history.now c.loop-i-test.false) c.loop-i.invariant.legal, λ _. refl)

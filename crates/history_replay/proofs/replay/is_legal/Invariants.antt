@@ -6,6 +6,6 @@ use Rattle.history_replay.proofs.replay.is_legal.Given as goal
 
 abbrev pub invariant-loop-i : goal.invariant-loop-i
 invariant-loop-i l = record {
-  table : (work_in l.replay).table ≡ records (table_of l.base) (take l.i l.items);
-  legal : IsLegal (table_of l.base) (take l.i l.items);
+  table : (work_in l.replay).table ≡ records (table_of l.base) (take l.i l.history);
+  legal : IsLegal (table_of l.base) (take l.i l.history);
 }

@@ -9,5 +9,5 @@ use Rattle.history_replay.proofs.replay.play.Goals as goal
 pub returns : goal.returns
 returns c =
     IfOk-weaker c.tables.result _ _
-    (λ tables is. is ∙ ap entries (c.loop-done.invariant ∙ ap (records (table_of c.args.base.now)) (take_all c.loop-done.done-index c.as_slice-done-items.result.now c.loop-done-test.false ∙ c.as_slice-done-items.ensures)))
+    (λ tables is. is ∙ ap entries (c.loop-done.invariant ∙ ap (records (table_of c.args.base.now)) (take_all c.loop-done.done-index c.args.history.now c.loop-done-test.false)))
     c.tables.ensures

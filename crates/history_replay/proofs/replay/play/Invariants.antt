@@ -5,4 +5,4 @@ use Rattle.history_replay.specs.Replay.{work_in}
 use Rattle.history_replay.proofs.replay.play.Given as goal
 
 abbrev pub invariant-loop-done : goal.invariant-loop-done
-invariant-loop-done l = (work_in l.replay).table ≡ records (table_of l.base) (take l.done-index l.done-items)
+invariant-loop-done l = (work_in l.replay).table ≡ records (table_of l.base) (take l.done-index l.history)

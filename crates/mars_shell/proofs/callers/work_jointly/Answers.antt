@@ -61,7 +61,7 @@ returns-in-Ok-work_with-clause-works g c =
       holds = λ tells. joint_turns s.tells _ _ numbers.callers numbers.readers numbers.tries c.args.input.now read.0 read.1 plans read.3 c.in-Ok-work_with.fates.items c.in-Ok-work_with.end worked c.requires.ready.enough (answers_in answers) tells
           c.tell_end-ended.result told.cut told.text (λ unfailed remembered. (whole unfailed remembered).0) c.tell_end-ended.ensures.fault
           (λ unfailed remembered. answered_in answers _ _ _ _ _ _ _ _ (names ∙ sym (worked.since.continues tells).names) base history asks c.in-Ok-work_with.ensures.answered (whole unfailed remembered).1)
-          (retold c.tell_end-ended.result told.cut told.text _ _ _ _ _ _ c.in-Ok-work_with.fates.items c.in-Ok-work_with.fates.items (answers_in answers) read.2 c.history.ensures c.base.ensures.base refl told.holds);
+          (retold c.tell_end-ended.result told.cut told.text _ _ _ _ _ _ c.in-Ok-work_with.fates.items c.in-Ok-work_with.fates.items (answers_in answers) read.2 c.history_of.ensures c.base_of.ensures refl told.holds);
     }
 
 pub returns-in-Err-work_with-clause-works : goal.returns-in-Err-work_with-clause-works

@@ -31,7 +31,7 @@ live_is seats t there = let x = some_of (live_in seats t) there in x.1 ∙ ap (�
 
 pub invariant_of-self : goal.invariant_of-self
 invariant_of-self g c = aborted_keeps g.S.EawStore.tells g.S.EawStore.opens g.K.KeyIndex.index g.met.S.EawStore.one_data (pages_of (g.S.EawStore.view c.self.inside.records.store) c.self.inside.records) (pages_of (g.S.EawStore.view c.abort.new.self.store) c.abort.new.self)
-    (laws_at g c.self.inside.records.store) (laws_at g c.abort.new.self.store) (state_at g.K.KeyIndex.index (g.S.EawStore.view c.self.inside.records.store) c.self.inside.seats.names (table_of c.self.inside.base) c.self.inside.history (live_in c.self.inside.seats) (offers_in c.self.inside.seats) c.self.inside.doubt) (state_at g.K.KeyIndex.index (g.S.EawStore.view c.abort.new.self.store) c.end.new.self.names (table_of c.self.inside.base) c.self.inside.history (live_in c.end.new.self) (offers_in c.end.new.self) c.self.inside.doubt) (record { indexed = refl; dead = refl }) (record { indexed = refl; dead = refl })
+    (laws_at g c.self.inside.records.store) (laws_at g c.abort.new.self.store) (state_at g.K.KeyIndex.index (g.S.EawStore.view c.self.inside.records.store) c.self.inside.seats.names (table_of c.self.inside.base) c.self.inside.history.items (live_in c.self.inside.seats) (offers_in c.self.inside.seats) c.self.inside.doubt) (state_at g.K.KeyIndex.index (g.S.EawStore.view c.abort.new.self.store) c.end.new.self.names (table_of c.self.inside.base) c.self.inside.history.items (live_in c.end.new.self) (offers_in c.end.new.self) c.self.inside.doubt) (record { indexed = refl; dead = refl }) (record { indexed = refl; dead = refl })
     c.end.ensures.names c.end.ensures.offers refl (length c.self.inside.seats.places) (length c.end.new.self.places) c.end.ensures.count c.self.inside.base c.self.invariant
     (subst (λ (h : Held g.row.S.Denot). IsAlive (g.S.EawStore.view h.records.store)) (sym c.self.view_is) c.requires.alive) c.args.caller (calls_at c.self.inside.seats c.args.caller) (live_is c.self.inside.seats c.args.caller (sym c.if-not-is_live.ensures)) (subst (λ (h : Held g.row.S.Denot). offers_in h.seats c.args.caller ≡ unoffered) (sym c.self.view_is) c.requires.unoffered) refl refl c.in-Ok.ensures.does c.end.ensures.live c.in-Ok.ensures.free
 
@@ -43,9 +43,9 @@ pub returns-in-Ok : goal.returns-in-Ok
 returns-in-Ok g c = record {
   steps = subst (λ (h : Held g.row.S.Denot). Steps g.S.EawStore.tells c.args.caller Abort (core_of g.S.EawStore.opens g.K.KeyIndex.index (g.S.EawStore.view h.records.store) h)
       (core_of g.S.EawStore.opens g.K.KeyIndex.index (g.S.EawStore.view c.abort.new.self.store)
-      (record { records = c.abort.new.self; base = c.self.inside.base; seats = c.end.new.self; history = c.self.inside.history; doubt = c.self.inside.doubt })) Fine) c.self.view_is
+      (record { records = c.abort.new.self; base = c.self.inside.base; seats = c.end.new.self; history = c.self.inside.history.items; doubt = c.self.inside.doubt })) Fine) c.self.view_is
       (aborted_steps g.S.EawStore.tells g.S.EawStore.opens g.K.KeyIndex.index g.met.S.EawStore.one_data (pages_of (g.S.EawStore.view c.self.inside.records.store) c.self.inside.records) (pages_of (g.S.EawStore.view c.abort.new.self.store) c.abort.new.self)
-      (laws_at g c.self.inside.records.store) (laws_at g c.abort.new.self.store) (state_at g.K.KeyIndex.index (g.S.EawStore.view c.self.inside.records.store) c.self.inside.seats.names (table_of c.self.inside.base) c.self.inside.history (live_in c.self.inside.seats) (offers_in c.self.inside.seats) c.self.inside.doubt) (state_at g.K.KeyIndex.index (g.S.EawStore.view c.abort.new.self.store) c.end.new.self.names (table_of c.self.inside.base) c.self.inside.history (live_in c.end.new.self) (offers_in c.end.new.self) c.self.inside.doubt) (record { indexed = refl; dead = refl }) (record { indexed = refl; dead = refl })
+      (laws_at g c.self.inside.records.store) (laws_at g c.abort.new.self.store) (state_at g.K.KeyIndex.index (g.S.EawStore.view c.self.inside.records.store) c.self.inside.seats.names (table_of c.self.inside.base) c.self.inside.history.items (live_in c.self.inside.seats) (offers_in c.self.inside.seats) c.self.inside.doubt) (state_at g.K.KeyIndex.index (g.S.EawStore.view c.abort.new.self.store) c.end.new.self.names (table_of c.self.inside.base) c.self.inside.history.items (live_in c.end.new.self) (offers_in c.end.new.self) c.self.inside.doubt) (record { indexed = refl; dead = refl }) (record { indexed = refl; dead = refl })
       c.end.ensures.names c.end.ensures.offers refl (length c.self.inside.seats.places) (length c.end.new.self.places) c.end.ensures.count c.self.inside.base c.self.invariant
       (subst (λ (h : Held g.row.S.Denot). IsAlive (g.S.EawStore.view h.records.store)) (sym c.self.view_is) c.requires.alive) c.args.caller (calls_at c.self.inside.seats c.args.caller) (live_is c.self.inside.seats c.args.caller (sym c.if-not-is_live.ensures)) (subst (λ (h : Held g.row.S.Denot). offers_in h.seats c.args.caller ≡ unoffered) (sym c.self.view_is) c.requires.unoffered) refl refl c.in-Ok.ensures.does c.end.ensures.live);
   sends = subst (λ (h : Held g.row.S.Denot). Mirrors g.S.EawStore.tells (g.S.EawStore.view h.records.store) (g.S.EawStore.view c.abort.new.self.store)) c.self.view_is (c.in-Ok.ensures.does.mirrors);

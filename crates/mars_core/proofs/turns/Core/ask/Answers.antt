@@ -52,9 +52,9 @@ pub invariant_of-self : goal.invariant_of-self
 invariant_of-self g c =
     let i = c.self.inside in
     let same = nothing i.seats c.take.new.self c.args.caller (calls_in c.take.result) c.take.ensures.live (ap calls_in c.in_default.is) c.take.ensures.out.live in
-    kept_same g.S.EawStore.tells g.S.EawStore.opens g.K.KeyIndex.index (pages_of (g.S.EawStore.view i.records.store) i.records) (state_at g.K.KeyIndex.index (g.S.EawStore.view i.records.store) i.seats.names (table_of i.base) i.history (live_in i.seats) (offers_in i.seats) i.doubt) _
+    kept_same g.S.EawStore.tells g.S.EawStore.opens g.K.KeyIndex.index (pages_of (g.S.EawStore.view i.records.store) i.records) (state_at g.K.KeyIndex.index (g.S.EawStore.view i.records.store) i.seats.names (table_of i.base) i.history.items (live_in i.seats) (offers_in i.seats) i.doubt) _
     (length i.seats.places) (length c.take.new.self.places) i.base c.self.invariant c.take.ensures.out.count
-    (λ j. state_at g.K.KeyIndex.index (g.S.EawStore.view c.self.inside.records.store) (c.take.ensures.out.names j) (table_of c.self.inside.base) c.self.inside.history (same j) (c.take.ensures.out.offers j) c.self.inside.doubt)
+    (λ j. state_at g.K.KeyIndex.index (g.S.EawStore.view c.self.inside.records.store) (c.take.ensures.out.names j) (table_of c.self.inside.base) c.self.inside.history.items (same j) (c.take.ensures.out.offers j) c.self.inside.doubt)
 
 pub returns-in_default : goal.returns-in_default
 returns-in_default g c =
@@ -63,12 +63,12 @@ returns-in_default g c =
     record {
       steps = subst (λ (h : Held g.row.S.Denot). Steps g.S.EawStore.tells c.args.caller c.args.call.now (core_of g.S.EawStore.opens g.K.KeyIndex.index (g.S.EawStore.view h.records.store) h)
           (core_of g.S.EawStore.opens g.K.KeyIndex.index (g.S.EawStore.view c.self.inside.records.store)
-          (record { records = c.self.inside.records; base = c.self.inside.base; seats = c.take.new.self; history = c.self.inside.history; doubt = c.self.inside.doubt })) NoTransaction) c.self.view_is
+          (record { records = c.self.inside.records; base = c.self.inside.base; seats = c.take.new.self; history = c.self.inside.history.items; doubt = c.self.inside.doubt })) NoTransaction) c.self.view_is
           (absent_steps g.S.EawStore.tells g.S.EawStore.opens g.K.KeyIndex.index (pages_of (g.S.EawStore.view i.records.store) i.records)
-          (state_at g.K.KeyIndex.index (g.S.EawStore.view i.records.store) i.seats.names (table_of i.base) i.history (live_in i.seats) (offers_in i.seats) i.doubt) (record { indexed = refl; dead = refl }) (length i.seats.places) i.base c.self.invariant
+          (state_at g.K.KeyIndex.index (g.S.EawStore.view i.records.store) i.seats.names (table_of i.base) i.history.items (live_in i.seats) (offers_in i.seats) i.doubt) (record { indexed = refl; dead = refl }) (length i.seats.places) i.base c.self.invariant
           (subst (λ (h : Held g.row.S.Denot). IsAlive (g.S.EawStore.view h.records.store)) (sym c.self.view_is) c.requires.alive) c.args.caller c.args.call.now (sym c.take.ensures.live ∙ ap calls_in c.in_default.is) (subst (λ (h : Held g.row.S.Denot). offers_in h.seats c.args.caller ≡ unoffered) (sym c.self.view_is) c.requires.unoffered)
-          (is_absent_at (limits_of g.K.KeyIndex.index (g.S.EawStore.view i.records.store).shape) (state_at g.K.KeyIndex.index (g.S.EawStore.view i.records.store) i.seats.names (table_of i.base) i.history (live_in i.seats) (offers_in i.seats) i.doubt) c.args.caller c.args.asked c.args.call.now c.requires.said) _
-          (λ j. state_at g.K.KeyIndex.index (g.S.EawStore.view c.self.inside.records.store) (c.take.ensures.out.names j) (table_of c.self.inside.base) c.self.inside.history (same j) (c.take.ensures.out.offers j) c.self.inside.doubt));
+          (is_absent_at (limits_of g.K.KeyIndex.index (g.S.EawStore.view i.records.store).shape) (state_at g.K.KeyIndex.index (g.S.EawStore.view i.records.store) i.seats.names (table_of i.base) i.history.items (live_in i.seats) (offers_in i.seats) i.doubt) c.args.caller c.args.asked c.args.call.now c.requires.said) _
+          (λ j. state_at g.K.KeyIndex.index (g.S.EawStore.view c.self.inside.records.store) (c.take.ensures.out.names j) (table_of c.self.inside.base) c.self.inside.history.items (same j) (c.take.ensures.out.offers j) c.self.inside.doubt));
       sends = subst (λ (h : Held g.row.S.Denot). Mirrors g.S.EawStore.tells (g.S.EawStore.view h.records.store) (g.S.EawStore.view c.self.inside.records.store)) c.self.view_is (sends_none g.S.EawStore.tells (g.S.EawStore.view c.self.inside.records.store));
       not_busy = λ held. refl;
       tabled = λ granted. absurd (true≢false granted);
@@ -84,18 +84,18 @@ invariant_of-self-2 g c =
     let t = c.args.caller in
     let p = pages_of (V i.records.store) i.records in
     let q = pages_of (V c.answer-live.new.records.store) c.answer-live.new.records in
-    let s = state_at I (V i.records.store) i.seats.names (table_of i.base) i.history (live_in i.seats) (offers_in i.seats) i.doubt in
-    let new = state_at I (V c.answer-live.new.records.store) c.put.new.self.names (table_of i.base) i.history (live_in c.put.new.self) (offers_in c.put.new.self) i.doubt in
+    let s = state_at I (V i.records.store) i.seats.names (table_of i.base) i.history.items (live_in i.seats) (offers_in i.seats) i.doubt in
+    let new = state_at I (V c.answer-live.new.records.store) c.put.new.self.names (table_of i.base) i.history.items (live_in c.put.new.self) (offers_in c.put.new.self) i.doubt in
     let is = sym c.take.ensures.live ∙ ap calls_in c.in-Some.is in
     let un = (subst (λ (h : Held g.row.S.Denot). offers_in h.seats c.args.caller ≡ unoffered) (sym c.self.view_is) c.requires.unoffered) in
     let alive = subst (λ (h : Held g.row.S.Denot). IsAlive (g.S.EawStore.view h.records.store)) (sym c.self.view_is) c.requires.alive in
     let count = c.put.ensures.count ∙ c.take.ensures.out.count in
     elim c.answer-live.ensures.answered [
       | inl unmade ↦ subst (λ (r : Shown g.row.S.Denot). IsKept g.S.EawStore.tells g.S.EawStore.opens g.K.KeyIndex.index (pages_of (g.S.EawStore.view r.store) r) (length c.put.new.self.places) c.self.inside.base
-          (state_at g.K.KeyIndex.index (g.S.EawStore.view r.store) c.put.new.self.names (table_of c.self.inside.base) c.self.inside.history (live_in c.put.new.self) (offers_in c.put.new.self) c.self.inside.doubt)) (sym unmade.0)
+          (state_at g.K.KeyIndex.index (g.S.EawStore.view r.store) c.put.new.self.names (table_of c.self.inside.base) c.self.inside.history.items (live_in c.put.new.self) (offers_in c.put.new.self) c.self.inside.doubt)) (sym unmade.0)
           (kept_same T E I p s _ (length i.seats.places) (length c.put.new.self.places) i.base c.self.invariant count
           (let back = changed_back (live_in i.seats) t None (Some c.answer-live.result.0.calls) (live_in c.take.new.self) (live_in c.put.new.self) c.take.ensures.out.live c.put.ensures.live (is ∙ ap (λ (cs : Granted). Some cs) (sym unmade.1)) in
-          λ j. state_at g.K.KeyIndex.index (g.S.EawStore.view c.self.inside.records.store) ((c.put.ensures.names ∙ c.take.ensures.out.names) j) (table_of c.self.inside.base) c.self.inside.history (back j) ((c.put.ensures.offers ∙ c.take.ensures.out.offers) j) c.self.inside.doubt))
+          λ j. state_at g.K.KeyIndex.index (g.S.EawStore.view c.self.inside.records.store) ((c.put.ensures.names ∙ c.take.ensures.out.names) j) (table_of c.self.inside.base) c.self.inside.history.items (back j) ((c.put.ensures.offers ∙ c.take.ensures.out.offers) j) c.self.inside.doubt))
       | inr made ↦ made_keeps T E I p s (record { indexed = refl; dead = refl }) (length i.seats.places) i.base c.self.invariant alive
           (subst (λ (h : Held g.row.S.Denot). IsShown g.S.EawStore.tells g.K.KeyIndex.index (pages_of (g.S.EawStore.view h.records.store) h.records)) (sym c.self.view_is) c.requires.shown)
           t c.args.call.now (is_of_table c.args.asked c.args.call.now c.requires.said) c.in-Some.live.calls is un c.take.new.self None c.take.ensures.out.live c.take.ensures.out.names g.met.S.EawStore.one_data (index_laws g) q (laws_at g i.records.store) (laws_at g c.answer-live.new.records.store)
@@ -106,7 +106,7 @@ invariant_of-self-2 g c =
 pub answer-live-requires-clause-locked : goal.answer-live-requires-clause-locked
 answer-live-requires-clause-locked g c held there =
     let i = c.self.inside in
-    free_of (state_at g.K.KeyIndex.index (g.S.EawStore.view i.records.store) i.seats.names (table_of i.base) i.history (live_in i.seats) (offers_in i.seats) i.doubt) c.take.new.self c.args.caller c.args.call.now c.in-Some.live.calls
+    free_of (state_at g.K.KeyIndex.index (g.S.EawStore.view i.records.store) i.seats.names (table_of i.base) i.history.items (live_in i.seats) (offers_in i.seats) i.doubt) c.take.new.self c.args.caller c.args.call.now c.in-Some.live.calls
     (subst (λ (h : Held g.row.S.Denot). IsAlive (g.S.EawStore.view h.records.store)) (sym c.self.view_is) c.requires.alive) (sym c.take.ensures.live ∙ ap calls_in c.in-Some.is) (subst (λ (h : Held g.row.S.Denot). offers_in h.seats c.args.caller ≡ unoffered) (sym c.self.view_is) c.requires.unoffered) c.take.ensures.out.live c.take.ensures.out.names
     (subst (λ (h : Held g.row.S.Denot). IsLocked (core_of g.S.EawStore.opens g.K.KeyIndex.index (g.S.EawStore.view h.records.store) h).state c.args.caller c.args.call.now) (sym c.self.view_is) (c.requires.locked held)) there
 
@@ -120,8 +120,8 @@ returns g c =
     let t = c.args.caller in
     let p = pages_of (V i.records.store) i.records in
     let q = pages_of (V c.answer-live.new.records.store) c.answer-live.new.records in
-    let s = state_at I (V i.records.store) i.seats.names (table_of i.base) i.history (live_in i.seats) (offers_in i.seats) i.doubt in
-    let new = state_at I (V c.answer-live.new.records.store) c.put.new.self.names (table_of i.base) i.history (live_in c.put.new.self) (offers_in c.put.new.self) i.doubt in
+    let s = state_at I (V i.records.store) i.seats.names (table_of i.base) i.history.items (live_in i.seats) (offers_in i.seats) i.doubt in
+    let new = state_at I (V c.answer-live.new.records.store) c.put.new.self.names (table_of i.base) i.history.items (live_in c.put.new.self) (offers_in c.put.new.self) i.doubt in
     let is = sym c.take.ensures.live ∙ ap calls_in c.in-Some.is in
     let un = (subst (λ (h : Held g.row.S.Denot). offers_in h.seats c.args.caller ≡ unoffered) (sym c.self.view_is) c.requires.unoffered) in
     let alive = subst (λ (h : Held g.row.S.Denot). IsAlive (g.S.EawStore.view h.records.store)) (sym c.self.view_is) c.requires.alive in
@@ -130,17 +130,17 @@ returns g c =
     record {
       steps = subst (λ (h : Held g.row.S.Denot). Steps g.S.EawStore.tells c.args.caller c.args.call.now (core_of g.S.EawStore.opens g.K.KeyIndex.index (g.S.EawStore.view h.records.store) h)
           (core_of g.S.EawStore.opens g.K.KeyIndex.index (g.S.EawStore.view c.answer-live.new.records.store)
-          (record { records = c.answer-live.new.records; base = c.self.inside.base; seats = c.put.new.self; history = c.self.inside.history; doubt = c.self.inside.doubt })) c.answer-live.result.1) c.self.view_is
+          (record { records = c.answer-live.new.records; base = c.self.inside.base; seats = c.put.new.self; history = c.self.inside.history.items; doubt = c.self.inside.doubt })) c.answer-live.result.1) c.self.view_is
           (elim c.answer-live.ensures.answered [
             | inl unmade ↦ subst (λ (r : Shown g.row.S.Denot). Steps g.S.EawStore.tells c.args.caller c.args.call.now
                 (core_of g.S.EawStore.opens g.K.KeyIndex.index (g.S.EawStore.view c.self.inside.records.store)
-                (record { records = c.self.inside.records; base = c.self.inside.base; seats = c.self.inside.seats; history = c.self.inside.history; doubt = c.self.inside.doubt }))
+                (record { records = c.self.inside.records; base = c.self.inside.base; seats = c.self.inside.seats; history = c.self.inside.history.items; doubt = c.self.inside.doubt }))
                 (core_of g.S.EawStore.opens g.K.KeyIndex.index (g.S.EawStore.view r.store)
-                (record { records = r; base = c.self.inside.base; seats = c.put.new.self; history = c.self.inside.history; doubt = c.self.inside.doubt })) c.answer-live.result.1) (sym unmade.0)
+                (record { records = r; base = c.self.inside.base; seats = c.put.new.self; history = c.self.inside.history.items; doubt = c.self.inside.doubt })) c.answer-live.result.1) (sym unmade.0)
                 (unmade_steps T E I p s (record { indexed = refl; dead = refl }) (length i.seats.places) i.base c.self.invariant alive shown t c.args.call.now (is_of_table c.args.asked c.args.call.now c.requires.said) c.in-Some.live.calls is un
                 c.take.new.self None c.take.ensures.out.live c.take.ensures.out.names _
                 (let back = changed_back (live_in i.seats) t None (Some c.answer-live.result.0.calls) (live_in c.take.new.self) (live_in c.put.new.self) c.take.ensures.out.live c.put.ensures.live (is ∙ ap (λ (cs : Granted). Some cs) (sym unmade.1)) in
-                λ j. state_at g.K.KeyIndex.index (g.S.EawStore.view c.self.inside.records.store) ((c.put.ensures.names ∙ c.take.ensures.out.names) j) (table_of c.self.inside.base) c.self.inside.history (back j) ((c.put.ensures.offers ∙ c.take.ensures.out.offers) j) c.self.inside.doubt)
+                λ j. state_at g.K.KeyIndex.index (g.S.EawStore.view c.self.inside.records.store) ((c.put.ensures.names ∙ c.take.ensures.out.names) j) (table_of c.self.inside.base) c.self.inside.history.items (back j) ((c.put.ensures.offers ∙ c.take.ensures.out.offers) j) c.self.inside.doubt)
                 c.answer-live.result.1 unmade.2)
             | inr made ↦ made_steps T E I p s (record { indexed = refl; dead = refl }) (length i.seats.places) i.base c.self.invariant alive shown
                 t c.args.call.now (is_of_table c.args.asked c.args.call.now c.requires.said) c.in-Some.live.calls is un c.take.new.self None c.take.ensures.out.live c.take.ensures.out.names g.met.S.EawStore.one_data (index_laws g) q (laws_at g i.records.store) (laws_at g c.answer-live.new.records.store)

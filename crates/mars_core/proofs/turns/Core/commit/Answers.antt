@@ -2,10 +2,8 @@ use Rattle.mars_core.proofs.GivingUp.{sends_none}
 use Rattle.eaw_face.specs.Mirroring.{Mirrors}
 use Rattle.caller_steps.specs.Fate.{is_busy}
 use Rattle.mars_core.proofs.Answered.{fault_plain}
-use Rattle.std.proofs.Common.{◌≡◌, ◌<◌, ℕ, ◌+◌, List, Option, Some, None, nat_eq, length, Result, Err, ap, subst, sym, ◌∙◌, refl}
-use Rattle.std.specs.Prelude.{IsNone}
+use Rattle.std.proofs.Common.{◌≡◌, ◌<◌, ℕ, ◌+◌, List, [], ◌∷◌, ◌++◌, Option, Some, None, nat_eq, length, Result, Err, ap, subst, sym, ◌∙◌, refl}
 use Rattle.std.specs.Map.{update}
-use Rattle.std.specs.Option.{option_to_list}
 use Rattle.eaw_face.specs.Causes.{IsAlive}
 use Rattle.page_store.specs.Shown.{pages_of}
 use Rattle.history.specs.Rows.{table_of}
@@ -26,7 +24,7 @@ use Rattle.mars_core.specs.Held.{Held, core_of, state_at}
 use Rattle.mars_core.specs.Seats.{Seats, live_in, offers_in, calls_in}
 use Rattle.mars_core.proofs.Prefixes.{StoreLaws}
 use Rattle.mars_core.proofs.Staying.{update_same, changed_back, kept_same, absent_steps}
-use Rattle.mars_core.proofs.Finishing.{last_is, commit_fails, committed_keeps, committed_steps, doubted_keeps, doubted_steps, unkept}
+use Rattle.mars_core.proofs.Finishing.{commit_fails, committed_keeps, committed_steps, doubted_keeps, doubted_steps, unkept}
 use Rattle.mars_core.proofs.turns.Core.commit.Given.{Over}
 use Rattle.mars_core.proofs.turns.Core.commit.Goals as goal
 
@@ -39,62 +37,62 @@ laws_at g store = record {
 }
 
 pub invariant_of-self-in-Err : goal.invariant_of-self-in-Err
-invariant_of-self-in-Err g c = kept_same g.S.EawStore.tells g.S.EawStore.opens g.K.KeyIndex.index (pages_of (g.S.EawStore.view c.self.inside.records.store) c.self.inside.records) (state_at g.K.KeyIndex.index (g.S.EawStore.view c.self.inside.records.store) c.self.inside.seats.names (table_of c.self.inside.base) c.self.inside.history (live_in c.self.inside.seats) (offers_in c.self.inside.seats) c.self.inside.doubt) _
+invariant_of-self-in-Err g c = kept_same g.S.EawStore.tells g.S.EawStore.opens g.K.KeyIndex.index (pages_of (g.S.EawStore.view c.self.inside.records.store) c.self.inside.records) (state_at g.K.KeyIndex.index (g.S.EawStore.view c.self.inside.records.store) c.self.inside.seats.names (table_of c.self.inside.base) c.self.inside.history.items (live_in c.self.inside.seats) (offers_in c.self.inside.seats) c.self.inside.doubt) _
     (length c.self.inside.seats.places) (length c.put.new.self.places) c.self.inside.base c.self.invariant (c.put.ensures.count ∙ c.take.ensures.out.count) (let back = changed_back (live_in c.self.inside.seats) c.args.caller None (Some c.fitted-calls.result) (live_in c.take.new.self) (live_in c.put.new.self) c.take.ensures.out.live
-    (c.put.ensures.live ∙ ap (λ (cs : Granted). update nat_eq (live_in c.take.new.self) c.args.caller (Some cs)) (ap (λ (d : Done). d.calls) c.in-Err.ensures.given_back)) (sym c.take.ensures.live ∙ ap calls_in c.in-Some.is ∙ ap (λ (cs : Granted). (let o : Option Granted = Some cs in o)) (sym c.fitted-calls.ensures)) in
-    λ j. state_at g.K.KeyIndex.index (g.S.EawStore.view c.self.inside.records.store) ((c.put.ensures.names ∙ c.take.ensures.out.names) j) (table_of c.self.inside.base) (c.in-Err.ensures.err j) (back j) ((c.put.ensures.offers ∙ c.take.ensures.out.offers) j) c.self.inside.doubt)
+    c.put.ensures.live (sym c.take.ensures.live ∙ ap calls_in c.in-Some.is ∙ ap (λ (cs : Granted). (let o : Option Granted = Some cs in o)) (sym c.fitted-calls.ensures)) in
+    λ j. state_at g.K.KeyIndex.index (g.S.EawStore.view c.self.inside.records.store) ((c.put.ensures.names ∙ c.take.ensures.out.names) j) (table_of c.self.inside.base) (c.reserve.ensures.items j) (back j) ((c.put.ensures.offers ∙ c.take.ensures.out.offers) j) c.self.inside.doubt)
 
 pub returns-in-Err : goal.returns-in-Err
 returns-in-Err g c = record {
   steps = subst (λ (h : Held g.row.S.Denot). Steps g.S.EawStore.tells c.args.caller Commit (core_of g.S.EawStore.opens g.K.KeyIndex.index (g.S.EawStore.view h.records.store) h)
       (core_of g.S.EawStore.opens g.K.KeyIndex.index (g.S.EawStore.view c.self.inside.records.store)
-      (record { records = c.self.inside.records; base = c.self.inside.base; seats = c.put.new.self; history = c.push.new.self; doubt = c.self.inside.doubt })) NoMemory) c.self.view_is
-      (unkept g.S.EawStore.tells g.S.EawStore.opens g.K.KeyIndex.index (pages_of (g.S.EawStore.view c.self.inside.records.store) c.self.inside.records) (state_at g.K.KeyIndex.index (g.S.EawStore.view c.self.inside.records.store) c.self.inside.seats.names (table_of c.self.inside.base) c.self.inside.history (live_in c.self.inside.seats) (offers_in c.self.inside.seats) c.self.inside.doubt) _ (record { indexed = refl; dead = refl }) (length c.self.inside.seats.places) c.self.inside.base c.self.invariant (subst (λ (h : Held g.row.S.Denot). IsAlive (g.S.EawStore.view h.records.store)) (sym c.self.view_is) c.requires.alive) c.args.caller c.fitted-calls.result (sym c.take.ensures.live ∙ ap calls_in c.in-Some.is ∙ ap (λ (cs : Granted). (let o : Option Granted = Some cs in o)) (sym c.fitted-calls.ensures)) (subst (λ (h : Held g.row.S.Denot). offers_in h.seats c.args.caller ≡ unoffered) (sym c.self.view_is) c.requires.unoffered) (let back = changed_back (live_in c.self.inside.seats) c.args.caller None (Some c.fitted-calls.result) (live_in c.take.new.self) (live_in c.put.new.self) c.take.ensures.out.live
-      (c.put.ensures.live ∙ ap (λ (cs : Granted). update nat_eq (live_in c.take.new.self) c.args.caller (Some cs)) (ap (λ (d : Done). d.calls) c.in-Err.ensures.given_back)) (sym c.take.ensures.live ∙ ap calls_in c.in-Some.is ∙ ap (λ (cs : Granted). (let o : Option Granted = Some cs in o)) (sym c.fitted-calls.ensures)) in
-      λ j. state_at g.K.KeyIndex.index (g.S.EawStore.view c.self.inside.records.store) ((c.put.ensures.names ∙ c.take.ensures.out.names) j) (table_of c.self.inside.base) (c.in-Err.ensures.err j) (back j) ((c.put.ensures.offers ∙ c.take.ensures.out.offers) j) c.self.inside.doubt));
+      (record { records = c.self.inside.records; base = c.self.inside.base; seats = c.put.new.self; history = c.reserve.new.self.items; doubt = c.self.inside.doubt })) NoMemory) c.self.view_is
+      (unkept g.S.EawStore.tells g.S.EawStore.opens g.K.KeyIndex.index (pages_of (g.S.EawStore.view c.self.inside.records.store) c.self.inside.records) (state_at g.K.KeyIndex.index (g.S.EawStore.view c.self.inside.records.store) c.self.inside.seats.names (table_of c.self.inside.base) c.self.inside.history.items (live_in c.self.inside.seats) (offers_in c.self.inside.seats) c.self.inside.doubt) _ (record { indexed = refl; dead = refl }) (length c.self.inside.seats.places) c.self.inside.base c.self.invariant (subst (λ (h : Held g.row.S.Denot). IsAlive (g.S.EawStore.view h.records.store)) (sym c.self.view_is) c.requires.alive) c.args.caller c.fitted-calls.result (sym c.take.ensures.live ∙ ap calls_in c.in-Some.is ∙ ap (λ (cs : Granted). (let o : Option Granted = Some cs in o)) (sym c.fitted-calls.ensures)) (subst (λ (h : Held g.row.S.Denot). offers_in h.seats c.args.caller ≡ unoffered) (sym c.self.view_is) c.requires.unoffered) (let back = changed_back (live_in c.self.inside.seats) c.args.caller None (Some c.fitted-calls.result) (live_in c.take.new.self) (live_in c.put.new.self) c.take.ensures.out.live
+      c.put.ensures.live (sym c.take.ensures.live ∙ ap calls_in c.in-Some.is ∙ ap (λ (cs : Granted). (let o : Option Granted = Some cs in o)) (sym c.fitted-calls.ensures)) in
+      λ j. state_at g.K.KeyIndex.index (g.S.EawStore.view c.self.inside.records.store) ((c.put.ensures.names ∙ c.take.ensures.out.names) j) (table_of c.self.inside.base) (c.reserve.ensures.items j) (back j) ((c.put.ensures.offers ∙ c.take.ensures.out.offers) j) c.self.inside.doubt));
   sends = subst (λ (h : Held g.row.S.Denot). Mirrors g.S.EawStore.tells (g.S.EawStore.view h.records.store) (g.S.EawStore.view c.self.inside.records.store)) c.self.view_is (sends_none g.S.EawStore.tells (g.S.EawStore.view c.self.inside.records.store));
   not_busy = refl;
 }
 
 pub invariant_of-self-in-Ok-commit : goal.invariant_of-self-in-Ok-commit
 invariant_of-self-in-Ok-commit g c = committed_keeps g.S.EawStore.tells g.S.EawStore.opens g.K.KeyIndex.index g.met.S.EawStore.one_data (pages_of (g.S.EawStore.view c.self.inside.records.store) c.self.inside.records) (pages_of (g.S.EawStore.view c.commit.new.self.store) c.commit.new.self)
-    (laws_at g c.self.inside.records.store) (laws_at g c.commit.new.self.store) (state_at g.K.KeyIndex.index (g.S.EawStore.view c.self.inside.records.store) c.self.inside.seats.names (table_of c.self.inside.base) c.self.inside.history (live_in c.self.inside.seats) (offers_in c.self.inside.seats) c.self.inside.doubt) (state_at g.K.KeyIndex.index (g.S.EawStore.view c.commit.new.self.store) c.take.new.self.names (table_of c.self.inside.base) c.push.new.self (live_in c.take.new.self) (offers_in c.take.new.self) c.self.inside.doubt) (record { indexed = refl; dead = refl }) (record { indexed = refl; dead = refl })
+    (laws_at g c.self.inside.records.store) (laws_at g c.commit.new.self.store) (state_at g.K.KeyIndex.index (g.S.EawStore.view c.self.inside.records.store) c.self.inside.seats.names (table_of c.self.inside.base) c.self.inside.history.items (live_in c.self.inside.seats) (offers_in c.self.inside.seats) c.self.inside.doubt) (state_at g.K.KeyIndex.index (g.S.EawStore.view c.commit.new.self.store) c.take.new.self.names (table_of c.self.inside.base) c.push_reserved.new.self.items (live_in c.take.new.self) (offers_in c.take.new.self) c.self.inside.doubt) (record { indexed = refl; dead = refl }) (record { indexed = refl; dead = refl })
     c.take.ensures.out.names c.take.ensures.out.offers refl (length c.self.inside.seats.places) (length c.take.new.self.places) c.take.ensures.out.count c.self.inside.base c.self.invariant
-    (subst (λ (h : Held g.row.S.Denot). IsAlive (g.S.EawStore.view h.records.store)) (sym c.self.view_is) c.requires.alive) c.args.caller c.fitted-calls.result (sym c.take.ensures.live ∙ ap calls_in c.in-Some.is ∙ ap (λ (cs : Granted). (let o : Option Granted = Some cs in o)) (sym c.fitted-calls.ensures)) (subst (λ (h : Held g.row.S.Denot). offers_in h.seats c.args.caller ≡ unoffered) (sym c.self.view_is) c.requires.unoffered) (record { caller = c.args.caller; calls = c.fitted-calls.result; at = length c.as_slice.result.now + 1; last = length c.as_slice.result.now + 1 }) (λ j. record { caller = c.args.caller; calls = c.fitted-calls.result; at = length (c.as_slice.ensures j) + 1; last = length (c.as_slice.ensures j) + 1 }) 0 (c.in-Ok-commit.ensures.does 0) c.take.ensures.out.live c.in-Ok.ensures.ok refl c.in-Ok-commit.ensures.free
+    (subst (λ (h : Held g.row.S.Denot). IsAlive (g.S.EawStore.view h.records.store)) (sym c.self.view_is) c.requires.alive) c.args.caller c.fitted-calls.result (sym c.take.ensures.live ∙ ap calls_in c.in-Some.is ∙ ap (λ (cs : Granted). (let o : Option Granted = Some cs in o)) (sym c.fitted-calls.ensures)) (subst (λ (h : Held g.row.S.Denot). offers_in h.seats c.args.caller ≡ unoffered) (sym c.self.view_is) c.requires.unoffered) (record { caller = c.args.caller; calls = c.fitted-calls.result; at = c.count-at.result + 1; last = c.count-at.result + 1 }) (λ j. record { caller = c.args.caller; calls = c.fitted-calls.result; at = c.count-at.ensures.count j + 1; last = c.count-at.ensures.count j + 1 }) 0 (c.in-Ok-commit.ensures.does 0) c.take.ensures.out.live (c.push_reserved.ensures.items ∙ ap (λ (hs : List Done). hs ++ (record { caller = c.args.caller; calls = c.fitted-calls.result; at = c.count-at.result + 1; last = c.count-at.result + 1 }) ∷ []) c.reserve.ensures.items) refl c.in-Ok-commit.ensures.free
 
 pub returns-in-Ok-commit : goal.returns-in-Ok-commit
 returns-in-Ok-commit g c = record {
   steps = subst (λ (h : Held g.row.S.Denot). Steps g.S.EawStore.tells c.args.caller Commit (core_of g.S.EawStore.opens g.K.KeyIndex.index (g.S.EawStore.view h.records.store) h)
       (core_of g.S.EawStore.opens g.K.KeyIndex.index (g.S.EawStore.view c.commit.new.self.store)
-      (record { records = c.commit.new.self; base = c.self.inside.base; seats = c.take.new.self; history = c.push.new.self; doubt = c.self.inside.doubt })) (Committed (length c.as_slice.result.now + 1))) c.self.view_is
+      (record { records = c.commit.new.self; base = c.self.inside.base; seats = c.take.new.self; history = c.push_reserved.new.self.items; doubt = c.self.inside.doubt })) (Committed (c.count-at.result + 1))) c.self.view_is
       (committed_steps g.S.EawStore.tells g.S.EawStore.opens g.K.KeyIndex.index g.met.S.EawStore.one_data (pages_of (g.S.EawStore.view c.self.inside.records.store) c.self.inside.records) (pages_of (g.S.EawStore.view c.commit.new.self.store) c.commit.new.self)
-      (laws_at g c.self.inside.records.store) (laws_at g c.commit.new.self.store) (state_at g.K.KeyIndex.index (g.S.EawStore.view c.self.inside.records.store) c.self.inside.seats.names (table_of c.self.inside.base) c.self.inside.history (live_in c.self.inside.seats) (offers_in c.self.inside.seats) c.self.inside.doubt) (state_at g.K.KeyIndex.index (g.S.EawStore.view c.commit.new.self.store) c.take.new.self.names (table_of c.self.inside.base) c.push.new.self (live_in c.take.new.self) (offers_in c.take.new.self) c.self.inside.doubt) (record { indexed = refl; dead = refl }) (record { indexed = refl; dead = refl })
+      (laws_at g c.self.inside.records.store) (laws_at g c.commit.new.self.store) (state_at g.K.KeyIndex.index (g.S.EawStore.view c.self.inside.records.store) c.self.inside.seats.names (table_of c.self.inside.base) c.self.inside.history.items (live_in c.self.inside.seats) (offers_in c.self.inside.seats) c.self.inside.doubt) (state_at g.K.KeyIndex.index (g.S.EawStore.view c.commit.new.self.store) c.take.new.self.names (table_of c.self.inside.base) c.push_reserved.new.self.items (live_in c.take.new.self) (offers_in c.take.new.self) c.self.inside.doubt) (record { indexed = refl; dead = refl }) (record { indexed = refl; dead = refl })
       c.take.ensures.out.names c.take.ensures.out.offers refl (length c.self.inside.seats.places) (length c.take.new.self.places) c.take.ensures.out.count c.self.inside.base c.self.invariant
-      (subst (λ (h : Held g.row.S.Denot). IsAlive (g.S.EawStore.view h.records.store)) (sym c.self.view_is) c.requires.alive) c.args.caller c.fitted-calls.result (sym c.take.ensures.live ∙ ap calls_in c.in-Some.is ∙ ap (λ (cs : Granted). (let o : Option Granted = Some cs in o)) (sym c.fitted-calls.ensures)) (subst (λ (h : Held g.row.S.Denot). offers_in h.seats c.args.caller ≡ unoffered) (sym c.self.view_is) c.requires.unoffered) (record { caller = c.args.caller; calls = c.fitted-calls.result; at = length c.as_slice.result.now + 1; last = length c.as_slice.result.now + 1 }) (λ j. record { caller = c.args.caller; calls = c.fitted-calls.result; at = length (c.as_slice.ensures j) + 1; last = length (c.as_slice.ensures j) + 1 }) 0 (c.in-Ok-commit.ensures.does 0) c.take.ensures.out.live c.in-Ok.ensures.ok refl (length c.as_slice.result.now + 1) (ap (λ (hs : List Done). length hs + 1) c.as_slice.ensures));
+      (subst (λ (h : Held g.row.S.Denot). IsAlive (g.S.EawStore.view h.records.store)) (sym c.self.view_is) c.requires.alive) c.args.caller c.fitted-calls.result (sym c.take.ensures.live ∙ ap calls_in c.in-Some.is ∙ ap (λ (cs : Granted). (let o : Option Granted = Some cs in o)) (sym c.fitted-calls.ensures)) (subst (λ (h : Held g.row.S.Denot). offers_in h.seats c.args.caller ≡ unoffered) (sym c.self.view_is) c.requires.unoffered) (record { caller = c.args.caller; calls = c.fitted-calls.result; at = c.count-at.result + 1; last = c.count-at.result + 1 }) (λ j. record { caller = c.args.caller; calls = c.fitted-calls.result; at = c.count-at.ensures.count j + 1; last = c.count-at.ensures.count j + 1 }) 0 (c.in-Ok-commit.ensures.does 0) c.take.ensures.out.live (c.push_reserved.ensures.items ∙ ap (λ (hs : List Done). hs ++ (record { caller = c.args.caller; calls = c.fitted-calls.result; at = c.count-at.result + 1; last = c.count-at.result + 1 }) ∷ []) c.reserve.ensures.items) refl (c.count-at.result + 1) (ap (λ (n : ℕ). n + 1) c.count-at.ensures.count));
   sends = subst (λ (h : Held g.row.S.Denot). Mirrors g.S.EawStore.tells (g.S.EawStore.view h.records.store) (g.S.EawStore.view c.commit.new.self.store)) c.self.view_is ((c.in-Ok-commit.ensures.does 0).mirrors);
   not_busy = refl;
 }
 
 pub invariant_of-self-in-Err-commit : goal.invariant_of-self-in-Err-commit
 invariant_of-self-in-Err-commit g c = doubted_keeps g.S.EawStore.tells g.S.EawStore.opens g.K.KeyIndex.index g.met.S.EawStore.one_data (pages_of (g.S.EawStore.view c.self.inside.records.store) c.self.inside.records) (pages_of (g.S.EawStore.view c.commit.new.self.store) c.commit.new.self)
-    (laws_at g c.self.inside.records.store) (laws_at g c.commit.new.self.store) (state_at g.K.KeyIndex.index (g.S.EawStore.view c.self.inside.records.store) c.self.inside.seats.names (table_of c.self.inside.base) c.self.inside.history (live_in c.self.inside.seats) (offers_in c.self.inside.seats) c.self.inside.doubt) (state_at g.K.KeyIndex.index (g.S.EawStore.view c.commit.new.self.store) c.take.new.self.names (table_of c.self.inside.base) c.pop.new.self (live_in c.take.new.self) (offers_in c.take.new.self) c.holding.result) (record { indexed = refl; dead = refl }) (record { indexed = refl; dead = refl })
+    (laws_at g c.self.inside.records.store) (laws_at g c.commit.new.self.store) (state_at g.K.KeyIndex.index (g.S.EawStore.view c.self.inside.records.store) c.self.inside.seats.names (table_of c.self.inside.base) c.self.inside.history.items (live_in c.self.inside.seats) (offers_in c.self.inside.seats) c.self.inside.doubt) (state_at g.K.KeyIndex.index (g.S.EawStore.view c.commit.new.self.store) c.take.new.self.names (table_of c.self.inside.base) c.reserve.new.self.items (live_in c.take.new.self) (offers_in c.take.new.self) c.single.result) (record { indexed = refl; dead = refl }) (record { indexed = refl; dead = refl })
     c.take.ensures.out.names c.take.ensures.out.offers refl (length c.self.inside.seats.places) (length c.take.new.self.places) c.take.ensures.out.count c.self.inside.base c.self.invariant
-    (subst (λ (h : Held g.row.S.Denot). IsAlive (g.S.EawStore.view h.records.store)) (sym c.self.view_is) c.requires.alive) c.args.caller c.fitted-calls.result (sym c.take.ensures.live ∙ ap calls_in c.in-Some.is ∙ ap (λ (cs : Granted). (let o : Option Granted = Some cs in o)) (sym c.fitted-calls.ensures)) (subst (λ (h : Held g.row.S.Denot). offers_in h.seats c.args.caller ≡ unoffered) (sym c.self.view_is) c.requires.unoffered) (record { caller = c.args.caller; calls = c.fitted-calls.result; at = length c.as_slice.result.now + 1; last = length c.as_slice.result.now + 1 }) (λ j. record { caller = c.args.caller; calls = c.fitted-calls.result; at = length (c.as_slice.ensures j) + 1; last = length (c.as_slice.ensures j) + 1 }) (subst (λ (f : TableFault). Does g.S.EawStore.tells (g.S.EawStore.opens (g.S.EawStore.view c.self.inside.records.store).shape) g.K.KeyIndex.index 0 c.args.caller Commit
-    (pages_of (g.S.EawStore.view c.self.inside.records.store) c.self.inside.records) (pages_of (g.S.EawStore.view c.commit.new.self.store) c.commit.new.self) (Err f)) (commit_fails g.S.EawStore.tells g.K.KeyIndex.index (pages_of (g.S.EawStore.view c.self.inside.records.store) c.self.inside.records) c.args.caller (subst (λ (h : Held g.row.S.Denot). IsAlive (g.S.EawStore.view h.records.store)) (sym c.self.view_is) c.requires.alive) c.in-Err-commit.fault (c.in-Err-commit.ensures.does 0).cause) (c.in-Err-commit.ensures.does 0)) c.take.ensures.out.live (sym (last_is c.self.inside.history c.pop.new.self (record { caller = c.args.caller; calls = c.fitted-calls.result; at = length c.as_slice.result.now + 1; last = length c.as_slice.result.now + 1 }) c.pop.result (sym c.in-Ok.ensures.ok ∙ c.pop.ensures.last) (λ none. sym c.in-Ok.ensures.ok ∙ c.pop.ensures.empty.0 (subst (λ (o : Option Done). IsNone o) (sym none) refl))).0) (c.holding.ensures ∙ ap option_to_list (last_is c.self.inside.history c.pop.new.self (record { caller = c.args.caller; calls = c.fitted-calls.result; at = length c.as_slice.result.now + 1; last = length c.as_slice.result.now + 1 }) c.pop.result (sym c.in-Ok.ensures.ok ∙ c.pop.ensures.last) (λ none. sym c.in-Ok.ensures.ok ∙ c.pop.ensures.empty.0 (subst (λ (o : Option Done). IsNone o) (sym none) refl))).1) (λ told. c.commit.ensures.due told (subst (λ (h : Held g.row.S.Denot). IsAlive (g.S.EawStore.view h.records.store)) (sym c.self.view_is) c.requires.alive) (c.in-Err-commit.is ∙ ap (λ (f : TableFault). (let r : Result (Unit {0}) TableFault = Err f in r)) (commit_fails g.S.EawStore.tells g.K.KeyIndex.index (pages_of (g.S.EawStore.view c.self.inside.records.store) c.self.inside.records) c.args.caller (subst (λ (h : Held g.row.S.Denot). IsAlive (g.S.EawStore.view h.records.store)) (sym c.self.view_is) c.requires.alive) c.in-Err-commit.fault (c.in-Err-commit.ensures.does 0).cause)))
+    (subst (λ (h : Held g.row.S.Denot). IsAlive (g.S.EawStore.view h.records.store)) (sym c.self.view_is) c.requires.alive) c.args.caller c.fitted-calls.result (sym c.take.ensures.live ∙ ap calls_in c.in-Some.is ∙ ap (λ (cs : Granted). (let o : Option Granted = Some cs in o)) (sym c.fitted-calls.ensures)) (subst (λ (h : Held g.row.S.Denot). offers_in h.seats c.args.caller ≡ unoffered) (sym c.self.view_is) c.requires.unoffered) (record { caller = c.args.caller; calls = c.fitted-calls.result; at = c.count-at.result + 1; last = c.count-at.result + 1 }) (λ j. record { caller = c.args.caller; calls = c.fitted-calls.result; at = c.count-at.ensures.count j + 1; last = c.count-at.ensures.count j + 1 }) (subst (λ (f : TableFault). Does g.S.EawStore.tells (g.S.EawStore.opens (g.S.EawStore.view c.self.inside.records.store).shape) g.K.KeyIndex.index 0 c.args.caller Commit
+    (pages_of (g.S.EawStore.view c.self.inside.records.store) c.self.inside.records) (pages_of (g.S.EawStore.view c.commit.new.self.store) c.commit.new.self) (Err f)) (commit_fails g.S.EawStore.tells g.K.KeyIndex.index (pages_of (g.S.EawStore.view c.self.inside.records.store) c.self.inside.records) c.args.caller (subst (λ (h : Held g.row.S.Denot). IsAlive (g.S.EawStore.view h.records.store)) (sym c.self.view_is) c.requires.alive) c.in-Err-commit.fault (c.in-Err-commit.ensures.does 0).cause) (c.in-Err-commit.ensures.does 0)) c.take.ensures.out.live c.reserve.ensures.items c.single.ensures (λ told. c.commit.ensures.due told (subst (λ (h : Held g.row.S.Denot). IsAlive (g.S.EawStore.view h.records.store)) (sym c.self.view_is) c.requires.alive) (c.in-Err-commit.is ∙ ap (λ (f : TableFault). (let r : Result (Unit {0}) TableFault = Err f in r)) (commit_fails g.S.EawStore.tells g.K.KeyIndex.index (pages_of (g.S.EawStore.view c.self.inside.records.store) c.self.inside.records) c.args.caller (subst (λ (h : Held g.row.S.Denot). IsAlive (g.S.EawStore.view h.records.store)) (sym c.self.view_is) c.requires.alive) c.in-Err-commit.fault (c.in-Err-commit.ensures.does 0).cause)))
 
 pub returns-in-Err-commit : goal.returns-in-Err-commit
 returns-in-Err-commit g c = record {
   steps = subst (λ (r : Reply). Steps g.S.EawStore.tells c.args.caller Commit (core_of g.S.EawStore.opens g.K.KeyIndex.index (g.S.EawStore.view c.args.self.now.records.store) c.args.self.now)
       (core_of g.S.EawStore.opens g.K.KeyIndex.index (g.S.EawStore.view c.commit.new.self.store)
-      (record { records = c.commit.new.self; base = c.self.inside.base; seats = c.take.new.self; history = c.pop.new.self; doubt = c.holding.result })) r) (sym (c.from.ensures ∙ ap reply_to (commit_fails g.S.EawStore.tells g.K.KeyIndex.index (pages_of (g.S.EawStore.view c.self.inside.records.store) c.self.inside.records) c.args.caller (subst (λ (h : Held g.row.S.Denot). IsAlive (g.S.EawStore.view h.records.store)) (sym c.self.view_is) c.requires.alive) c.in-Err-commit.fault (c.in-Err-commit.ensures.does 0).cause)))
+      (record { records = c.commit.new.self; base = c.self.inside.base; seats = c.take.new.self; history = c.reserve.new.self.items; doubt = c.single.result })) r) (sym (c.from.ensures ∙ ap reply_to (commit_fails g.S.EawStore.tells g.K.KeyIndex.index (pages_of (g.S.EawStore.view c.self.inside.records.store) c.self.inside.records) c.args.caller (subst (λ (h : Held g.row.S.Denot). IsAlive (g.S.EawStore.view h.records.store)) (sym c.self.view_is) c.requires.alive) c.in-Err-commit.fault (c.in-Err-commit.ensures.does 0).cause)))
       (subst (λ (h : Held g.row.S.Denot). Steps g.S.EawStore.tells c.args.caller Commit (core_of g.S.EawStore.opens g.K.KeyIndex.index (g.S.EawStore.view h.records.store) h)
       (core_of g.S.EawStore.opens g.K.KeyIndex.index (g.S.EawStore.view c.commit.new.self.store)
-      (record { records = c.commit.new.self; base = c.self.inside.base; seats = c.take.new.self; history = c.pop.new.self; doubt = c.holding.result })) reply.Media) c.self.view_is
+      (record { records = c.commit.new.self; base = c.self.inside.base; seats = c.take.new.self; history = c.reserve.new.self.items; doubt = c.single.result })) reply.Media) c.self.view_is
       (doubted_steps g.S.EawStore.tells g.S.EawStore.opens g.K.KeyIndex.index g.met.S.EawStore.one_data (pages_of (g.S.EawStore.view c.self.inside.records.store) c.self.inside.records) (pages_of (g.S.EawStore.view c.commit.new.self.store) c.commit.new.self)
-      (laws_at g c.self.inside.records.store) (laws_at g c.commit.new.self.store) (state_at g.K.KeyIndex.index (g.S.EawStore.view c.self.inside.records.store) c.self.inside.seats.names (table_of c.self.inside.base) c.self.inside.history (live_in c.self.inside.seats) (offers_in c.self.inside.seats) c.self.inside.doubt) (state_at g.K.KeyIndex.index (g.S.EawStore.view c.commit.new.self.store) c.take.new.self.names (table_of c.self.inside.base) c.pop.new.self (live_in c.take.new.self) (offers_in c.take.new.self) c.holding.result) (record { indexed = refl; dead = refl }) (record { indexed = refl; dead = refl })
+      (laws_at g c.self.inside.records.store) (laws_at g c.commit.new.self.store) (state_at g.K.KeyIndex.index (g.S.EawStore.view c.self.inside.records.store) c.self.inside.seats.names (table_of c.self.inside.base) c.self.inside.history.items (live_in c.self.inside.seats) (offers_in c.self.inside.seats) c.self.inside.doubt) (state_at g.K.KeyIndex.index (g.S.EawStore.view c.commit.new.self.store) c.take.new.self.names (table_of c.self.inside.base) c.reserve.new.self.items (live_in c.take.new.self) (offers_in c.take.new.self) c.single.result) (record { indexed = refl; dead = refl }) (record { indexed = refl; dead = refl })
       c.take.ensures.out.names c.take.ensures.out.offers refl (length c.self.inside.seats.places) (length c.take.new.self.places) c.take.ensures.out.count c.self.inside.base c.self.invariant
-      (subst (λ (h : Held g.row.S.Denot). IsAlive (g.S.EawStore.view h.records.store)) (sym c.self.view_is) c.requires.alive) c.args.caller c.fitted-calls.result (sym c.take.ensures.live ∙ ap calls_in c.in-Some.is ∙ ap (λ (cs : Granted). (let o : Option Granted = Some cs in o)) (sym c.fitted-calls.ensures)) (subst (λ (h : Held g.row.S.Denot). offers_in h.seats c.args.caller ≡ unoffered) (sym c.self.view_is) c.requires.unoffered) (record { caller = c.args.caller; calls = c.fitted-calls.result; at = length c.as_slice.result.now + 1; last = length c.as_slice.result.now + 1 }) (λ j. record { caller = c.args.caller; calls = c.fitted-calls.result; at = length (c.as_slice.ensures j) + 1; last = length (c.as_slice.ensures j) + 1 }) (subst (λ (f : TableFault). Does g.S.EawStore.tells (g.S.EawStore.opens (g.S.EawStore.view c.self.inside.records.store).shape) g.K.KeyIndex.index 0 c.args.caller Commit
-      (pages_of (g.S.EawStore.view c.self.inside.records.store) c.self.inside.records) (pages_of (g.S.EawStore.view c.commit.new.self.store) c.commit.new.self) (Err f)) (commit_fails g.S.EawStore.tells g.K.KeyIndex.index (pages_of (g.S.EawStore.view c.self.inside.records.store) c.self.inside.records) c.args.caller (subst (λ (h : Held g.row.S.Denot). IsAlive (g.S.EawStore.view h.records.store)) (sym c.self.view_is) c.requires.alive) c.in-Err-commit.fault (c.in-Err-commit.ensures.does 0).cause) (c.in-Err-commit.ensures.does 0)) c.take.ensures.out.live (sym (last_is c.self.inside.history c.pop.new.self (record { caller = c.args.caller; calls = c.fitted-calls.result; at = length c.as_slice.result.now + 1; last = length c.as_slice.result.now + 1 }) c.pop.result (sym c.in-Ok.ensures.ok ∙ c.pop.ensures.last) (λ none. sym c.in-Ok.ensures.ok ∙ c.pop.ensures.empty.0 (subst (λ (o : Option Done). IsNone o) (sym none) refl))).0) (c.holding.ensures ∙ ap option_to_list (last_is c.self.inside.history c.pop.new.self (record { caller = c.args.caller; calls = c.fitted-calls.result; at = length c.as_slice.result.now + 1; last = length c.as_slice.result.now + 1 }) c.pop.result (sym c.in-Ok.ensures.ok ∙ c.pop.ensures.last) (λ none. sym c.in-Ok.ensures.ok ∙ c.pop.ensures.empty.0 (subst (λ (o : Option Done). IsNone o) (sym none) refl))).1) (λ told. c.commit.ensures.due told (subst (λ (h : Held g.row.S.Denot). IsAlive (g.S.EawStore.view h.records.store)) (sym c.self.view_is) c.requires.alive) (c.in-Err-commit.is ∙ ap (λ (f : TableFault). (let r : Result (Unit {0}) TableFault = Err f in r)) (commit_fails g.S.EawStore.tells g.K.KeyIndex.index (pages_of (g.S.EawStore.view c.self.inside.records.store) c.self.inside.records) c.args.caller (subst (λ (h : Held g.row.S.Denot). IsAlive (g.S.EawStore.view h.records.store)) (sym c.self.view_is) c.requires.alive) c.in-Err-commit.fault (c.in-Err-commit.ensures.does 0).cause)))));
+      (subst (λ (h : Held g.row.S.Denot). IsAlive (g.S.EawStore.view h.records.store)) (sym c.self.view_is) c.requires.alive) c.args.caller c.fitted-calls.result (sym c.take.ensures.live ∙ ap calls_in c.in-Some.is ∙ ap (λ (cs : Granted). (let o : Option Granted = Some cs in o)) (sym c.fitted-calls.ensures)) (subst (λ (h : Held g.row.S.Denot). offers_in h.seats c.args.caller ≡ unoffered) (sym c.self.view_is) c.requires.unoffered) (record { caller = c.args.caller; calls = c.fitted-calls.result; at = c.count-at.result + 1; last = c.count-at.result + 1 }) (λ j. record { caller = c.args.caller; calls = c.fitted-calls.result; at = c.count-at.ensures.count j + 1; last = c.count-at.ensures.count j + 1 }) (subst (λ (f : TableFault). Does g.S.EawStore.tells (g.S.EawStore.opens (g.S.EawStore.view c.self.inside.records.store).shape) g.K.KeyIndex.index 0 c.args.caller Commit
+      (pages_of (g.S.EawStore.view c.self.inside.records.store) c.self.inside.records) (pages_of (g.S.EawStore.view c.commit.new.self.store) c.commit.new.self) (Err f)) (commit_fails g.S.EawStore.tells g.K.KeyIndex.index (pages_of (g.S.EawStore.view c.self.inside.records.store) c.self.inside.records) c.args.caller (subst (λ (h : Held g.row.S.Denot). IsAlive (g.S.EawStore.view h.records.store)) (sym c.self.view_is) c.requires.alive) c.in-Err-commit.fault (c.in-Err-commit.ensures.does 0).cause) (c.in-Err-commit.ensures.does 0)) c.take.ensures.out.live c.reserve.ensures.items c.single.ensures (λ told. c.commit.ensures.due told (subst (λ (h : Held g.row.S.Denot). IsAlive (g.S.EawStore.view h.records.store)) (sym c.self.view_is) c.requires.alive) (c.in-Err-commit.is ∙ ap (λ (f : TableFault). (let r : Result (Unit {0}) TableFault = Err f in r)) (commit_fails g.S.EawStore.tells g.K.KeyIndex.index (pages_of (g.S.EawStore.view c.self.inside.records.store) c.self.inside.records) c.args.caller (subst (λ (h : Held g.row.S.Denot). IsAlive (g.S.EawStore.view h.records.store)) (sym c.self.view_is) c.requires.alive) c.in-Err-commit.fault (c.in-Err-commit.ensures.does 0).cause)))));
   sends = subst (λ (h : Held g.row.S.Denot). Mirrors g.S.EawStore.tells (g.S.EawStore.view h.records.store) (g.S.EawStore.view c.commit.new.self.store)) c.self.view_is ((c.in-Err-commit.ensures.does 0).mirrors);
   not_busy = ap is_busy c.from.ensures ∙ fault_plain c.in-Err-commit.fault;
 }
@@ -116,7 +114,7 @@ put-requires-clause-unoffered g c = ap (λ (f : ℕ → Offer). f c.args.caller)
 
 pub put-requires-clause-masked : goal.put-requires-clause-masked
 put-requires-clause-masked g c = subst (λ (x : List (List ℕ) × Granted). AreMasksOf (touched x.0 x.1) c.in-Some.live.masks)
-    (λ j. (sym c.take.ensures.out.names j, sym (ap (λ (d : Done). d.calls) c.in-Err.ensures.given_back ∙ c.fitted-calls.ensures) j)) c.in-Some.ensures.masked
+    (λ j. (sym c.take.ensures.out.names j, sym (c.fitted-calls.ensures) j)) c.in-Some.ensures.masked
 
 -- without a live transaction nothing is taken out
 nothing : (old mid : Seats) (t : ℕ) (o : Option Granted) → o ≡ live_in old t → o ≡ None → live_in mid ≡ update nat_eq (live_in old) t None → live_in mid ≡ live_in old
@@ -126,9 +124,9 @@ pub invariant_of-self : goal.invariant_of-self
 invariant_of-self g c =
     let i = c.self.inside in
     let same = nothing i.seats c.take.new.self c.args.caller (calls_in c.take.result) c.take.ensures.live (ap calls_in c.in_default.is) c.take.ensures.out.live in
-    kept_same g.S.EawStore.tells g.S.EawStore.opens g.K.KeyIndex.index (pages_of (g.S.EawStore.view i.records.store) i.records) (state_at g.K.KeyIndex.index (g.S.EawStore.view i.records.store) i.seats.names (table_of i.base) i.history (live_in i.seats) (offers_in i.seats) i.doubt) _
+    kept_same g.S.EawStore.tells g.S.EawStore.opens g.K.KeyIndex.index (pages_of (g.S.EawStore.view i.records.store) i.records) (state_at g.K.KeyIndex.index (g.S.EawStore.view i.records.store) i.seats.names (table_of i.base) i.history.items (live_in i.seats) (offers_in i.seats) i.doubt) _
     (length i.seats.places) (length c.take.new.self.places) i.base c.self.invariant c.take.ensures.out.count
-    (λ j. state_at g.K.KeyIndex.index (g.S.EawStore.view c.self.inside.records.store) (c.take.ensures.out.names j) (table_of c.self.inside.base) c.self.inside.history (same j) (c.take.ensures.out.offers j) c.self.inside.doubt)
+    (λ j. state_at g.K.KeyIndex.index (g.S.EawStore.view c.self.inside.records.store) (c.take.ensures.out.names j) (table_of c.self.inside.base) c.self.inside.history.items (same j) (c.take.ensures.out.offers j) c.self.inside.doubt)
 
 pub returns-in_default : goal.returns-in_default
 returns-in_default g c =
@@ -137,11 +135,11 @@ returns-in_default g c =
     record {
       steps = subst (λ (h : Held g.row.S.Denot). Steps g.S.EawStore.tells c.args.caller Commit (core_of g.S.EawStore.opens g.K.KeyIndex.index (g.S.EawStore.view h.records.store) h)
           (core_of g.S.EawStore.opens g.K.KeyIndex.index (g.S.EawStore.view c.self.inside.records.store)
-          (record { records = c.self.inside.records; base = c.self.inside.base; seats = c.take.new.self; history = c.self.inside.history; doubt = c.self.inside.doubt })) NoTransaction) c.self.view_is
+          (record { records = c.self.inside.records; base = c.self.inside.base; seats = c.take.new.self; history = c.self.inside.history.items; doubt = c.self.inside.doubt })) NoTransaction) c.self.view_is
           (absent_steps g.S.EawStore.tells g.S.EawStore.opens g.K.KeyIndex.index (pages_of (g.S.EawStore.view i.records.store) i.records)
-          (state_at g.K.KeyIndex.index (g.S.EawStore.view i.records.store) i.seats.names (table_of i.base) i.history (live_in i.seats) (offers_in i.seats) i.doubt) (record { indexed = refl; dead = refl }) (length i.seats.places) i.base c.self.invariant
+          (state_at g.K.KeyIndex.index (g.S.EawStore.view i.records.store) i.seats.names (table_of i.base) i.history.items (live_in i.seats) (offers_in i.seats) i.doubt) (record { indexed = refl; dead = refl }) (length i.seats.places) i.base c.self.invariant
           (subst (λ (h : Held g.row.S.Denot). IsAlive (g.S.EawStore.view h.records.store)) (sym c.self.view_is) c.requires.alive) c.args.caller Commit (sym c.take.ensures.live ∙ ap calls_in c.in_default.is) (subst (λ (h : Held g.row.S.Denot). offers_in h.seats c.args.caller ≡ unoffered) (sym c.self.view_is) c.requires.unoffered) (refl, refl) _
-          (λ j. state_at g.K.KeyIndex.index (g.S.EawStore.view c.self.inside.records.store) (c.take.ensures.out.names j) (table_of c.self.inside.base) c.self.inside.history (same j) (c.take.ensures.out.offers j) c.self.inside.doubt));
+          (λ j. state_at g.K.KeyIndex.index (g.S.EawStore.view c.self.inside.records.store) (c.take.ensures.out.names j) (table_of c.self.inside.base) c.self.inside.history.items (same j) (c.take.ensures.out.offers j) c.self.inside.doubt));
       sends = subst (λ (h : Held g.row.S.Denot). Mirrors g.S.EawStore.tells (g.S.EawStore.view h.records.store) (g.S.EawStore.view c.self.inside.records.store)) c.self.view_is (sends_none g.S.EawStore.tells (g.S.EawStore.view c.self.inside.records.store));
       not_busy = refl;
     }

@@ -11,7 +11,7 @@ returns-clause-views g c = λ told alive.
     let V = g.S.EawStore.view in
     let I = g.K.KeyIndex.index in
     let i = c.self.inside in
-    let held : Held g.row.S.Denot = record { records = i.records; base = i.base; seats = i.seats; history = i.history; doubt = i.doubt } in
+    let held : Held g.row.S.Denot = record { records = i.records; base = i.base; seats = i.seats; history = i.history.items; doubt = i.doubt } in
     let living = subst (λ (h : Held g.row.S.Denot). IsAlive (g.S.EawStore.view h.records.store)) (sym c.self.view_is) alive in
     subst (λ (h : Held g.row.S.Denot). LeavesView g.K.KeyIndex.index (g.S.EawStore.view h.records.store) (state_over g.K.KeyIndex.index (g.S.EawStore.view h.records.store) h) c.args.caller) c.self.view_is
     (views_are I (pages_of (V i.records.store) i.records) (state_over I (V i.records.store) held) (c.self.invariant.tied told living) c.args.caller)

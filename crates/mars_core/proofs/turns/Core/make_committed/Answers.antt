@@ -33,9 +33,9 @@ invariant_of-self g c =
     let free = c.settle.ensures.free in
     let none : live_in i.seats c.args.caller ≡ None = ap calls_in (gone (seat_in i.seats.places c.args.caller) c.settle.result c.settle.ensures.number) in
     told_keeps g.S.EawStore.tells g.S.EawStore.opens I (pages_of (V i.records.store) i.records) (laws_at g i.records.store)
-    (state_at I (V i.records.store) i.seats.names (table_of i.base) i.history (live_in i.seats) (offers_in i.seats) i.doubt) _ (record { indexed = refl; dead = refl }) (length i.seats.places) (length c.settle.new.self.places) free.count i.base c.self.invariant
+    (state_at I (V i.records.store) i.seats.names (table_of i.base) i.history.items (live_in i.seats) (offers_in i.seats) i.doubt) _ (record { indexed = refl; dead = refl }) (length i.seats.places) (length c.settle.new.self.places) free.count i.base c.self.invariant
     (subst (λ (h : Held g.row.S.Denot). IsAlive (V h.records.store)) (sym c.self.view_is) c.requires.alive) c.args.caller c.settle.result c.settle.ensures.number none
-    (λ j. state_at I (V i.records.store) (free.names j) (table_of i.base) i.history ((free.live ∙ update_same (live_in i.seats) c.args.caller None none) j) (free.offers j) i.doubt)
+    (λ j. state_at I (V i.records.store) (free.names j) (table_of i.base) i.history.items ((free.live ∙ update_same (live_in i.seats) c.args.caller None none) j) (free.offers j) i.doubt)
 
 pub returns-in-Settle-clause-steps : goal.returns-in-Settle-clause-steps
 returns-in-Settle-clause-steps g c =
@@ -46,11 +46,11 @@ returns-in-Settle-clause-steps g c =
     let free = c.settle.ensures.free in
     let none : live_in i.seats c.args.caller ≡ None = ap calls_in (gone (seat_in i.seats.places c.args.caller) c.settle.result c.settle.ensures.number) in
     subst (λ (x : Call × Held g.row.S.Denot). Steps g.S.EawStore.tells c.args.caller x.0 (core (V x.1.records.store) x.1)
-    (core (V i.records.store) (record { records = i.records; base = i.base; seats = c.settle.new.self; history = i.history; doubt = i.doubt })) (Committed c.settle.result)) (λ j. (sym c.in-Settle.is j, c.self.view_is j))
+    (core (V i.records.store) (record { records = i.records; base = i.base; seats = c.settle.new.self; history = i.history.items; doubt = i.doubt })) (Committed c.settle.result)) (λ j. (sym c.in-Settle.is j, c.self.view_is j))
     (told_steps g.S.EawStore.tells g.S.EawStore.opens I (pages_of (V i.records.store) i.records) (laws_at g i.records.store)
-    (state_at I (V i.records.store) i.seats.names (table_of i.base) i.history (live_in i.seats) (offers_in i.seats) i.doubt) _ (record { indexed = refl; dead = refl }) (length i.seats.places) (length c.settle.new.self.places) free.count i.base c.self.invariant
+    (state_at I (V i.records.store) i.seats.names (table_of i.base) i.history.items (live_in i.seats) (offers_in i.seats) i.doubt) _ (record { indexed = refl; dead = refl }) (length i.seats.places) (length c.settle.new.self.places) free.count i.base c.self.invariant
     (subst (λ (h : Held g.row.S.Denot). IsAlive (V h.records.store)) (sym c.self.view_is) c.requires.alive) c.args.caller c.settle.result c.settle.ensures.number none
-    (λ j. state_at I (V i.records.store) (free.names j) (table_of i.base) i.history ((free.live ∙ update_same (live_in i.seats) c.args.caller None none) j) (free.offers j) i.doubt))
+    (λ j. state_at I (V i.records.store) (free.names j) (table_of i.base) i.history.items ((free.live ∙ update_same (live_in i.seats) c.args.caller None none) j) (free.offers j) i.doubt))
 
 pub returns-in-Begin-clause-steps : goal.returns-in-Begin-clause-steps
 returns-in-Begin-clause-steps g c =

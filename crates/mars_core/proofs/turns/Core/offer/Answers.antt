@@ -40,9 +40,9 @@ invariant_of-self g c =
     let V = g.S.EawStore.view in
     let i = c.self.inside in
     let same = c.take.ensures.out.live ∙ update_same (live_in i.seats) c.args.caller None (sym c.take.ensures.live ∙ ap calls_in c.in_default.is) in
-    kept_same g.S.EawStore.tells g.S.EawStore.opens g.K.KeyIndex.index (pages_of (V i.records.store) i.records) (state_at g.K.KeyIndex.index (V i.records.store) i.seats.names (table_of i.base) i.history (live_in i.seats) (offers_in i.seats) i.doubt) _
+    kept_same g.S.EawStore.tells g.S.EawStore.opens g.K.KeyIndex.index (pages_of (V i.records.store) i.records) (state_at g.K.KeyIndex.index (V i.records.store) i.seats.names (table_of i.base) i.history.items (live_in i.seats) (offers_in i.seats) i.doubt) _
     (length i.seats.places) (length c.take.new.self.places) i.base c.self.invariant c.take.ensures.out.count
-    (λ j. state_at g.K.KeyIndex.index (V i.records.store) (c.take.ensures.out.names j) (table_of i.base) i.history (same j) (c.take.ensures.out.offers j) i.doubt)
+    (λ j. state_at g.K.KeyIndex.index (V i.records.store) (c.take.ensures.out.names j) (table_of i.base) i.history.items (same j) (c.take.ensures.out.offers j) i.doubt)
 
 pub returns-in_default : goal.returns-in_default
 returns-in_default g c =
@@ -51,12 +51,12 @@ returns-in_default g c =
     let same = c.take.ensures.out.live ∙ update_same (live_in i.seats) c.args.caller None (sym c.take.ensures.live ∙ ap calls_in c.in_default.is) in
     record {
       steps = subst (λ (h : Held g.row.S.Denot). Steps g.S.EawStore.tells c.args.caller call.Offer (core_of g.S.EawStore.opens g.K.KeyIndex.index (V h.records.store) h)
-          (core_of g.S.EawStore.opens g.K.KeyIndex.index (V i.records.store) (record { records = i.records; base = i.base; seats = c.take.new.self; history = i.history; doubt = i.doubt })) NoTransaction) c.self.view_is
+          (core_of g.S.EawStore.opens g.K.KeyIndex.index (V i.records.store) (record { records = i.records; base = i.base; seats = c.take.new.self; history = i.history.items; doubt = i.doubt })) NoTransaction) c.self.view_is
           (absent_steps g.S.EawStore.tells g.S.EawStore.opens g.K.KeyIndex.index (pages_of (V i.records.store) i.records)
-          (state_at g.K.KeyIndex.index (V i.records.store) i.seats.names (table_of i.base) i.history (live_in i.seats) (offers_in i.seats) i.doubt) (record { indexed = refl; dead = refl }) (length i.seats.places) i.base c.self.invariant
+          (state_at g.K.KeyIndex.index (V i.records.store) i.seats.names (table_of i.base) i.history.items (live_in i.seats) (offers_in i.seats) i.doubt) (record { indexed = refl; dead = refl }) (length i.seats.places) i.base c.self.invariant
           (subst (λ (h : Held g.row.S.Denot). IsAlive (V h.records.store)) (sym c.self.view_is) c.requires.alive) c.args.caller call.Offer (sym c.take.ensures.live ∙ ap calls_in c.in_default.is)
           (subst (λ (h : Held g.row.S.Denot). offers_in h.seats c.args.caller ≡ unoffered) (sym c.self.view_is) c.requires.unoffered) (refl, refl) _
-          (λ j. state_at g.K.KeyIndex.index (V i.records.store) (c.take.ensures.out.names j) (table_of i.base) i.history (same j) (c.take.ensures.out.offers j) i.doubt));
+          (λ j. state_at g.K.KeyIndex.index (V i.records.store) (c.take.ensures.out.names j) (table_of i.base) i.history.items (same j) (c.take.ensures.out.offers j) i.doubt));
       sends = subst (λ (h : Held g.row.S.Denot). Mirrors g.S.EawStore.tells (V h.records.store) (V i.records.store)) c.self.view_is (sends_none g.S.EawStore.tells (V i.records.store));
       not_busy = refl;
     }
@@ -69,11 +69,11 @@ invariant_of-self-2 g c =
     let back = changed_back (live_in i.seats) c.args.caller None (Some c.in-Some.live.calls) (live_in c.take.new.self) (live_in c.put_offered.new.self) c.take.ensures.out.live c.put_offered.ensures.live is in
     let offers = c.put_offered.ensures.offers ∙ ap (λ (f : ℕ → Offer). offers_with f c.args.caller offered) c.take.ensures.out.offers in
     given_keeps g.S.EawStore.tells g.S.EawStore.opens g.K.KeyIndex.index (pages_of (V i.records.store) i.records) (laws_at g i.records.store)
-    (state_at g.K.KeyIndex.index (V i.records.store) i.seats.names (table_of i.base) i.history (live_in i.seats) (offers_in i.seats) i.doubt) _ (record { indexed = refl; dead = refl })
+    (state_at g.K.KeyIndex.index (V i.records.store) i.seats.names (table_of i.base) i.history.items (live_in i.seats) (offers_in i.seats) i.doubt) _ (record { indexed = refl; dead = refl })
     (length i.seats.places) (length c.put_offered.new.self.places) (c.put_offered.ensures.count ∙ c.take.ensures.out.count) i.base c.self.invariant
     (subst (λ (h : Held g.row.S.Denot). IsAlive (V h.records.store)) (sym c.self.view_is) c.requires.alive) c.args.caller c.in-Some.live.calls is
     (subst (λ (h : Held g.row.S.Denot). offers_in h.seats c.args.caller ≡ unoffered) (sym c.self.view_is) c.requires.unoffered)
-    (λ j. state_at g.K.KeyIndex.index (V i.records.store) ((c.put_offered.ensures.names ∙ c.take.ensures.out.names) j) (table_of i.base) i.history (back j) (offers j) i.doubt)
+    (λ j. state_at g.K.KeyIndex.index (V i.records.store) ((c.put_offered.ensures.names ∙ c.take.ensures.out.names) j) (table_of i.base) i.history.items (back j) (offers j) i.doubt)
 
 pub returns : goal.returns
 returns g c =
@@ -85,12 +85,12 @@ returns g c =
     let offers = c.put_offered.ensures.offers ∙ ap (λ (f : ℕ → Offer). offers_with f c.args.caller offered) c.take.ensures.out.offers in
     record {
       steps = subst (λ (h : Held g.row.S.Denot). Steps g.S.EawStore.tells c.args.caller call.Offer (core_of g.S.EawStore.opens g.K.KeyIndex.index (V h.records.store) h)
-          (core_of g.S.EawStore.opens g.K.KeyIndex.index (V i.records.store) (record { records = i.records; base = i.base; seats = c.put_offered.new.self; history = i.history; doubt = i.doubt })) Fine) c.self.view_is
+          (core_of g.S.EawStore.opens g.K.KeyIndex.index (V i.records.store) (record { records = i.records; base = i.base; seats = c.put_offered.new.self; history = i.history.items; doubt = i.doubt })) Fine) c.self.view_is
           (given_steps g.S.EawStore.tells g.S.EawStore.opens g.K.KeyIndex.index (pages_of (V i.records.store) i.records) (laws_at g i.records.store)
-          (state_at g.K.KeyIndex.index (V i.records.store) i.seats.names (table_of i.base) i.history (live_in i.seats) (offers_in i.seats) i.doubt) _ (record { indexed = refl; dead = refl })
+          (state_at g.K.KeyIndex.index (V i.records.store) i.seats.names (table_of i.base) i.history.items (live_in i.seats) (offers_in i.seats) i.doubt) _ (record { indexed = refl; dead = refl })
           (length i.seats.places) (length c.put_offered.new.self.places) (c.put_offered.ensures.count ∙ c.take.ensures.out.count) i.base c.self.invariant
           (subst (λ (h : Held g.row.S.Denot). IsAlive (V h.records.store)) (sym c.self.view_is) c.requires.alive) c.args.caller c.in-Some.live.calls is un
-          (λ j. state_at g.K.KeyIndex.index (V i.records.store) ((c.put_offered.ensures.names ∙ c.take.ensures.out.names) j) (table_of i.base) i.history (back j) (offers j) i.doubt));
+          (λ j. state_at g.K.KeyIndex.index (V i.records.store) ((c.put_offered.ensures.names ∙ c.take.ensures.out.names) j) (table_of i.base) i.history.items (back j) (offers j) i.doubt));
       sends = subst (λ (h : Held g.row.S.Denot). Mirrors g.S.EawStore.tells (V h.records.store) (V i.records.store)) c.self.view_is (sends_none g.S.EawStore.tells (V i.records.store));
       not_busy = refl;
     }

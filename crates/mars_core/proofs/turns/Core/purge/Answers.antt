@@ -45,7 +45,7 @@ pub clear-requires-clause-ready : goal.clear-requires-clause-ready
 clear-requires-clause-ready g c told =
     let V = g.S.EawStore.view in
     let i = c.self.inside in
-    ready g.S.EawStore.tells g.S.EawStore.opens g.K.KeyIndex.index (index_laws g) g.met.S.EawStore.one_data (pages_of (V i.records.store) i.records) (laws_at g i.records.store) i.base (table_of i.base) i.history i.seats i.doubt (length i.seats.places) c.self.invariant
+    ready g.S.EawStore.tells g.S.EawStore.opens g.K.KeyIndex.index (index_laws g) g.met.S.EawStore.one_data (pages_of (V i.records.store) i.records) (laws_at g i.records.store) i.base (table_of i.base) i.history.items i.seats i.doubt (length i.seats.places) c.self.invariant
     (subst (λ (h : Held g.row.S.Denot). IsAlive (V h.records.store)) (sym c.self.view_is) c.requires.alive) c.args.caller (none_of (live_in i.seats c.args.caller) (sym c.is_live.ensures ∙ c.if-is_live.false))
     (subst (λ (h : Held g.row.S.Denot). offers_in h.seats c.args.caller ≡ unoffered) (sym c.self.view_is) c.requires.unoffered) told
 
@@ -53,7 +53,7 @@ pub invariant_of-self : goal.invariant_of-self
 invariant_of-self g c =
     let V = g.S.EawStore.view in
     let i = c.self.inside in
-    purged_keeps g.S.EawStore.tells g.S.EawStore.opens g.K.KeyIndex.index (index_laws g) g.met.S.EawStore.one_data (pages_of (V i.records.store) i.records) (laws_at g i.records.store) i.base (table_of i.base) i.history i.seats i.doubt (length i.seats.places) c.self.invariant
+    purged_keeps g.S.EawStore.tells g.S.EawStore.opens g.K.KeyIndex.index (index_laws g) g.met.S.EawStore.one_data (pages_of (V i.records.store) i.records) (laws_at g i.records.store) i.base (table_of i.base) i.history.items i.seats i.doubt (length i.seats.places) c.self.invariant
     (subst (λ (h : Held g.row.S.Denot). IsAlive (V h.records.store)) (sym c.self.view_is) c.requires.alive) c.args.caller (none_of (live_in i.seats c.args.caller) (sym c.is_live.ensures ∙ c.if-is_live.false))
     (subst (λ (h : Held g.row.S.Denot). offers_in h.seats c.args.caller ≡ unoffered) (sym c.self.view_is) c.requires.unoffered)
     (pages_of (V c.clear.new.records.store) c.clear.new.records) (laws_at g c.clear.new.records.store) c.clear.result c.clear.ensures.clears
@@ -71,15 +71,15 @@ returns g c =
     record {
       sends = subst (λ (h : Held g.row.S.Denot). Mirrors g.S.EawStore.tells (V h.records.store) (V c.clear.new.records.store)) c.self.view_is c.clear.ensures.clears.mirrors;
       cause = subst (λ (h : Held g.row.S.Denot). PurgeCause (core_of g.S.EawStore.opens g.K.KeyIndex.index (V h.records.store) h).state c.args.caller c.match-clear.result) c.self.view_is
-          (rw (answer_is g c) (purge_cause g.S.EawStore.tells g.S.EawStore.opens g.K.KeyIndex.index (index_laws g) g.met.S.EawStore.one_data (pages_of (V i.records.store) i.records) (laws_at g i.records.store) i.base (table_of i.base) i.history i.seats i.doubt (length i.seats.places) c.self.invariant
+          (rw (answer_is g c) (purge_cause g.S.EawStore.tells g.S.EawStore.opens g.K.KeyIndex.index (index_laws g) g.met.S.EawStore.one_data (pages_of (V i.records.store) i.records) (laws_at g i.records.store) i.base (table_of i.base) i.history.items i.seats i.doubt (length i.seats.places) c.self.invariant
           (subst (λ (h : Held g.row.S.Denot). IsAlive (V h.records.store)) (sym c.self.view_is) c.requires.alive) c.args.caller (none_of (live_in i.seats c.args.caller) (sym c.is_live.ensures ∙ c.if-is_live.false))
           (subst (λ (h : Held g.row.S.Denot). offers_in h.seats c.args.caller ≡ unoffered) (sym c.self.view_is) c.requires.unoffered)
           (pages_of (V c.clear.new.records.store) c.clear.new.records) (laws_at g c.clear.new.records.store) c.clear.result c.clear.ensures.clears));
       not_busy = ap is_busy (answer_is g c) ∙ outcome_plain c.clear.result;
       steps = subst (λ (h : Held g.row.S.Denot). Steps g.S.EawStore.tells c.args.caller Purge (core_of g.S.EawStore.opens g.K.KeyIndex.index (V h.records.store) h)
           (core_of g.S.EawStore.opens g.K.KeyIndex.index (V c.clear.new.records.store)
-          (record { records = c.clear.new.records; base = i.base; seats = i.seats; history = i.history; doubt = i.doubt })) c.match-clear.result) c.self.view_is
-          (rw (answer_is g c) (purged_steps g.S.EawStore.tells g.S.EawStore.opens g.K.KeyIndex.index (index_laws g) g.met.S.EawStore.one_data (pages_of (V i.records.store) i.records) (laws_at g i.records.store) i.base (table_of i.base) i.history i.seats i.doubt (length i.seats.places) c.self.invariant
+          (record { records = c.clear.new.records; base = i.base; seats = i.seats; history = i.history.items; doubt = i.doubt })) c.match-clear.result) c.self.view_is
+          (rw (answer_is g c) (purged_steps g.S.EawStore.tells g.S.EawStore.opens g.K.KeyIndex.index (index_laws g) g.met.S.EawStore.one_data (pages_of (V i.records.store) i.records) (laws_at g i.records.store) i.base (table_of i.base) i.history.items i.seats i.doubt (length i.seats.places) c.self.invariant
           (subst (λ (h : Held g.row.S.Denot). IsAlive (V h.records.store)) (sym c.self.view_is) c.requires.alive) c.args.caller (none_of (live_in i.seats c.args.caller) (sym c.is_live.ensures ∙ c.if-is_live.false))
           (subst (λ (h : Held g.row.S.Denot). offers_in h.seats c.args.caller ≡ unoffered) (sym c.self.view_is) c.requires.unoffered)
           (pages_of (V c.clear.new.records.store) c.clear.new.records) (laws_at g c.clear.new.records.store) c.clear.result c.clear.ensures.clears));

@@ -1,6 +1,6 @@
-use Rattle.std.proofs.Common.{◌≡◌, ℕ, ◌+◌, ◌-◌, List, [], ◌∷◌, length, Option, Some, None, sym, ap, ◌∙◌, subst, arith, map, drop}
+use Rattle.std.proofs.Common.{◌≡◌, ◌≤◌, ℕ, ◌+◌, ◌-◌, List, [], ◌∷◌, length, Option, Some, None, sym, ap, ◌∙◌, subst, arith, map, drop}
 use Rattle.std.specs.Prelude.{IfOk}
-use Rattle.history.specs.Legal.{AreNumberedFrom}
+use Rattle.std.proofs.lemmas.Option.{IfSome_then}
 use Rattle.history.specs.declared.transaction.Done.{Done}
 use Rattle.atomic_table.specs.Table.{rest}
 use Rattle.mars_manager.specs.declared.view.Known.{Known}
@@ -56,16 +56,16 @@ exchange-requires g c =
       (Some took.core, carried ∙ ap (λ (l : List (ℕ × Option g.row.C.Denot)). (0, Some took.core) ∷ rest l) (sym carried)),
     )
 
-pub since-copied-requires : goal.since-copied-requires
-since-copied-requires g c =
+pub kept_since-copied-requires : goal.kept_since-copied-requires
+kept_since-copied-requires g c =
     let f = face g.C.Core.tells g.C.Core.view in
     let took = c.compare_exchange-found.ensures.2.0 c.if-found-ne0.false in
     let core = core_is f _ _ c.unwrap-core.result _ took c.exchange.ensures.2 c.unwrap-core.ensures in
     let seen = took.seen in
-    let log = ap length c.history.ensures in
     let same = ap (λ (x : g.row.C.Denot). length (g.C.Core.view x).state.history) core in
     let from = c.requires.from in
-    omega arith
+    let within : c.args.from ≤ length (g.C.Core.view c.unwrap-core.result).state.history = omega arith in
+    IfSome_then c.history.result c.history.ensures.history (λ dones is. subst (λ (log : List Done). c.args.from ≤ length log) (sym is) within)
 
 pub store-requires : goal.store-requires
 store-requires g c =
@@ -101,7 +101,7 @@ returns-clause-copy g c =
     let i = c.requires.seat in
     let took = c.compare_exchange-found.ensures.2.0 c.if-found-ne0.false in
     let seen = seen_is f _ _ _ _ i.known c.unwrap-core.result _ i.is took c.exchange.ensures.2 c.unwrap-core.ensures c.exchange.ensures.3 c.exchange-2.ensures.3 _ c.store.ensures.2 in
-    subst (λ (log : List Done). IfOk c.since-copied.result (λ history. history ≡ drop c.args.from log)) (c.history.ensures ∙ sym seen) c.since-copied.ensures
+    subst (λ (log : List Done). IfOk c.kept_since-copied.result (λ history. history ≡ drop c.args.from log)) (sym seen) (c.kept_since-copied.ensures.copy _ c.history.ensures.history)
 
 pub returns-clause-numbered : goal.returns-clause-numbered
 returns-clause-numbered g c =
@@ -109,4 +109,7 @@ returns-clause-numbered g c =
     let i = c.requires.seat in
     let took = c.compare_exchange-found.ensures.2.0 c.if-found-ne0.false in
     let log = seen_numbered f _ _ _ _ i.known c.unwrap-core.result _ i.is took c.exchange.ensures.2 c.unwrap-core.ensures c.exchange.ensures.3 c.exchange-2.ensures.3 _ c.store.ensures.2 in
-    numbered_copy c.since-copied.result c.args.from c.history.result.now (subst (λ (log : List Done). AreNumberedFrom 1 log) (sym c.history.ensures) log) c.since-copied.ensures
+    numbered_copy c.kept_since-copied.result c.args.from _ log (c.kept_since-copied.ensures.copy _ c.history.ensures.history)
+
+pub returns-clause-kept : goal.returns-clause-kept
+returns-clause-kept g c = λ keeps. c.kept_since-copied.ensures.kept (c.history.ensures.kept keeps)

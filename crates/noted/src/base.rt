@@ -1,0 +1,71 @@
+// The records at an opening.
+ghost use Rattle.std.specs.Prelude.{◌≡◌, [], ◌∷◌, ◌++◌, IsTrue, IsSome, IfSome, OnOk};
+
+use crate::keeper::Keeper;
+use crate::notes::TableNotes;
+use history::{Rows, Tables};
+use mars_base::NoMemory;
+use record_slots::Name;
+use std::alloc::Global;
+use std::marker::{Model, PhantomData};
+
+/// Records of tables: for each its name and its rows. They are kept in memory, or not.
+#[derive(Drop)]
+pub struct Base<H: Keeper> {
+    kept: Option<Tables>,
+    notes: TableNotes,
+    keeper: PhantomData<H>,
+}
+
+impl<H: Keeper> Model for Base<H> {
+    ghost use Rattle.std.specs.Prelude.{List, ◌≡◌, IsTrue, IsSome, IfSome};
+    ghost use Rattle.history.specs.Rows.{NamedRows};
+
+    ghost Value = { List NamedRows };
+
+    ghost view = { λ b. b.notes.tables };
+
+    ghost invariant = { λ b. IfSome b.kept (λ tables. tables ≡ b.notes.tables) × (IsTrue H.keeps → IsSome b.kept) };
+}
+
+impl<H: Keeper> Base<H> {
+    pub fn new(alloc: Global) -> Base<H>
+        ensures { result ≡ [] }
+    {
+        let kept = if H::keeps() {
+            Some(Tables::new(alloc))
+        } else {
+            None
+        };
+        Base {
+            kept,
+            notes: TableNotes::new(),
+            keeper: PhantomData,
+        }
+    }
+
+    /// Adds a table behind the others.
+    pub fn push(&mut self, name: Name, rows: Rows) -> Result<(), NoMemory>
+        ensures ok { OnOk result (self.new ≡ self.old ++ (name, rows) ∷ []) }
+    {
+        let told = self.notes.then(&name, &rows);
+        if let Some(tables) = &mut self.kept {
+            if tables.push(name, rows).is_err() {
+                return Err(NoMemory);
+            }
+        }
+        self.notes = told;
+        Ok(())
+    }
+
+    /// All of them, if they are kept.
+    pub fn tables(&self) -> Option<&Tables>
+        ensures tables { IfSome result (λ tables. tables.now ≡ self.now) }
+        ensures kept { IsTrue H.keeps → IsSome result }
+    {
+        match &self.kept {
+            Some(tables) => Some(tables),
+            None => None,
+        }
+    }
+}

@@ -1,0 +1,16 @@
+//! Transactions and records that contracts see whole, and that are kept in memory only where somebody is to read them.
+//!
+//! Read first `notes.rt`: lists of no bytes, which exist only in proofs. `dones.rt`, `doubt.rt` and `base.rt` have one beside what is kept, if
+//! anything is, and `keeper.rt` says whether it is.
+#![tactic(auto)]
+
+mod base;
+mod dones;
+mod doubt;
+mod keeper;
+mod notes;
+
+pub use base::Base;
+pub use dones::Dones;
+pub use doubt::Doubt;
+pub use keeper::{Keeper, KeepsAll, KeepsNothing};

@@ -1,0 +1,61 @@
+// Lists that exist only in proofs. At run time they have no bytes, and a step of one is no instruction.
+ghost use Rattle.std.specs.Prelude.{◌≡◌, [], ◌∷◌, ◌++◌, List};
+ghost use base.Fml.{ftrue};
+ghost use Rattle.history.specs.Rows.{NamedRows};
+ghost use Rattle.history.specs.declared.transaction.Done.{Done};
+
+use history::{Calls, Rows};
+use record_slots::Name;
+use std::marker::Model;
+
+/// Committed transactions, in the order of their commits.
+#[derive(Drop)]
+pub struct DoneNotes {
+    pub ghost dones: { List Done },
+}
+
+impl Model for DoneNotes {
+    ghost also_owns = { λ _. ftrue };
+}
+
+impl DoneNotes {
+    pub fn new() -> DoneNotes
+        ensures { result.dones ≡ [] }
+    {
+        DoneNotes {}
+    }
+
+    /// The same with one more transaction behind them.
+    #[inline(always)]
+    pub fn then(&self, _caller: u8, _calls: &Calls, _at: u64, _last: u64) -> DoneNotes
+        ensures { result.dones ≡ self.now.dones ++ (record { caller = _caller; calls = _calls.now; at = _at; last = _last }) ∷ [] }
+    {
+        DoneNotes {}
+    }
+}
+
+/// Records of tables: for each its name and its rows.
+#[derive(Drop)]
+pub struct TableNotes {
+    pub ghost tables: { List NamedRows },
+}
+
+impl Model for TableNotes {
+    ghost also_owns = { λ _. ftrue };
+}
+
+impl TableNotes {
+    pub fn new() -> TableNotes
+        ensures { result.tables ≡ [] }
+    {
+        TableNotes {}
+    }
+
+    /// The same with one more table behind them.
+    #[inline(always)]
+    pub fn then(&self, _name: &Name, _rows: &Rows) -> TableNotes
+        ensures { result.tables ≡ self.now.tables ++ (_name.now, _rows.now) ∷ [] }
+    {
+        TableNotes {}
+    }
+}
