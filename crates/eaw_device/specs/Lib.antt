@@ -1,5 +1,6 @@
 pub mod Opens
 pub mod Attaching
+pub mod Made
 pub mod Fresh
 pub mod Logs
 pub mod Steps
