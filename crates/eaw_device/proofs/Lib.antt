@@ -1,6 +1,6 @@
 pub mod Attaching
-pub mod Formatting
-pub mod FreshLemmas
+pub mod NewArrays
+pub mod MadeLemmas
 pub mod Spared
 pub mod Cells
 pub mod Grouping

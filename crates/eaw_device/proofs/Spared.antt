@@ -1,5 +1,5 @@
--- What the formatting of a fresh array spares: its cells.
-use Rattle.std.proofs.Common.{◌≡◌, ℕ, ◌+◌, ◌-◌, ◌*◌, ◌/◌, ◌<◌, List, [], ◌∷◌, ◌∙◌, ap, arith}
+-- What the making of a new array spares: its cells.
+use Rattle.std.proofs.Common.{◌≡◌, ℕ, ◌+◌, ◌-◌, ◌*◌, ◌/◌, ◌<◌, ◌≤◌, List, [], ◌∷◌, ◌∙◌, ap, arith}
 use Rattle.pcm_media.specs.Images.{Content, Touched}
 use Rattle.pcm_media.proofs.Left.{same_bytes}
 use Rattle.array_shape.specs.declared.shape.Shape.{Shape}
@@ -28,8 +28,8 @@ module _ (shape : Shape) (at n : ℕ) (old new : Content) (touched : Touched ((a
     tt,
   ))
 
-  pub header_spares : at ≡ 0 → n ≡ 512 → SameCells shape old.bytes new.bytes
-  header_spares is size g t e lt below below' = cell_away shape ((at, n) ∷ []) old.bytes new.bytes g t e touched.bytes (λ i from to. ((λ le past. omega arith), tt))
+  pub header_spares : at + n ≤ 512 → SameCells shape old.bytes new.bytes
+  header_spares within g t e lt below below' = cell_away shape ((at, n) ∷ []) old.bytes new.bytes g t e touched.bytes (λ i from to. ((λ le past. omega arith), tt))
 
 -- nothing was written
 pub none_spares : (shape : Shape) (old new : Content) → Touched [] old new → SameCells shape old.bytes new.bytes

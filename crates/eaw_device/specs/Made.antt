@@ -13,22 +13,22 @@ use Rattle.eaw_device.specs.Opens.{header_of, Opens}
 
 -- the first n pages are these
 abbrev pub HasPages : Shape → (ℕ → List ℕ) → ℕ → List ℕ → Type 0
-HasPages shape pages n bytes = (p : ℕ) → p < n → range (data_of shape bytes) (512 * p) 512 ≡ pages p
+HasPages shape said n bytes = (p : ℕ) → p < n → range (data_of shape bytes) (512 * p) 512 ≡ said p
 
 -- the rows of the first n loggers are zero
 abbrev pub HasRows : Shape → ℕ → List ℕ → Type 0
 HasRows shape n bytes = (g t : ℕ) → g < n → t < shape.numbers → range bytes (row_at shape g t) 16 ≡ replicate 16 0
 
 -- all rows are zero, and all pages are these
-pub record HasParts (shape : Shape) (pages : ℕ → List ℕ) (image : List ℕ) : Type 0 where
+pub record HasParts (shape : Shape) (said : ℕ → List ℕ) (image : List ℕ) : Type 0 where
   pub rows : HasRows shape shape.loggers image
-  pub pages : HasPages shape pages (page_count shape) image
+  pub pages : HasPages shape said (page_count shape) image
 
 -- The header is that of the shape, all rows are zero, all pages are these, and all is settled.
-pub record IsMade (shape : Shape) (pages : ℕ → List ℕ) (content : Content) : Type 0 where
+pub record IsMade (shape : Shape) (said : ℕ → List ℕ) (content : Content) : Type 0 where
   pub settled : content.unsettled ≡ []
   pub header : range content.bytes 0 512 ≡ header_bytes shape
-  pub parts : HasParts shape pages content.bytes
+  pub parts : HasParts shape said content.bytes
 
 -- a loss of power leaves what a read gives
 abbrev pub LeavesAsRead : Content → Type 0
@@ -39,13 +39,13 @@ abbrev pub IsNoArray : List ℕ → Type 0
 IsNoArray image = ¬ HasMark (header_of image)
 
 -- the new array, whole: it opens with its data, which has these pages
-pub record IsNew (shape : Shape) (pages : ℕ → List ℕ) (image : List ℕ) : Type 0 where
+pub record IsNew (shape : Shape) (said : ℕ → List ℕ) (image : List ℕ) : Type 0 where
   pub opens : Opens shape image (data_of shape image)
-  pub parts : HasParts shape pages image
+  pub parts : HasParts shape said image
 
 -- while an array is made: an image that could be left at first, or no array, or the new one
 abbrev pub IsOldOrNew : Shape → (ℕ → List ℕ) → Content → List ℕ → Type 0
-IsOldOrNew shape pages content image = MayLeave content image ⊎ (IsNoArray image ⊎ IsNew shape pages image)
+IsOldOrNew shape said content image = MayLeave content image ⊎ (IsNoArray image ⊎ IsNew shape said image)
 
 -- all of an array but its header, and all but its mark
 abbrev pub behind_header : Shape → List (ℕ × ℕ)

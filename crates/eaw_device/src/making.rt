@@ -45,7 +45,11 @@ pub enum FormatFault {
 /// Makes an array of this shape whose data has the pages of the source. An array that is there loses its mark first, and the new one
 /// gets its own last, with a barrier after each: if it is broken off, the old array is left as it was, or none, or the new one whole.
 /// The cells are left as they are, whatever it answers.
-pub fn make<M: Media, P: PageSource>(media: &mut M, shape: &Shape, source: &P) -> Result<(), FormatFault>
+pub fn make<M: Media, P: PageSource>(
+    media: &mut M,
+    shape: &Shape,
+    source: &P,
+) -> Result<(), FormatFault>
     // Whatever a loss of power leaves after it is the new array, and opens.
     ensures made { IsTrue M.tells → OnOk result (IsMade shape.now (P.pages source.now) (M.view media.new).content) }
     ensures sure { IsTrue M.tells → OnOk result (LeavesAsRead (M.view media.new).content) }
@@ -74,7 +78,11 @@ pub fn make<M: Media, P: PageSource>(media: &mut M, shape: &Shape, source: &P) -
     }
 }
 
-fn write_array<M: Media, P: PageSource>(media: &mut M, shape: &Shape, source: &P) -> Result<(), Failed>
+fn write_array<M: Media, P: PageSource>(
+    media: &mut M,
+    shape: &Shape,
+    source: &P,
+) -> Result<(), Failed>
     requires size { (M.view media.old).size ≡ media_len shape.now }
     ensures made { IsTrue M.tells → OnOk result (IsMade shape.now (P.pages source.now) (M.view media.new).content) }
     ensures any_moment { IsTrue M.tells → LeavesOnly (IsOldOrNew shape.now (P.pages source.now) (M.view media.old).content) (M.view media.old) (M.view media.new) }
@@ -106,7 +114,12 @@ fn drop_mark<M: Media>(media: &mut M, shape: &Shape, header: &[u8; 512]) -> Resu
 }
 
 // Writes all but the mark and the cells, and makes it durable.
-fn write_parts<M: Media, P: PageSource>(media: &mut M, shape: &Shape, source: &P, header: &[u8; 512]) -> Result<(), Failed>
+fn write_parts<M: Media, P: PageSource>(
+    media: &mut M,
+    shape: &Shape,
+    source: &P,
+    header: &[u8; 512],
+) -> Result<(), Failed>
     requires size { (M.view media.old).size ≡ media_len shape.now }
     ensures parts { IsTrue M.tells → OnOk result (HasParts shape.now (P.pages source.now) (M.view media.new).content.bytes) }
     ensures numbers { IsTrue M.tells → OnOk result (range (M.view media.new).content.bytes 8 504 ≡ range header.now 8 504) }
@@ -130,7 +143,11 @@ fn write_mark<M: Media>(media: &mut M, shape: &Shape, header: &[u8; 512]) -> Res
     media.barrier()
 }
 
-fn write_pages<M: Media, P: PageSource>(media: &mut M, shape: &Shape, source: &P) -> Result<(), Failed>
+fn write_pages<M: Media, P: PageSource>(
+    media: &mut M,
+    shape: &Shape,
+    source: &P,
+) -> Result<(), Failed>
     requires size { (M.view media.old).size ≡ media_len shape.now }
     ensures pages { IsTrue M.tells → OnOk result (HasPages shape.now (P.pages source.now) (page_count shape.now) (M.view media.new).content.bytes) }
     ensures cells { IsTrue M.tells → SameCells shape.now (M.view media.old).content.bytes (M.view media.new).content.bytes }

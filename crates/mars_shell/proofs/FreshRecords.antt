@@ -6,7 +6,7 @@ use Rattle.array_shape.specs.declared.shape.Shape.{Shape}
 use Rattle.array_shape.specs.Places.{page_count}
 use Rattle.array_image.specs.Image.{data_of}
 use Rattle.array_image.proofs.Data.{length-data_of}
-use Rattle.eaw_device.specs.Fresh.{HasPages}
+use Rattle.eaw_device.specs.Made.{HasPages}
 use Rattle.record_slots.specs.Fresh.{fresh_page, fresh_super}
 use Rattle.record_slots.proofs.MainAlone.{says_main}
 use Rattle.page_store.specs.Pairs.{Pair}
@@ -31,7 +31,7 @@ root_fresh = (refl, refl, refl, refl)
 some_pages : (shape : Shape) → 4 ≤ page_count shape
 some_pages shape = let more : shape.pages ≤ shape.loggers * shape.pages = omega (arith, le-mul_of_pos_right shape.pages shape.in_range.some_loggers) in omega (arith, more, shape.in_range.some_pages)
 
-module _ (shape : Shape) (bytes : List ℕ) (pages : HasPages shape (page_count shape) bytes) where
+module _ (shape : Shape) (bytes : List ℕ) (pages : HasPages shape fresh_page (page_count shape) bytes) where
   has_page : (p : ℕ) → p < 2 → page_bytes (data_of shape bytes) p ≡ fresh_page p
   unfolding page_bytes
   has_page p less = pages p (omega (arith, some_pages shape))

@@ -11,8 +11,10 @@ use Rattle.array_shape.specs.Numbers.{AreInRange, IsFirstBad}
 use Rattle.array_shape.specs.Places.{HasNumbers, media_len, data_len}
 use Rattle.array_image.specs.Image.{data_of}
 use Rattle.array_image.specs.Standing.{SameCells}
-use Rattle.eaw_device.specs.Fresh.{IsFresh, IsHalfFresh}
+use Rattle.eaw_device.specs.Fresh.{IsFresh}
+use Rattle.eaw_device.specs.Made.{IsOldOrNew}
 use Rattle.eaw_device.specs.Opens.{Opens}
+use Rattle.record_slots.specs.Fresh.{fresh_page}
 use Rattle.btree_pages.specs.Index.{tree}
 use Rattle.record_table.specs.Shown.{table_of}
 use Rattle.texts.specs.Written.{IsWritten}
@@ -55,13 +57,13 @@ FormatSays asked size (BadShape which given) Untold Untouched = Untouched × (Is
     ⊎ ((which ≡ MediaLength) × (given ≡ size) × (shape : Shape) × HasAsked asked shape × (size ≡ media_len shape → ⊥)))
 FormatSays asked size _ Untold Untouched = ⊥
 
--- The shape has the numbers asked for. The cells are as they were. Each image that a loss of power might have left since the entry has a
--- header that could be left at first, or is fresh after its header.
+-- The shape has the numbers asked for. The cells are as they were. Each image that a loss of power might have left since the entry could be
+-- left at first, or is no array, or is the fresh array.
 pub record IsBegun (asked : FormatNumbers) (old new : View) : Type 0 where
   pub shape : Shape
   pub numbers : HasAsked asked shape
   pub cells : SameCells shape old.content.bytes new.content.bytes
-  pub since : (image : List ℕ) → new.left_since old.moment image → IsHalfFresh shape old.content image
+  pub since : (image : List ℕ) → new.left_since old.moment image → IsOldOrNew shape fresh_page old.content image
 
 -- The medium holds a fresh array, whose data is a sound tree without records, and what a loss of power leaves opens with its data. The line
 -- of the bytes of the medium and of the data is written, or a front of it if it was cut short.

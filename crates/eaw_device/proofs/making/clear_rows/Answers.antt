@@ -1,6 +1,6 @@
 use Rattle.std.proofs.Common.{◌*◌, ℕ, ap, ◌∙◌, arith, replicate}
 use Rattle.std.proofs.lemmas.List.{take-replicate}
-use Rattle.eaw_device.proofs.fresh.clear_rows.Goals as goal
+use Rattle.eaw_device.proofs.making.clear_rows.Goals as goal
 
 pub fill_rows-requires-clause-zeros : goal.fill_rows-requires-clause-zeros
 fill_rows-requires-clause-zeros g c =

@@ -5,11 +5,11 @@ use Rattle.mars_base.specs.Bytes.{put}
 use Rattle.pcm_media.proofs.Writing.{writes_on}
 use Rattle.array_shape.specs.Places.{media_len}
 use Rattle.array_image.specs.Image.{data_of}
-use Rattle.eaw_device.specs.Fresh.{HasRows}
+use Rattle.eaw_device.specs.Made.{HasRows}
 use Rattle.logger.proofs.Ranges.{writes_failed}
-use Rattle.eaw_device.proofs.FreshLemmas.{within, rows_fit, rows_more, rows_apart}
+use Rattle.eaw_device.proofs.MadeLemmas.{within, rows_fit, rows_more, rows_apart}
 use Rattle.eaw_device.proofs.Spared.{cells_then, rows_spare}
-use Rattle.eaw_device.proofs.fresh.fill_rows.Goals as goal
+use Rattle.eaw_device.proofs.making.fill_rows.Goals as goal
 
 fits : (at p n m size : ℕ) → at ≡ p → n ≡ m → p + m ≤ size → at + n ≤ size
 fits at p n m size is long le = omega arith

@@ -4,8 +4,8 @@ use Rattle.mars_base.specs.declared.Failed.{Failed}
 use Rattle.pcm_media.specs.View.{Writes}
 use Rattle.array_image.specs.Image.{data_of}
 use Rattle.array_image.specs.Standing.{SameCells}
-use Rattle.eaw_device.specs.Fresh.{HasRows, behind_header}
-use Rattle.eaw_device.proofs.fresh.fill_rows.Given as goal
+use Rattle.eaw_device.specs.Made.{HasRows, behind_header}
+use Rattle.eaw_device.proofs.making.fill_rows.Given as goal
 
 abbrev pub invariant-loop-logger : goal.invariant-loop-logger
 invariant-loop-logger g l =

@@ -1,18 +1,18 @@
 use Rattle.std.proofs.Common.{refl, arith, ◌≡◌, ◌∙◌, sym, length}
 use Rattle.mars_base.proofs.Going.{stays}
 use Rattle.array_shape.specs.Places.{media_len}
-use Rattle.eaw_device.specs.Fresh.{IsHalfFresh}
-use Rattle.eaw_device.proofs.Formatting.{fresh_opens, settled_as_read}
-use Rattle.eaw_device.proofs.fresh.format.Goals as goal
+use Rattle.eaw_device.specs.Made.{IsOldOrNew}
+use Rattle.eaw_device.proofs.NewArrays.{made_opens, settled_as_read}
+use Rattle.eaw_device.proofs.making.make.Goals as goal
 
 pub returns-then-given-media_len : goal.returns-then-given-media_len
 returns-then-given-media_len g c =
     let now = g.M.Media.view c.args.media.now in
     record {
-      fresh = λ told. tt;
+      made = λ told. tt;
       sure = λ told. tt;
       opens = λ told. tt;
-      any_moment = λ told. stays now.moment now.left_since (IsHalfFresh c.args.shape.now now.content);
+      any_moment = λ told. stays now.moment now.left_since (IsOldOrNew c.args.shape.now (g.P.PageSource.pages c.args.source.now) now.content);
       cells = λ told h t e below below' below''. refl;
       sized = tt;
       bad_shape = (refl, c.len-given.ensures, λ is. c.if-given-media_len.true (c.len-given.ensures ∙ is ∙ sym c.media_len.ensures));
@@ -29,11 +29,11 @@ returns-in-Ok g c =
     let done = c.in-Ok.ensures in
     let sized = sym c.len-given.ensures ∙ c.if-given-media_len.false ∙ c.media_len.ensures in
     record {
-      fresh = done.fresh;
-      sure = λ told. settled_as_read new.content (done.fresh told).settled;
+      made = done.made;
+      sure = λ told. settled_as_read new.content (done.made told).settled;
       opens = λ told.
           let long : length new.content.bytes ≡ media_len c.args.shape.now = g.met.M.Media.long c.write_array.new.media told ∙ done.does.size ∙ sized in
-          fresh_opens c.args.shape.now new.content long (done.fresh told);
+          made_opens c.args.shape.now (g.P.PageSource.pages c.args.source.now) new.content long (done.made told);
       any_moment = done.any_moment;
       cells = done.cells;
       sized = sized;
@@ -49,7 +49,7 @@ pub returns-in-Err : goal.returns-in-Err
 returns-in-Err g c =
     let failed = c.in-Err.ensures in
     record {
-      fresh = λ told. tt;
+      made = λ told. tt;
       sure = λ told. tt;
       opens = λ told. tt;
       any_moment = failed.any_moment;

@@ -6,9 +6,10 @@ use Rattle.array_shape.specs.declared.shape.Shape.{Shape}
 use Rattle.array_shape.specs.Numbers.{IsFirstBad}
 use Rattle.array_shape.specs.Places.{media_len}
 use Rattle.command_words.specs.declared.words.FormatNumbers.{FormatNumbers}
+use Rattle.record_slots.specs.Fresh.{fresh_page}
 use Rattle.texts.specs.Written.{IsWritten}
 use Rattle.mars_shell.specs.Formats.{HasAsked}
-use Rattle.mars_shell.proofs.FormatLemmas.{half_fresh}
+use Rattle.mars_shell.proofs.FormatLemmas.{old_or_new}
 use Rattle.mars_shell.proofs.FreshRecords.{fresh_none}
 use Rattle.mars_shell.proofs.formatting.run_format.Goals as goal
 
@@ -46,7 +47,7 @@ returns-in-Err-Media-clause-ran g c =
           shape = shape;
           numbers = c.in-Ok.ensures.shape;
           cells = c.format.ensures.cells told;
-          since = half_fresh media.tells told shape (media.view c.args.media) (media.view c.format.new.media) (g.met.M.Media.only_now c.args.media) (c.format.ensures.any_moment told);
+          since = old_or_new media.tells told shape fresh_page (media.view c.args.media) (media.view c.format.new.media) (g.met.M.Media.only_now c.args.media) (c.format.ensures.any_moment told);
         },
       );
     }
@@ -70,7 +71,7 @@ returns-in-Ok-write_whole-clause-ran g c =
             shape = shape;
             numbers = c.in-Ok.ensures.shape;
             cells = c.format.ensures.cells told;
-            since = half_fresh media.tells told shape (media.view c.args.media) (media.view c.format.new.media) (g.met.M.Media.only_now c.args.media) (c.format.ensures.any_moment told);
+            since = old_or_new media.tells told shape fresh_page (media.view c.args.media) (media.view c.format.new.media) (g.met.M.Media.only_now c.args.media) (c.format.ensures.any_moment told);
           };
           fresh = c.in-Ok-format.ensures.fresh told;
           opens = c.in-Ok-format.ensures.opens told;
@@ -101,7 +102,7 @@ returns-in-Err-write_whole-clause-ran g c =
             shape = shape;
             numbers = c.in-Ok.ensures.shape;
             cells = c.format.ensures.cells told;
-            since = half_fresh media.tells told shape (media.view c.args.media) (media.view c.format.new.media) (g.met.M.Media.only_now c.args.media) (c.format.ensures.any_moment told);
+            since = old_or_new media.tells told shape fresh_page (media.view c.args.media) (media.view c.format.new.media) (g.met.M.Media.only_now c.args.media) (c.format.ensures.any_moment told);
           };
           fresh = c.in-Ok-format.ensures.fresh told;
           opens = c.in-Ok-format.ensures.opens told;

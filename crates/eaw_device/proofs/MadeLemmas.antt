@@ -1,5 +1,5 @@
--- Fresh pages and rows, one after another.
-use Rattle.std.proofs.Common.{◌≡◌, ℕ, zero, suc, ◌+◌, ◌-◌, ◌*◌, ◌<◌, ◌≤◌, inl, inr, List, [], ◌∷◌, length, get_or, refl, sym, ap, ◌∙◌, arith, replicate, below_more}
+-- Pages and rows of a new array, one after another.
+use Rattle.std.proofs.Common.{◌≡◌, ℕ, ◌+◌, ◌-◌, ◌*◌, ◌<◌, ◌≤◌, inl, inr, List, [], ◌∷◌, length, get_or, refl, sym, ap, subst, ◌∙◌, arith, replicate, below_more}
 use Rattle.std.proofs.lemmas.Bool.{cases_lt, cases_eq}
 use Rattle.std.proofs.lemmas.List.{ext_get_or, get_or-replicate, length-replicate}
 use Rattle.mars_base.specs.Bytes.{put, range}
@@ -12,27 +12,31 @@ use Rattle.array_shape.specs.Places.{media_len, row_at, data_at, page_count, dat
 use Rattle.array_shape.proofs.Apart.{row_end, data_end, region_end, region_fits, place_start, place_end, place_below, place_along}
 use Rattle.array_image.specs.Image.{data_of}
 use Rattle.array_image.proofs.Data.{length-data_of, data_put, data_away}
-use Rattle.record_slots.specs.Fresh.{fresh_page}
-use Rattle.record_slots.specs.Super.{part_bytes}
-use Rattle.eaw_device.specs.Fresh.{behind_header, HasPages, HasRows, HasParts}
+use Rattle.eaw_device.specs.Made.{behind_header, behind_mark, HasPages, HasRows, HasParts}
 
 -- pages of the same data
-pub same_pages : (shape : Shape) (n : ℕ) (old new : List ℕ) → data_of shape new ≡ data_of shape old → HasPages shape n old → HasPages shape n new
-same_pages shape n old new same have p lt = ap (λ (d : List ℕ). range d (512 * p) 512) same ∙ have p lt
+pub same_pages : (shape : Shape) (said : ℕ → List ℕ) (n : ℕ) (old new : List ℕ) → data_of shape new ≡ data_of shape old → HasPages shape said n old → HasPages shape said n new
+same_pages shape said n old new same have p lt = ap (λ (d : List ℕ). range d (512 * p) 512) same ∙ have p lt
 
 -- a write behind the header
 pub within : (shape : Shape) (at n i : ℕ) → 512 ≤ at → at + n ≤ media_len shape → IsOutside (behind_header shape) i → IsOutside ((at, n) ∷ []) i
 within shape at n i behind fits out = ((λ le lt. out.0 (omega arith) (omega arith)), tt)
 
--- all of it and the header lie in the array
-pub whole : (shape : Shape) (i : ℕ) → IsOutside ((0, media_len shape) ∷ []) i → IsOutside (behind_header shape) i × IsOutside ((0, 512) ∷ []) i
+-- the mark and all behind it lie in the array
+pub whole : (shape : Shape) (i : ℕ) → IsOutside ((0, media_len shape) ∷ []) i → IsOutside (behind_mark shape) i × IsOutside ((0, 8) ∷ []) i
 whole shape i out = (((λ le lt. out.0 (omega arith) (omega arith)), tt), ((λ le lt. out.0 (omega arith) (omega arith)), tt))
 
-pub length-fresh_page : (p : ℕ) → length (fresh_page p) ≡ 512
-unfolding part_bytes
-length-fresh_page zero = refl
-length-fresh_page (suc zero) = refl
-length-fresh_page (suc (suc p)) = length-replicate {A = ℕ} 512 0
+-- the numbers of the header and all behind it lie behind the mark
+pub past_mark : (shape : Shape) (i : ℕ) → IsOutside (behind_mark shape) i → IsOutside (behind_header shape) i × IsOutside ((8, 504) ∷ []) i
+past_mark shape i out = (((λ le lt. out.0 (omega arith) (omega arith)), tt), ((λ le lt. out.0 (omega arith) (omega arith)), tt))
+
+-- what is written as the numbers of a header
+pub numbers_range : (n i : ℕ) → n ≡ 504 → IsOutside ((8, 504) ∷ []) i → IsOutside ((8, n) ∷ []) i
+numbers_range n i is out = subst (λ k. IsOutside ((8, k) ∷ []) i) (sym is) out
+
+-- and as its mark
+pub mark_range : (n i : ℕ) → n ≡ 8 → IsOutside ((0, 8) ∷ []) i → IsOutside ((0, n) ∷ []) i
+mark_range n i is out = subst (λ k. IsOutside ((0, k) ∷ []) i) (sym is) out
 
 module _ (shape : Shape) where
   pub page_fits : (p : ℕ) → p < page_count shape → place_of shape (512 * p) + 512 ≤ media_len shape
@@ -44,9 +48,9 @@ module _ (shape : Shape) where
 
 module _ (shape : Shape) (image : List ℕ) (long : length image ≡ media_len shape) where
   -- one more page
-  pub page_more : (p : ℕ) (page : List ℕ) → p < page_count shape → page ≡ fresh_page p → length page ≡ 512
-      → HasPages shape p image → HasPages shape (p + 1) (put image (place_of shape (512 * p)) page)
-  page_more p page lt is size have =
+  pub page_more : (said : ℕ → List ℕ) (p : ℕ) (page : List ℕ) → p < page_count shape → page ≡ said p → length page ≡ 512
+      → HasPages shape said p image → HasPages shape said (p + 1) (put image (place_of shape (512 * p)) page)
+  page_more said p page lt is size have =
       let placed : IsPlaced shape (512 * p) (length page) = record { some = omega (arith, size); page = omega (arith, size); inside = omega (arith, size) } in
       let now : data_of shape (put image (place_of shape (512 * p)) page) ≡ put (data_of shape image) (512 * p) page = data_put shape image (512 * p) page long placed in
       let fits : 512 * p + length page ≤ length (data_of shape image) = omega (arith, length-data_of shape image, size) in
@@ -101,8 +105,9 @@ module _ (shape : Shape) (image : List ℕ) (long : length image ≡ media_len s
         ]
 
 -- the header lies before all rows and pages
-pub header_parts : (shape : Shape) (old new : List ℕ) → SameOutside ((0, 512) ∷ []) old new → HasParts shape old → HasParts shape new
-header_parts shape old new same have = record {
-  rows = λ g t lt small. range_away _ old new (row_at shape g t) 16 same (λ i le past. ((λ le' past'. omega arith), tt)) ∙ have.rows g t lt small;
-  pages = same_pages shape (page_count shape) old new (data_away shape _ old new same (λ addr lt. ((λ le past. omega (arith, place_start shape addr)), tt))) have.pages;
+pub header_parts : (shape : Shape) (said : ℕ → List ℕ) (ranges : List (ℕ × ℕ)) (old new : List ℕ) → ((i : ℕ) → 512 ≤ i → IsOutside ranges i) → SameOutside ranges old new
+    → HasParts shape said old → HasParts shape said new
+header_parts shape said ranges old new within same have = record {
+  rows = λ g t lt small. range_away ranges old new (row_at shape g t) 16 same (λ i le past. within i (omega arith)) ∙ have.rows g t lt small;
+  pages = same_pages shape said (page_count shape) old new (data_away shape ranges old new same (λ addr lt. within (place_of shape addr) (omega (arith, place_start shape addr)))) have.pages;
 }
