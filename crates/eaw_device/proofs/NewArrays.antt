@@ -3,10 +3,10 @@ use Rattle.std.proofs.Common.{◌≡◌, ◌⊎◌, ℕ, ◌+◌, ◌-◌, ◌<�
 use Rattle.std.specs.Prelude.{nat_eq}
 use Rattle.std.specs.Cmp.Lexicographic.{pointwise, same_text, other_text}
 use Rattle.std.proofs.lemmas.Bool.{cases_lt}
-use Rattle.std.proofs.lemmas.List.{ext_get_or, get_or-take, get_or-replicate, take-take}
+use Rattle.std.proofs.lemmas.List.{ext_get_or, get_or-take, take-take}
 use Rattle.mars_base.specs.Bytes.{put, range}
 use Rattle.mars_base.proofs.Puts.{get_or-put_inside}
-use Rattle.mars_base.proofs.Going.{weaker, then}
+use Rattle.mars_base.proofs.Going.{weaker}
 use Rattle.pcm_media.specs.Images.{Content, MayLeave, SameOutside, IsOutside, partly, settled, written}
 use Rattle.pcm_media.specs.View.{View, LeavesOnly}
 use Rattle.pcm_media.proofs.Left.{same_outside-put}

@@ -1,10 +1,9 @@
-use Rattle.std.proofs.Common.{◌≡◌, ◌≤◌, ℕ, List, [], ◌∷◌, inl, length, refl, sym, ap, subst, ◌∙◌, arith}
+use Rattle.std.proofs.Common.{◌≤◌, [], ◌∷◌, inl, length, refl, sym, ap, subst, ◌∙◌, arith}
 use Rattle.std.proofs.lemmas.Result.{on_ok_weaker}
 use Rattle.mars_base.proofs.Going.{weaker}
 use Rattle.pcm_media.specs.Images.{Content}
 use Rattle.pcm_media.proofs.Left.{same_bytes}
 use Rattle.array_image.proofs.Calls.{SoFar, none_yet, goes_on, ends_with, then_barrier}
-use Rattle.array_shape.specs.Places.{media_len}
 use Rattle.eaw_device.specs.Made.{IsNoArray}
 use Rattle.eaw_device.proofs.NewArrays.{has_mark, one_mark, no_mark, mark_dropped, mark_left}
 use Rattle.eaw_device.proofs.making.drop_mark.Goals.{then-starts_with+in_ok-write, else-starts_with}

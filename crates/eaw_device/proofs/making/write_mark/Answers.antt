@@ -1,8 +1,8 @@
-use Rattle.std.proofs.Common.{◌≡◌, ℕ, List, [], ◌∷◌, length, take, sym, ap, ◌∙◌, refl, arith}
+use Rattle.std.proofs.Common.{◌≡◌, [], ◌∷◌, length, take, ap, ◌∙◌, refl, arith}
 use Rattle.std.proofs.lemmas.List.{length-take-le}
 use Rattle.std.proofs.lemmas.Result.{on_ok_weaker}
 use Rattle.pcm_media.specs.Images.{settled}
-use Rattle.array_image.proofs.Calls.{SoFar, none_yet, goes_on, hands_on, then_barrier}
+use Rattle.array_image.proofs.Calls.{SoFar, none_yet, goes_on, then_barrier}
 use Rattle.eaw_device.proofs.MadeLemmas.{mark_range}
 use Rattle.eaw_device.proofs.making.write_mark.Goals as goal
 
