@@ -233,8 +233,7 @@ impl Seats {
             if self.is_offered(caller) {
                 at += 1;
                 let live = self.take_offer(caller, ending.seat(at));
-                let calls = live.calls.fitted();
-                into.push_reserved(caller, calls, at, last);
+                into.push_reserved(caller, live.calls, at, last);
             }
         }
     }

@@ -239,7 +239,6 @@ impl<S: EawStore, K: KeyIndex, H: Keeper> Core<S, K, H> {
             return Reply::NoTransaction;
         };
         let Live { calls, masks } = live;
-        let calls = calls.fitted();
         // There is room for the transaction first, so that nothing is committed that there is no memory to keep.
         match self.history.reserve(1) {
             Ok(()) => {}

@@ -73,7 +73,7 @@ impl<H: Keeper> Dones<H> {
         Ok(())
     }
 
-    /// Puts a transaction behind them, in the room that there is.
+    /// Puts a transaction behind them, in the room that there is. Where it is kept, its calls take no room that they do not need.
     pub fn push_reserved(&mut self, caller: u8, calls: Calls, at: u64, last: u64)
         requires { length self.old.items + 1 ≤ self.old.capacity }
         ensures items { self.new.items ≡ self.old.items ++ (record { caller = caller; calls = calls; at = at; last = last }) ∷ [] }
@@ -84,7 +84,7 @@ impl<H: Keeper> Dones<H> {
         match &mut self.kept {
             Some(dones) => dones.push_reserved(Done {
                 caller,
-                calls,
+                calls: calls.fitted(),
                 at,
                 last,
             }),
