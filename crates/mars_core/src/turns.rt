@@ -56,7 +56,7 @@ pub struct Core<S: EawStore, K: KeyIndex, H: Keeper> {
     alloc: Global,
     records: Records<S, K>,
     base: Base<H>,
-    seats: Seats,
+    seats: Seats<H>,
     history: Dones<H>,
     /// The transactions whose commit met a fault of the medium. They may be durable or not.
     doubt: Doubt<H>,
