@@ -14,10 +14,9 @@ use Rattle.history.specs.declared.transaction.Done.{Done}
 use Rattle.caller_steps.specs.State.{State, Offer, unsettled, offers_with, calls_of}
 use Rattle.caller_steps.specs.Offers.{is_offered, offerers, done_in, with_done, with_group, group_in, without}
 use Rattle.caller_steps.proofs.Offering.{is_in, in_if, offers_apart, one_out, one_longer, group_apart, without_apart}
-use Rattle.mars_core.specs.declared.seat.Seat.{Seat}
 use Rattle.mars_core.specs.declared.seat.Ending.{Ending}
 use Rattle.mars_core.specs.declared.seat.Ending.TheVariants.{Committed, Doubtful}
-use Rattle.mars_core.specs.Seats.{Seats, offer_of, live_in, offers_in, offered_in, calls_in, live_of, bare, seat_of, ended, IsOf, Ends, Given}
+use Rattle.mars_core.specs.Seats.{Seat, Seats, offer_of, live_in, offers_in, offered_in, calls_in, live_of, bare, seat_of, ended, IsOf, Ends, Given}
 use Rattle.mars_core.proofs.Seating.{placed, free_beyond}
 
 -- ---- those of the first numbers that a test finds

@@ -14,10 +14,8 @@ use Rattle.caller_steps.specs.State.{Offer, unoffered, unsettled, offers_with}
 use Rattle.caller_steps.specs.Offers.{is_offered, is_unoffered}
 use Rattle.caller_steps.specs.Locked.{Blocks}
 use Rattle.caller_steps.proofs.Offering.{offers_here, offers_apart}
-use Rattle.mars_core.specs.declared.live.Live.{Live}
-use Rattle.mars_core.specs.declared.seat.Seat.{Seat}
 use Rattle.mars_core.specs.declared.seat.Seat.TheVariants as place
-use Rattle.mars_core.specs.Seats.{Places, Seats, seat_in, live_of, offer_of, calls_in, live_in, offers_in, calls_at, bare, Seated, Given, IsMasked, AreMasked}
+use Rattle.mars_core.specs.Seats.{Live, Seat, Places, Seats, seat_in, live_of, offer_of, calls_in, live_in, offers_in, calls_at, bare, Seated, Given, IsMasked, AreMasked}
 
 pub length-push : (places : Places) (one : Seat) (n : ℕ) → length places ≡ n → length (places ++ one ∷ []) ≡ n + 1
 length-push [] one n is = omega (arith, is)

@@ -8,13 +8,20 @@ use Rattle.history.specs.declared.transaction.Done.{Done}
 use Rattle.caller_steps.specs.State.{State, Offer, unoffered, offered, unsettled, offers_with}
 use Rattle.caller_steps.specs.Offers.{offerers, with_group, group_in, without}
 use Rattle.mars_core.specs.Masks.{AreMasksOf}
-use Rattle.mars_core.specs.declared.live.Live.{Live}
+use Rattle.mars_core.specs.declared.live.Live as of_calls
 use Rattle.mars_core.specs.declared.offer.Offer as kept
 use Rattle.mars_core.specs.declared.offer.Offer.TheVariants as given
-use Rattle.mars_core.specs.declared.seat.Seat.{Seat}
+use Rattle.mars_core.specs.declared.seat.Seat as of_caller
 use Rattle.mars_core.specs.declared.seat.Seat.TheVariants as place
 use Rattle.mars_core.specs.declared.seat.Ending.{Ending}
 use Rattle.mars_core.specs.declared.seat.Ending.TheVariants.{Committed, Doubtful}
+
+-- a live transaction: its granted calls, and the masks of what they touched
+abbrev pub Live : Type 0
+Live = of_calls.Live Granted
+
+abbrev pub Seat : Type 0
+Seat = of_caller.Seat Granted
 
 -- for each caller its seat
 abbrev pub Places : Type 0

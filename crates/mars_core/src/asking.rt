@@ -18,6 +18,7 @@ use crate::seats::Seats;
 use crate::table_call::TableCall;
 use eaw_face::EawStore;
 use history::{Call, Reply};
+use noted::{Keeper, LiveCalls};
 use page_store::KeyIndex;
 use record_table::{Records, TableFault};
 use std::alloc::Global;
@@ -100,16 +101,16 @@ pub fn work<S: EawStore, K: KeyIndex>(
 
 /// Answers a call of a live transaction, which comes back, with the call if it was granted. `asked` is what the call asks of the records,
 /// and `seats` has the transactions of the others, which are not asked for locks if none of them is known to stand in the way.
-pub fn answer<S: EawStore, K: KeyIndex>(
+pub fn answer<S: EawStore, K: KeyIndex, H: Keeper>(
     alloc: Global,
     records: &mut Records<S, K>,
-    seats: &Seats,
+    seats: &Seats<H>,
     caller: u8,
-    live: Live,
+    live: Live<LiveCalls<H>>,
     call: &Call,
     asked: TableCall<'_>,
     locks: Locks,
-) -> (Live, Reply)
+) -> (Live<LiveCalls<H>>, Reply)
     requires said { call_of asked ≡ call.now }
     requires inside { caller < (S.view records.old.store).shape.numbers }
     requires few { length seats.now.places ≤ 64 }

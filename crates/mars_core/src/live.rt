@@ -3,24 +3,24 @@ ghost use Rattle.std.specs.Prelude.{◌≡◌, [], false};
 ghost use Rattle.mars_core.specs.Masks.{AreMasksOf};
 
 use crate::masks::Masks;
-use history::Calls;
+use noted::{Keeper, LiveCalls};
 use std::alloc::Global;
 
 /// The calls, each with its reply, and what they touched where the tables have the names that are kept with the seats.
 #[derive(Drop)]
-pub struct Live {
-    pub calls: Calls,
+pub struct Live<C> {
+    pub calls: C,
     pub masks: Masks,
 }
 
-impl Live {
+impl<H: Keeper> Live<LiveCalls<H>> {
     /// A transaction without calls.
-    pub fn new(alloc: Global) -> Live
+    pub fn new(alloc: Global) -> Live<LiveCalls<H>>
         ensures calls { result.calls ≡ [] }
         ensures masks { AreMasksOf (λ stripe mode. false) result.masks }
     {
         Live {
-            calls: Calls::new(alloc),
+            calls: LiveCalls::new(alloc),
             masks: Masks::none(),
         }
     }

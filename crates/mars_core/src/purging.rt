@@ -11,14 +11,15 @@ ghost use Rattle.mars_core.specs.Seats.{calls_at};
 use crate::seats::Seats;
 use eaw_face::EawStore;
 use history::Call;
+use noted::Keeper;
 use page_store::KeyIndex;
 use record_slots::Name;
 use record_table::{Records, TableFault};
 
 // Tries a key without a record, unless a live transaction touches its stripe. Returns whether it was taken out.
-fn try_key<S: EawStore, K: KeyIndex>(
+fn try_key<S: EawStore, K: KeyIndex, H: Keeper>(
     records: &mut Records<S, K>,
-    seats: &Seats,
+    seats: &Seats<H>,
     caller: u8,
     table: u8,
     name: &Name,
@@ -44,9 +45,9 @@ fn try_key<S: EawStore, K: KeyIndex>(
 }
 
 // The same with each key of a table, by rising key. Returns how many were taken out.
-fn clear_table<S: EawStore, K: KeyIndex>(
+fn clear_table<S: EawStore, K: KeyIndex, H: Keeper>(
     records: &mut Records<S, K>,
-    seats: &Seats,
+    seats: &Seats<H>,
     caller: u8,
     table: u8,
     name: &Name,
@@ -83,9 +84,9 @@ fn clear_table<S: EawStore, K: KeyIndex>(
 
 /// Tries each key that has no record, and whose stripe no live transaction touches, once, by rising table and key, as this caller's number.
 /// Returns how many were taken out.
-pub fn clear<S: EawStore, K: KeyIndex>(
+pub fn clear<S: EawStore, K: KeyIndex, H: Keeper>(
     records: &mut Records<S, K>,
-    seats: &Seats,
+    seats: &Seats<H>,
     caller: u8,
 ) -> Result<u32, TableFault>
     requires inside { caller < (S.view records.old.store).shape.numbers }

@@ -18,19 +18,20 @@ use crate::seat::{Ending, Seat};
 use array_shape::NumberSet;
 use history::Call;
 use mars_base::NoMemory;
-use noted::{Dones, Keeper};
+use noted::{Dones, Keeper, LiveCalls};
 use record_slots::Names;
 use std::alloc::Global;
 use std::marker::Model;
 use std::mem::replace;
 
+/// A seat for each caller, and the names of the tables. The keeper says whether the calls of live transactions stay in memory.
 #[derive(Drop)]
-pub struct Seats {
+pub struct Seats<H: Keeper> {
     names: Names,
-    places: Vec<Seat>,
+    places: Vec<Seat<LiveCalls<H>>>,
 }
 
-impl Model for Seats {
+impl<H: Keeper> Model for Seats<H> {
     ghost use Rattle.std.specs.Prelude.{◌≤◌, length};
     ghost use Rattle.mars_core.specs.Seats as seats;
 
@@ -41,9 +42,9 @@ impl Model for Seats {
     ghost invariant = { λ s. seats.AreMasked s.names s.places.items × (length s.names ≤ 8) };
 }
 
-impl Seats {
+impl<H: Keeper> Seats<H> {
     /// `count` callers without a transaction, beside tables of these names.
-    pub fn new(alloc: Global, names: Names, count: u8) -> Result<Seats, NoMemory>
+    pub fn new(alloc: Global, names: Names, count: u8) -> Result<Seats<H>, NoMemory>
         ensures names { IfOk result (λ seats. seats.names ≡ names) }
         ensures count { IfOk result (λ seats. length seats.places ≡ count) }
         ensures none { IfOk result (λ seats. (caller : ℕ) → live_in seats caller ≡ None) }
@@ -129,7 +130,7 @@ impl Seats {
     }
 
     /// Removes and returns the caller's live transaction.
-    pub fn take(&mut self, caller: u8) -> Option<Live>
+    pub fn take(&mut self, caller: u8) -> Option<Live<LiveCalls<H>>>
         requires inside { caller < length self.old.places }
         requires unoffered { offers_in self.old caller ≡ unoffered }
         ensures live { calls_in result ≡ live_in self.old caller }
@@ -152,7 +153,7 @@ impl Seats {
     }
 
     /// Makes this the caller's live transaction.
-    pub fn put(&mut self, caller: u8, live: Live)
+    pub fn put(&mut self, caller: u8, live: Live<LiveCalls<H>>)
         requires inside { caller < length self.old.places }
         requires unoffered { offers_in self.old caller ≡ unoffered }
         requires masked { IsMasked self.old.names live }
@@ -162,7 +163,7 @@ impl Seats {
     }
 
     /// Makes this the caller's live transaction, which it has offered.
-    pub fn put_offered(&mut self, caller: u8, live: Live)
+    pub fn put_offered(&mut self, caller: u8, live: Live<LiveCalls<H>>)
         requires inside { caller < length self.old.places }
         requires masked { IsMasked self.old.names live }
         ensures { Given self.old caller (Some live.calls) offered self.new }
@@ -201,7 +202,7 @@ impl Seats {
     }
 
     // Removes and returns the transaction that the caller has offered, and leaves this in its place.
-    fn take_offer(&mut self, caller: u8, seat: Seat) -> Live
+    fn take_offer(&mut self, caller: u8, seat: Seat<LiveCalls<H>>) -> Live<LiveCalls<H>>
         requires inside { caller < length self.old.places }
         requires offered { offers_in self.old caller ≡ offered }
         requires ended { live_of seat ≡ None }
@@ -216,13 +217,7 @@ impl Seats {
 
     /// Ends all transactions that were offered, as one group, and puts them behind those of a list that has room for them, by rising caller.
     /// `before` transactions were committed before it, and `last` is the number of the group's last one.
-    pub fn take_offered<H: Keeper>(
-        &mut self,
-        ending: Ending,
-        before: u64,
-        last: u64,
-        into: &mut Dones<H>,
-    )
+    pub fn take_offered(&mut self, ending: Ending, before: u64, last: u64, into: &mut Dones<H>)
         requires few { length self.old.places ≤ 64 }
         requires last { before + length (offered_in self.old) ≡ last }
         requires room { length into.old.items + length (offered_in self.old) ≤ into.old.capacity }
@@ -233,8 +228,7 @@ impl Seats {
             if self.is_offered(caller) {
                 at += 1;
                 let live = self.take_offer(caller, ending.seat(at));
-                let calls = live.calls.fitted();
-                into.push_reserved(caller, calls, at, last);
+                into.push_reserved(caller, live.calls, at, last);
             }
         }
     }

@@ -56,7 +56,7 @@ pub struct Core<S: EawStore, K: KeyIndex, H: Keeper> {
     alloc: Global,
     records: Records<S, K>,
     base: Base<H>,
-    seats: Seats,
+    seats: Seats<H>,
     history: Dones<H>,
     /// The transactions whose commit met a fault of the medium. They may be durable or not.
     doubt: Doubt<H>,
@@ -239,7 +239,6 @@ impl<S: EawStore, K: KeyIndex, H: Keeper> Core<S, K, H> {
             return Reply::NoTransaction;
         };
         let Live { calls, masks } = live;
-        let calls = calls.fitted();
         // There is room for the transaction first, so that nothing is committed that there is no memory to keep.
         match self.history.reserve(1) {
             Ok(()) => {}

@@ -1,9 +1,10 @@
 // Committed transactions.
 ghost use Rattle.std.specs.Prelude.{◌≡◌, ◌≤◌, ◌+◌, ◌^◌, [], ◌∷◌, ◌++◌, List, length, IsTrue, IsSome, IfSome, OnOk};
 
+use crate::calls::LiveCalls;
 use crate::keeper::Keeper;
 use crate::notes::DoneNotes;
-use history::{Calls, Done};
+use history::Done;
 use mars_base::NoMemory;
 use std::alloc::Global;
 use std::marker::{Model, PhantomData};
@@ -73,22 +74,26 @@ impl<H: Keeper> Dones<H> {
         Ok(())
     }
 
-    /// Puts a transaction behind them, in the room that there is.
-    pub fn push_reserved(&mut self, caller: u8, calls: Calls, at: u64, last: u64)
+    /// Puts a transaction behind them, in the room that there is. Where it is kept, its calls take no room that they do not need.
+    pub fn push_reserved(&mut self, caller: u8, calls: LiveCalls<H>, at: u64, last: u64)
         requires { length self.old.items + 1 ≤ self.old.capacity }
         ensures items { self.new.items ≡ self.old.items ++ (record { caller = caller; calls = calls; at = at; last = last }) ∷ [] }
         ensures capacity { self.new.capacity ≡ self.old.capacity }
     {
+        let (calls, told) = calls.into_parts();
         self.count += 1;
-        self.notes = self.notes.then(caller, &calls, at, last);
-        match &mut self.kept {
-            Some(dones) => dones.push_reserved(Done {
+        self.notes = self.notes.then(caller, &told, at, last);
+        let Some(calls) = calls else {
+            self.kept = None;
+            return;
+        };
+        if let Some(dones) = &mut self.kept {
+            dones.push_reserved(Done {
                 caller,
-                calls,
+                calls: calls.fitted(),
                 at,
                 last,
-            }),
-            None => drop(calls),
+            });
         }
     }
 

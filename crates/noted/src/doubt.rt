@@ -1,10 +1,11 @@
 // The transactions of which it is not known whether they were committed.
 ghost use Rattle.std.specs.Prelude.{◌≡◌, [], ◌∷◌, IsTrue, IsSome, IfSome};
 
+use crate::calls::LiveCalls;
 use crate::dones::Dones;
 use crate::keeper::Keeper;
 use crate::notes::DoneNotes;
-use history::{Calls, Done};
+use history::Done;
 use std::marker::{Model, PhantomData};
 
 #[derive(Drop)]
@@ -50,24 +51,22 @@ impl<H: Keeper> Doubt<H> {
     }
 
     /// One that was committed alone. It takes no memory.
-    pub fn single(caller: u8, calls: Calls, at: u64) -> Doubt<H>
+    pub fn single(caller: u8, calls: LiveCalls<H>, at: u64) -> Doubt<H>
         ensures { result ≡ (record { caller = caller; calls = calls; at = at; last = at }) ∷ [] }
     {
-        let notes = DoneNotes::new().then(caller, &calls, at, at);
-        let kept = if H::keeps() {
-            Some(Doubted::Single(Some(Done {
+        let (calls, told) = calls.into_parts();
+        let kept = match calls {
+            Some(calls) => Some(Doubted::Single(Some(Done {
                 caller,
                 calls,
                 at,
                 last: at,
-            })))
-        } else {
-            drop(calls);
-            None
+            }))),
+            None => None,
         };
         Doubt {
             kept,
-            notes,
+            notes: DoneNotes::new().then(caller, &told, at, at),
             keeper: PhantomData,
         }
     }

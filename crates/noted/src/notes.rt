@@ -2,11 +2,39 @@
 ghost use Rattle.std.specs.Prelude.{◌≡◌, [], ◌∷◌, ◌++◌, List};
 ghost use base.Fml.{ftrue};
 ghost use Rattle.history.specs.Rows.{NamedRows};
+ghost use Rattle.history.specs.declared.call.Call.{Call};
+ghost use Rattle.history.specs.declared.call.Reply.{Reply};
 ghost use Rattle.history.specs.declared.transaction.Done.{Done};
 
-use history::{Calls, Rows};
+use history::{Call, Reply, Rows};
 use record_slots::Name;
 use std::marker::Model;
+
+/// The granted calls of a transaction, each with its reply.
+#[derive(Drop)]
+pub struct CallNotes {
+    pub ghost entries: { List (Call × Reply) },
+}
+
+impl Model for CallNotes {
+    ghost also_owns = { λ _. ftrue };
+}
+
+impl CallNotes {
+    pub fn new() -> CallNotes
+        ensures { result.entries ≡ [] }
+    {
+        CallNotes {}
+    }
+
+    /// The same with one more call behind them.
+    #[inline(always)]
+    pub fn then(&self, _call: &Call, _reply: &Reply) -> CallNotes
+        ensures { result.entries ≡ self.now.entries ++ (_call.now, _reply.now) ∷ [] }
+    {
+        CallNotes {}
+    }
+}
 
 /// Committed transactions, in the order of their commits.
 #[derive(Drop)]
@@ -27,8 +55,8 @@ impl DoneNotes {
 
     /// The same with one more transaction behind them.
     #[inline(always)]
-    pub fn then(&self, _caller: u8, _calls: &Calls, _at: u64, _last: u64) -> DoneNotes
-        ensures { result.dones ≡ self.now.dones ++ (record { caller = _caller; calls = _calls.now; at = _at; last = _last }) ∷ [] }
+    pub fn then(&self, _caller: u8, _calls: &CallNotes, _at: u64, _last: u64) -> DoneNotes
+        ensures { result.dones ≡ self.now.dones ++ (record { caller = _caller; calls = _calls.now.entries; at = _at; last = _last }) ∷ [] }
     {
         DoneNotes {}
     }

@@ -1,7 +1,13 @@
-use Rattle.std.proofs.Common.{refl}
+use Rattle.std.proofs.Common.{◌<◌, length, refl, sym, subst}
 use Rattle.mars_core.specs.declared.seat.Seat.TheVariants as place
-use Rattle.mars_core.proofs.Seating.{seated}
+use Rattle.mars_core.specs.Seats.{Seats}
+use Rattle.mars_core.proofs.Seating.{seated, masked}
 use Rattle.mars_core.proofs.seats.Seats.end.Goals as goal
 
 pub returns : goal.returns
-returns c = seated c.args.self.now c.self.inside.names c.self.inside.places.items c.args.caller c.from.result c.self.view_is c.from.ensures c.requires.inside place.Free refl c.requires.unoffered
+returns g c = seated c.args.self.now c.self.inside.names c.self.inside.places.items c.args.caller c.from.result c.self.view_is c.from.ensures c.requires.inside place.Free refl c.requires.unoffered
+
+pub invariant_of-self : goal.invariant_of-self
+invariant_of-self g c =
+    let inside : c.args.caller < length c.self.inside.places.items = subst (λ (s : Seats). c.args.caller < length s.places) (sym c.self.view_is) c.requires.inside in
+    (masked c.self.inside.names c.self.inside.places.items c.args.caller c.from.result c.from.ensures inside place.Free c.self.invariant.0 tt, c.self.invariant.1)

@@ -14,10 +14,10 @@ touch_is : (call : Call) (masks : Masks) {one other : Seats} → one ≡ other �
 touch_is call masks is are = subst (λ (s : Seats). AreMasksOf (touches s.names call) masks) is are
 
 pub loop-other-init : goal.loop-other-init
-loop-other-init c = λ holder lt blocks. absurd (omega (arith, lt))
+loop-other-init g c = λ holder lt blocks. absurd (omega (arith, lt))
 
 pub returns-then-clash-clause-busy : goal.returns-then-clash-clause-busy
-returns-then-clash-clause-busy c =
+returns-then-clash-clause-busy g c =
     let asked = touches c.args.self.now.names c.args.call.now in
     let taken = touched c.args.self.now.names (calls_at c.args.self.now c.loop-other.other) in
     let meets = MatchBool-at_true ((stripe : ℕ) × IsTrue (clash (asked stripe) (taken stripe))) ((stripe : ℕ) → IsFalse (clash (asked stripe) (taken stripe)))
@@ -25,7 +25,7 @@ returns-then-clash-clause-busy c =
     ((c.if-other-caller.true, meets), c.loop-other.invariant)
 
 pub loop-other-preserved : goal.loop-other-preserved
-loop-other-preserved c = elim c.else-other-caller.branch [
+loop-other-preserved g c = elim c.else-other-caller.branch [
   | else-other-caller-via-then-other-caller+else-clash w ↦ (let asked = touches c.args.self.now.names c.args.call.now in
       let taken = touched c.args.self.now.names (calls_at c.args.self.now c.loop-other.other) in
       free_apart c.args.self.now c.args.caller c.args.call.now c.loop-other.other c.loop-other.invariant
@@ -35,6 +35,6 @@ loop-other-preserved c = elim c.else-other-caller.branch [
 ]
 
 pub returns-clause-free : goal.returns-clause-free
-returns-clause-free c =
+returns-clause-free g c =
     let all = ap (λ (seats : Seats). length seats.places) (sym c.self.view_is) in
     free_all c.args.self.now c.args.caller c.args.call.now c.loop-other.other (omega (arith, all, c.len-other-end.ensures, c.loop-other-test.false)) c.loop-other.invariant

@@ -5,4 +5,4 @@ use Rattle.mars_core.proofs.seats.Seats.new.Given as goal
 
 -- so many callers with free seats
 abbrev pub invariant-loop-caller : goal.invariant-loop-caller
-invariant-loop-caller l = (length l.places.items ≡ l._caller) × ((caller : ℕ) → seat_in l.places.items caller ≡ place.Free)
+invariant-loop-caller g l = (length l.places.items ≡ l._caller) × ((caller : ℕ) → seat_in l.places.items caller ≡ place.Free)

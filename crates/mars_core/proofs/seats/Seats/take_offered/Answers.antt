@@ -36,7 +36,7 @@ loop-caller-preserved g c =
             ended = subst (λ (x : List Done × ℕ × Seats). HasEnded c.args.ending c.args.before c.args.last (l.caller + 1) old was x.0 x.1 x.2) (λ i. (sym (ap (λ (v : Roomy). v.items) w.into-is) i, sym w.at-is i, sym w.self-is i))
                 (one_taken c.args.ending c.args.before c.args.last old was l.caller l.into.items l.at l.self e (sym c.is_offered.ensures ∙ w.if-is_offered.true) w.take_offer-live.result.calls w.take_offer-live.ensures.live
                 w.take_offer-live.new.self (l.at + 1) refl (left_in c.args.ending l.self w.take_offer-live.new.self l.caller (l.at + 1) w.seat.result within w.seat.ensures w.take_offer-live.ensures.after)
-                w.fitted-calls.result w.fitted-calls.ensures w.push_reserved.new.self.items w.push_reserved.ensures.items);
+                w.take_offer-live.result.calls refl w.push_reserved.new.self.items w.push_reserved.ensures.items);
             room = subst (λ (v : Roomy). length was + length (offered_in old) ≤ v.capacity) (sym w.into-is) (subst (λ (n : ℕ). length was + length (offered_in old) ≤ n) (sym w.push_reserved.ensures.capacity) l.invariant.room);
           })
       | else-is_offered w ↦ record {

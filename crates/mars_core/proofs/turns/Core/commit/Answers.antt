@@ -38,8 +38,8 @@ laws_at g store = record {
 
 pub invariant_of-self-in-Err : goal.invariant_of-self-in-Err
 invariant_of-self-in-Err g c = kept_same g.S.EawStore.tells g.S.EawStore.opens g.K.KeyIndex.index (pages_of (g.S.EawStore.view c.self.inside.records.store) c.self.inside.records) (state_at g.K.KeyIndex.index (g.S.EawStore.view c.self.inside.records.store) c.self.inside.seats.names (table_of c.self.inside.base) c.self.inside.history.items (live_in c.self.inside.seats) (offers_in c.self.inside.seats) c.self.inside.doubt) _
-    (length c.self.inside.seats.places) (length c.put.new.self.places) c.self.inside.base c.self.invariant (c.put.ensures.count ∙ c.take.ensures.out.count) (let back = changed_back (live_in c.self.inside.seats) c.args.caller None (Some c.fitted-calls.result) (live_in c.take.new.self) (live_in c.put.new.self) c.take.ensures.out.live
-    c.put.ensures.live (sym c.take.ensures.live ∙ ap calls_in c.in-Some.is ∙ ap (λ (cs : Granted). (let o : Option Granted = Some cs in o)) (sym c.fitted-calls.ensures)) in
+    (length c.self.inside.seats.places) (length c.put.new.self.places) c.self.inside.base c.self.invariant (c.put.ensures.count ∙ c.take.ensures.out.count) (let back = changed_back (live_in c.self.inside.seats) c.args.caller None (Some c.in-Some.live.calls) (live_in c.take.new.self) (live_in c.put.new.self) c.take.ensures.out.live
+    c.put.ensures.live (sym c.take.ensures.live ∙ ap calls_in c.in-Some.is) in
     λ j. state_at g.K.KeyIndex.index (g.S.EawStore.view c.self.inside.records.store) ((c.put.ensures.names ∙ c.take.ensures.out.names) j) (table_of c.self.inside.base) (c.reserve.ensures.items j) (back j) ((c.put.ensures.offers ∙ c.take.ensures.out.offers) j) c.self.inside.doubt)
 
 pub returns-in-Err : goal.returns-in-Err
@@ -47,8 +47,8 @@ returns-in-Err g c = record {
   steps = subst (λ (h : Held g.row.S.Denot). Steps g.S.EawStore.tells c.args.caller Commit (core_of g.S.EawStore.opens g.K.KeyIndex.index (g.S.EawStore.view h.records.store) h)
       (core_of g.S.EawStore.opens g.K.KeyIndex.index (g.S.EawStore.view c.self.inside.records.store)
       (record { records = c.self.inside.records; base = c.self.inside.base; seats = c.put.new.self; history = c.reserve.new.self.items; doubt = c.self.inside.doubt })) NoMemory) c.self.view_is
-      (unkept g.S.EawStore.tells g.S.EawStore.opens g.K.KeyIndex.index (pages_of (g.S.EawStore.view c.self.inside.records.store) c.self.inside.records) (state_at g.K.KeyIndex.index (g.S.EawStore.view c.self.inside.records.store) c.self.inside.seats.names (table_of c.self.inside.base) c.self.inside.history.items (live_in c.self.inside.seats) (offers_in c.self.inside.seats) c.self.inside.doubt) _ (record { indexed = refl; dead = refl }) (length c.self.inside.seats.places) c.self.inside.base c.self.invariant (subst (λ (h : Held g.row.S.Denot). IsAlive (g.S.EawStore.view h.records.store)) (sym c.self.view_is) c.requires.alive) c.args.caller c.fitted-calls.result (sym c.take.ensures.live ∙ ap calls_in c.in-Some.is ∙ ap (λ (cs : Granted). (let o : Option Granted = Some cs in o)) (sym c.fitted-calls.ensures)) (subst (λ (h : Held g.row.S.Denot). offers_in h.seats c.args.caller ≡ unoffered) (sym c.self.view_is) c.requires.unoffered) (let back = changed_back (live_in c.self.inside.seats) c.args.caller None (Some c.fitted-calls.result) (live_in c.take.new.self) (live_in c.put.new.self) c.take.ensures.out.live
-      c.put.ensures.live (sym c.take.ensures.live ∙ ap calls_in c.in-Some.is ∙ ap (λ (cs : Granted). (let o : Option Granted = Some cs in o)) (sym c.fitted-calls.ensures)) in
+      (unkept g.S.EawStore.tells g.S.EawStore.opens g.K.KeyIndex.index (pages_of (g.S.EawStore.view c.self.inside.records.store) c.self.inside.records) (state_at g.K.KeyIndex.index (g.S.EawStore.view c.self.inside.records.store) c.self.inside.seats.names (table_of c.self.inside.base) c.self.inside.history.items (live_in c.self.inside.seats) (offers_in c.self.inside.seats) c.self.inside.doubt) _ (record { indexed = refl; dead = refl }) (length c.self.inside.seats.places) c.self.inside.base c.self.invariant (subst (λ (h : Held g.row.S.Denot). IsAlive (g.S.EawStore.view h.records.store)) (sym c.self.view_is) c.requires.alive) c.args.caller c.in-Some.live.calls (sym c.take.ensures.live ∙ ap calls_in c.in-Some.is) (subst (λ (h : Held g.row.S.Denot). offers_in h.seats c.args.caller ≡ unoffered) (sym c.self.view_is) c.requires.unoffered) (let back = changed_back (live_in c.self.inside.seats) c.args.caller None (Some c.in-Some.live.calls) (live_in c.take.new.self) (live_in c.put.new.self) c.take.ensures.out.live
+      c.put.ensures.live (sym c.take.ensures.live ∙ ap calls_in c.in-Some.is) in
       λ j. state_at g.K.KeyIndex.index (g.S.EawStore.view c.self.inside.records.store) ((c.put.ensures.names ∙ c.take.ensures.out.names) j) (table_of c.self.inside.base) (c.reserve.ensures.items j) (back j) ((c.put.ensures.offers ∙ c.take.ensures.out.offers) j) c.self.inside.doubt));
   sends = subst (λ (h : Held g.row.S.Denot). Mirrors g.S.EawStore.tells (g.S.EawStore.view h.records.store) (g.S.EawStore.view c.self.inside.records.store)) c.self.view_is (sends_none g.S.EawStore.tells (g.S.EawStore.view c.self.inside.records.store));
   not_busy = refl;
@@ -58,7 +58,7 @@ pub invariant_of-self-in-Ok-commit : goal.invariant_of-self-in-Ok-commit
 invariant_of-self-in-Ok-commit g c = committed_keeps g.S.EawStore.tells g.S.EawStore.opens g.K.KeyIndex.index g.met.S.EawStore.one_data (pages_of (g.S.EawStore.view c.self.inside.records.store) c.self.inside.records) (pages_of (g.S.EawStore.view c.commit.new.self.store) c.commit.new.self)
     (laws_at g c.self.inside.records.store) (laws_at g c.commit.new.self.store) (state_at g.K.KeyIndex.index (g.S.EawStore.view c.self.inside.records.store) c.self.inside.seats.names (table_of c.self.inside.base) c.self.inside.history.items (live_in c.self.inside.seats) (offers_in c.self.inside.seats) c.self.inside.doubt) (state_at g.K.KeyIndex.index (g.S.EawStore.view c.commit.new.self.store) c.take.new.self.names (table_of c.self.inside.base) c.push_reserved.new.self.items (live_in c.take.new.self) (offers_in c.take.new.self) c.self.inside.doubt) (record { indexed = refl; dead = refl }) (record { indexed = refl; dead = refl })
     c.take.ensures.out.names c.take.ensures.out.offers refl (length c.self.inside.seats.places) (length c.take.new.self.places) c.take.ensures.out.count c.self.inside.base c.self.invariant
-    (subst (λ (h : Held g.row.S.Denot). IsAlive (g.S.EawStore.view h.records.store)) (sym c.self.view_is) c.requires.alive) c.args.caller c.fitted-calls.result (sym c.take.ensures.live ∙ ap calls_in c.in-Some.is ∙ ap (λ (cs : Granted). (let o : Option Granted = Some cs in o)) (sym c.fitted-calls.ensures)) (subst (λ (h : Held g.row.S.Denot). offers_in h.seats c.args.caller ≡ unoffered) (sym c.self.view_is) c.requires.unoffered) (record { caller = c.args.caller; calls = c.fitted-calls.result; at = c.count-at.result + 1; last = c.count-at.result + 1 }) (λ j. record { caller = c.args.caller; calls = c.fitted-calls.result; at = c.count-at.ensures.count j + 1; last = c.count-at.ensures.count j + 1 }) 0 (c.in-Ok-commit.ensures.does 0) c.take.ensures.out.live (c.push_reserved.ensures.items ∙ ap (λ (hs : List Done). hs ++ (record { caller = c.args.caller; calls = c.fitted-calls.result; at = c.count-at.result + 1; last = c.count-at.result + 1 }) ∷ []) c.reserve.ensures.items) refl c.in-Ok-commit.ensures.free
+    (subst (λ (h : Held g.row.S.Denot). IsAlive (g.S.EawStore.view h.records.store)) (sym c.self.view_is) c.requires.alive) c.args.caller c.in-Some.live.calls (sym c.take.ensures.live ∙ ap calls_in c.in-Some.is) (subst (λ (h : Held g.row.S.Denot). offers_in h.seats c.args.caller ≡ unoffered) (sym c.self.view_is) c.requires.unoffered) (record { caller = c.args.caller; calls = c.in-Some.live.calls; at = c.count-at.result + 1; last = c.count-at.result + 1 }) (λ j. record { caller = c.args.caller; calls = c.in-Some.live.calls; at = c.count-at.ensures.count j + 1; last = c.count-at.ensures.count j + 1 }) 0 (c.in-Ok-commit.ensures.does 0) c.take.ensures.out.live (c.push_reserved.ensures.items ∙ ap (λ (hs : List Done). hs ++ (record { caller = c.args.caller; calls = c.in-Some.live.calls; at = c.count-at.result + 1; last = c.count-at.result + 1 }) ∷ []) c.reserve.ensures.items) refl c.in-Ok-commit.ensures.free
 
 pub returns-in-Ok-commit : goal.returns-in-Ok-commit
 returns-in-Ok-commit g c = record {
@@ -68,7 +68,7 @@ returns-in-Ok-commit g c = record {
       (committed_steps g.S.EawStore.tells g.S.EawStore.opens g.K.KeyIndex.index g.met.S.EawStore.one_data (pages_of (g.S.EawStore.view c.self.inside.records.store) c.self.inside.records) (pages_of (g.S.EawStore.view c.commit.new.self.store) c.commit.new.self)
       (laws_at g c.self.inside.records.store) (laws_at g c.commit.new.self.store) (state_at g.K.KeyIndex.index (g.S.EawStore.view c.self.inside.records.store) c.self.inside.seats.names (table_of c.self.inside.base) c.self.inside.history.items (live_in c.self.inside.seats) (offers_in c.self.inside.seats) c.self.inside.doubt) (state_at g.K.KeyIndex.index (g.S.EawStore.view c.commit.new.self.store) c.take.new.self.names (table_of c.self.inside.base) c.push_reserved.new.self.items (live_in c.take.new.self) (offers_in c.take.new.self) c.self.inside.doubt) (record { indexed = refl; dead = refl }) (record { indexed = refl; dead = refl })
       c.take.ensures.out.names c.take.ensures.out.offers refl (length c.self.inside.seats.places) (length c.take.new.self.places) c.take.ensures.out.count c.self.inside.base c.self.invariant
-      (subst (λ (h : Held g.row.S.Denot). IsAlive (g.S.EawStore.view h.records.store)) (sym c.self.view_is) c.requires.alive) c.args.caller c.fitted-calls.result (sym c.take.ensures.live ∙ ap calls_in c.in-Some.is ∙ ap (λ (cs : Granted). (let o : Option Granted = Some cs in o)) (sym c.fitted-calls.ensures)) (subst (λ (h : Held g.row.S.Denot). offers_in h.seats c.args.caller ≡ unoffered) (sym c.self.view_is) c.requires.unoffered) (record { caller = c.args.caller; calls = c.fitted-calls.result; at = c.count-at.result + 1; last = c.count-at.result + 1 }) (λ j. record { caller = c.args.caller; calls = c.fitted-calls.result; at = c.count-at.ensures.count j + 1; last = c.count-at.ensures.count j + 1 }) 0 (c.in-Ok-commit.ensures.does 0) c.take.ensures.out.live (c.push_reserved.ensures.items ∙ ap (λ (hs : List Done). hs ++ (record { caller = c.args.caller; calls = c.fitted-calls.result; at = c.count-at.result + 1; last = c.count-at.result + 1 }) ∷ []) c.reserve.ensures.items) refl (c.count-at.result + 1) (ap (λ (n : ℕ). n + 1) c.count-at.ensures.count));
+      (subst (λ (h : Held g.row.S.Denot). IsAlive (g.S.EawStore.view h.records.store)) (sym c.self.view_is) c.requires.alive) c.args.caller c.in-Some.live.calls (sym c.take.ensures.live ∙ ap calls_in c.in-Some.is) (subst (λ (h : Held g.row.S.Denot). offers_in h.seats c.args.caller ≡ unoffered) (sym c.self.view_is) c.requires.unoffered) (record { caller = c.args.caller; calls = c.in-Some.live.calls; at = c.count-at.result + 1; last = c.count-at.result + 1 }) (λ j. record { caller = c.args.caller; calls = c.in-Some.live.calls; at = c.count-at.ensures.count j + 1; last = c.count-at.ensures.count j + 1 }) 0 (c.in-Ok-commit.ensures.does 0) c.take.ensures.out.live (c.push_reserved.ensures.items ∙ ap (λ (hs : List Done). hs ++ (record { caller = c.args.caller; calls = c.in-Some.live.calls; at = c.count-at.result + 1; last = c.count-at.result + 1 }) ∷ []) c.reserve.ensures.items) refl (c.count-at.result + 1) (ap (λ (n : ℕ). n + 1) c.count-at.ensures.count));
   sends = subst (λ (h : Held g.row.S.Denot). Mirrors g.S.EawStore.tells (g.S.EawStore.view h.records.store) (g.S.EawStore.view c.commit.new.self.store)) c.self.view_is ((c.in-Ok-commit.ensures.does 0).mirrors);
   not_busy = refl;
 }
@@ -77,7 +77,7 @@ pub invariant_of-self-in-Err-commit : goal.invariant_of-self-in-Err-commit
 invariant_of-self-in-Err-commit g c = doubted_keeps g.S.EawStore.tells g.S.EawStore.opens g.K.KeyIndex.index g.met.S.EawStore.one_data (pages_of (g.S.EawStore.view c.self.inside.records.store) c.self.inside.records) (pages_of (g.S.EawStore.view c.commit.new.self.store) c.commit.new.self)
     (laws_at g c.self.inside.records.store) (laws_at g c.commit.new.self.store) (state_at g.K.KeyIndex.index (g.S.EawStore.view c.self.inside.records.store) c.self.inside.seats.names (table_of c.self.inside.base) c.self.inside.history.items (live_in c.self.inside.seats) (offers_in c.self.inside.seats) c.self.inside.doubt) (state_at g.K.KeyIndex.index (g.S.EawStore.view c.commit.new.self.store) c.take.new.self.names (table_of c.self.inside.base) c.reserve.new.self.items (live_in c.take.new.self) (offers_in c.take.new.self) c.single.result) (record { indexed = refl; dead = refl }) (record { indexed = refl; dead = refl })
     c.take.ensures.out.names c.take.ensures.out.offers refl (length c.self.inside.seats.places) (length c.take.new.self.places) c.take.ensures.out.count c.self.inside.base c.self.invariant
-    (subst (λ (h : Held g.row.S.Denot). IsAlive (g.S.EawStore.view h.records.store)) (sym c.self.view_is) c.requires.alive) c.args.caller c.fitted-calls.result (sym c.take.ensures.live ∙ ap calls_in c.in-Some.is ∙ ap (λ (cs : Granted). (let o : Option Granted = Some cs in o)) (sym c.fitted-calls.ensures)) (subst (λ (h : Held g.row.S.Denot). offers_in h.seats c.args.caller ≡ unoffered) (sym c.self.view_is) c.requires.unoffered) (record { caller = c.args.caller; calls = c.fitted-calls.result; at = c.count-at.result + 1; last = c.count-at.result + 1 }) (λ j. record { caller = c.args.caller; calls = c.fitted-calls.result; at = c.count-at.ensures.count j + 1; last = c.count-at.ensures.count j + 1 }) (subst (λ (f : TableFault). Does g.S.EawStore.tells (g.S.EawStore.opens (g.S.EawStore.view c.self.inside.records.store).shape) g.K.KeyIndex.index 0 c.args.caller Commit
+    (subst (λ (h : Held g.row.S.Denot). IsAlive (g.S.EawStore.view h.records.store)) (sym c.self.view_is) c.requires.alive) c.args.caller c.in-Some.live.calls (sym c.take.ensures.live ∙ ap calls_in c.in-Some.is) (subst (λ (h : Held g.row.S.Denot). offers_in h.seats c.args.caller ≡ unoffered) (sym c.self.view_is) c.requires.unoffered) (record { caller = c.args.caller; calls = c.in-Some.live.calls; at = c.count-at.result + 1; last = c.count-at.result + 1 }) (λ j. record { caller = c.args.caller; calls = c.in-Some.live.calls; at = c.count-at.ensures.count j + 1; last = c.count-at.ensures.count j + 1 }) (subst (λ (f : TableFault). Does g.S.EawStore.tells (g.S.EawStore.opens (g.S.EawStore.view c.self.inside.records.store).shape) g.K.KeyIndex.index 0 c.args.caller Commit
     (pages_of (g.S.EawStore.view c.self.inside.records.store) c.self.inside.records) (pages_of (g.S.EawStore.view c.commit.new.self.store) c.commit.new.self) (Err f)) (commit_fails g.S.EawStore.tells g.K.KeyIndex.index (pages_of (g.S.EawStore.view c.self.inside.records.store) c.self.inside.records) c.args.caller (subst (λ (h : Held g.row.S.Denot). IsAlive (g.S.EawStore.view h.records.store)) (sym c.self.view_is) c.requires.alive) c.in-Err-commit.fault (c.in-Err-commit.ensures.does 0).cause) (c.in-Err-commit.ensures.does 0)) c.take.ensures.out.live c.reserve.ensures.items c.single.ensures (λ told. c.commit.ensures.due told (subst (λ (h : Held g.row.S.Denot). IsAlive (g.S.EawStore.view h.records.store)) (sym c.self.view_is) c.requires.alive) (c.in-Err-commit.is ∙ ap (λ (f : TableFault). (let r : Result (Unit {0}) TableFault = Err f in r)) (commit_fails g.S.EawStore.tells g.K.KeyIndex.index (pages_of (g.S.EawStore.view c.self.inside.records.store) c.self.inside.records) c.args.caller (subst (λ (h : Held g.row.S.Denot). IsAlive (g.S.EawStore.view h.records.store)) (sym c.self.view_is) c.requires.alive) c.in-Err-commit.fault (c.in-Err-commit.ensures.does 0).cause)))
 
 pub returns-in-Err-commit : goal.returns-in-Err-commit
@@ -91,7 +91,7 @@ returns-in-Err-commit g c = record {
       (doubted_steps g.S.EawStore.tells g.S.EawStore.opens g.K.KeyIndex.index g.met.S.EawStore.one_data (pages_of (g.S.EawStore.view c.self.inside.records.store) c.self.inside.records) (pages_of (g.S.EawStore.view c.commit.new.self.store) c.commit.new.self)
       (laws_at g c.self.inside.records.store) (laws_at g c.commit.new.self.store) (state_at g.K.KeyIndex.index (g.S.EawStore.view c.self.inside.records.store) c.self.inside.seats.names (table_of c.self.inside.base) c.self.inside.history.items (live_in c.self.inside.seats) (offers_in c.self.inside.seats) c.self.inside.doubt) (state_at g.K.KeyIndex.index (g.S.EawStore.view c.commit.new.self.store) c.take.new.self.names (table_of c.self.inside.base) c.reserve.new.self.items (live_in c.take.new.self) (offers_in c.take.new.self) c.single.result) (record { indexed = refl; dead = refl }) (record { indexed = refl; dead = refl })
       c.take.ensures.out.names c.take.ensures.out.offers refl (length c.self.inside.seats.places) (length c.take.new.self.places) c.take.ensures.out.count c.self.inside.base c.self.invariant
-      (subst (λ (h : Held g.row.S.Denot). IsAlive (g.S.EawStore.view h.records.store)) (sym c.self.view_is) c.requires.alive) c.args.caller c.fitted-calls.result (sym c.take.ensures.live ∙ ap calls_in c.in-Some.is ∙ ap (λ (cs : Granted). (let o : Option Granted = Some cs in o)) (sym c.fitted-calls.ensures)) (subst (λ (h : Held g.row.S.Denot). offers_in h.seats c.args.caller ≡ unoffered) (sym c.self.view_is) c.requires.unoffered) (record { caller = c.args.caller; calls = c.fitted-calls.result; at = c.count-at.result + 1; last = c.count-at.result + 1 }) (λ j. record { caller = c.args.caller; calls = c.fitted-calls.result; at = c.count-at.ensures.count j + 1; last = c.count-at.ensures.count j + 1 }) (subst (λ (f : TableFault). Does g.S.EawStore.tells (g.S.EawStore.opens (g.S.EawStore.view c.self.inside.records.store).shape) g.K.KeyIndex.index 0 c.args.caller Commit
+      (subst (λ (h : Held g.row.S.Denot). IsAlive (g.S.EawStore.view h.records.store)) (sym c.self.view_is) c.requires.alive) c.args.caller c.in-Some.live.calls (sym c.take.ensures.live ∙ ap calls_in c.in-Some.is) (subst (λ (h : Held g.row.S.Denot). offers_in h.seats c.args.caller ≡ unoffered) (sym c.self.view_is) c.requires.unoffered) (record { caller = c.args.caller; calls = c.in-Some.live.calls; at = c.count-at.result + 1; last = c.count-at.result + 1 }) (λ j. record { caller = c.args.caller; calls = c.in-Some.live.calls; at = c.count-at.ensures.count j + 1; last = c.count-at.ensures.count j + 1 }) (subst (λ (f : TableFault). Does g.S.EawStore.tells (g.S.EawStore.opens (g.S.EawStore.view c.self.inside.records.store).shape) g.K.KeyIndex.index 0 c.args.caller Commit
       (pages_of (g.S.EawStore.view c.self.inside.records.store) c.self.inside.records) (pages_of (g.S.EawStore.view c.commit.new.self.store) c.commit.new.self) (Err f)) (commit_fails g.S.EawStore.tells g.K.KeyIndex.index (pages_of (g.S.EawStore.view c.self.inside.records.store) c.self.inside.records) c.args.caller (subst (λ (h : Held g.row.S.Denot). IsAlive (g.S.EawStore.view h.records.store)) (sym c.self.view_is) c.requires.alive) c.in-Err-commit.fault (c.in-Err-commit.ensures.does 0).cause) (c.in-Err-commit.ensures.does 0)) c.take.ensures.out.live c.reserve.ensures.items c.single.ensures (λ told. c.commit.ensures.due told (subst (λ (h : Held g.row.S.Denot). IsAlive (g.S.EawStore.view h.records.store)) (sym c.self.view_is) c.requires.alive) (c.in-Err-commit.is ∙ ap (λ (f : TableFault). (let r : Result (Unit {0}) TableFault = Err f in r)) (commit_fails g.S.EawStore.tells g.K.KeyIndex.index (pages_of (g.S.EawStore.view c.self.inside.records.store) c.self.inside.records) c.args.caller (subst (λ (h : Held g.row.S.Denot). IsAlive (g.S.EawStore.view h.records.store)) (sym c.self.view_is) c.requires.alive) c.in-Err-commit.fault (c.in-Err-commit.ensures.does 0).cause)))));
   sends = subst (λ (h : Held g.row.S.Denot). Mirrors g.S.EawStore.tells (g.S.EawStore.view h.records.store) (g.S.EawStore.view c.commit.new.self.store)) c.self.view_is ((c.in-Err-commit.ensures.does 0).mirrors);
   not_busy = ap is_busy c.from.ensures ∙ fault_plain c.in-Err-commit.fault;
@@ -114,7 +114,7 @@ put-requires-clause-unoffered g c = ap (λ (f : ℕ → Offer). f c.args.caller)
 
 pub put-requires-clause-masked : goal.put-requires-clause-masked
 put-requires-clause-masked g c = subst (λ (x : List (List ℕ) × Granted). AreMasksOf (touched x.0 x.1) c.in-Some.live.masks)
-    (λ j. (sym c.take.ensures.out.names j, sym (c.fitted-calls.ensures) j)) c.in-Some.ensures.masked
+    (λ j. (sym c.take.ensures.out.names j, c.in-Some.live.calls)) c.in-Some.ensures.masked
 
 -- without a live transaction nothing is taken out
 nothing : (old mid : Seats) (t : ℕ) (o : Option Granted) → o ≡ live_in old t → o ≡ None → live_in mid ≡ update nat_eq (live_in old) t None → live_in mid ≡ live_in old
