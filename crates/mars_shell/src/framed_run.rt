@@ -14,6 +14,7 @@ ghost use Rattle.mars_shell.specs.FramedRun.{TakesFramed, says_framed};
 
 use crate::core_work::OnCore;
 use crate::lines::ByTurns;
+use crate::mirrored::ShownLines;
 use crate::records::over_records;
 use crate::responder::LineCore;
 use array_runs::{Status, find_form, open_for, served_status};
@@ -139,12 +140,14 @@ fn work_framed<K: Sink, S: EawStore + Drop + Send, I: KeyIndex + Send>(
             return (Err(fault), store);
         }
     };
-    let lines = LineCore {
-        core,
-        callers: numbers,
+    let shown = ShownLines {
+        lines: LineCore {
+            core,
+            callers: numbers,
+        },
     };
-    let (ended, lines) = answer_framed(alloc, input, sink, lines);
-    let LineCore { core, callers: _ } = lines;
+    let (ended, shown) = answer_framed(alloc, input, sink, shown);
+    let LineCore { core, callers: _ } = shown.lines;
     let (store, _link) = core.into_store().into_parts();
     (Ok(ended), store)
 }
