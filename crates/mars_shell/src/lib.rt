@@ -26,7 +26,6 @@ mod lines;
 mod media_room;
 mod mirrored;
 mod obeying;
-mod record_work;
 mod records;
 mod responder;
 mod summary;
