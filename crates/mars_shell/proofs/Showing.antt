@@ -11,7 +11,7 @@ use Rattle.array_runs.specs.Records.{HasAll}
 
 -- the data of a state has its names, its records and its keys
 pub has_all : (index : Index) (bytes : List ℕ) (state now : State) → now ≡ state → state.index.bytes ≡ bytes → ShowsAll index state → HasAll index bytes now
-has_all index bytes state now same data shows = subst (λ (s : State). HasAll index bytes s) (sym same) (subst (λ (b : List ℕ). HasAll index b state) data (record {
+has_all index bytes state now same data_is shows = subst (λ (s : State). HasAll index bytes s) (sym same) (subst (λ (b : List ℕ). HasAll index b state) data_is (record {
   sound = shows.sound;
   names = shows.names;
   table = shows.table;

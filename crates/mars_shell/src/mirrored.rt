@@ -64,8 +64,8 @@ impl<S: EawStore, I: KeyIndex, H: Keeper> Mirrored for ShownLines<S, I, H> {
     ghost alive = { λ shown ready. ready.alive };
 
     ghost data_of = { λ shown progress told ready stands. record {
-        runs = stands.0.runs;
-        all = has_all I.index (S.view shown.lines.core.records.store).state.bytes _ progress.state stands.0.state_is refl (stands.1 ready.alive);
+      runs = stands.0.runs;
+      all = has_all I.index (S.view shown.lines.core.records.store).state.bytes _ progress.state stands.0.state_is refl (stands.1 ready.alive);
     } };
 
     fn first_frame(&self) -> &[u8] {
