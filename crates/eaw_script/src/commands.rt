@@ -74,7 +74,7 @@ impl<S: EawStore> Mirrored for Commands<S> {
 
     ghost alive = { λ commands ready. ready };
 
-    ghost data_of = { λ commands progress told shows. ap (λ (s : State). s.bytes) shows.state };
+    ghost data_of = { λ commands progress told ready shows. ap (λ (s : State). s.bytes) shows.state };
 
     fn first_frame(&self) -> &[u8] {
         self.store.first_frame()

@@ -1,5 +1,5 @@
 -- Lines that are followed one after another.
-use Rattle.std.proofs.Common.{◌≡◌, ℕ, suc, ◌+◌, ◌≤◌, ◌⊎◌, inl, inr, ⊎_elim, Bool, false, List, [], ◌∷◌, ◌++◌, length, Result, Err, refl, sym, ◌∙◌, ap, subst, arith, append_assoc}
+use Rattle.std.proofs.Common.{◌≡◌, ℕ, suc, ◌+◌, ◌≤◌, ◌⊎◌, inl, inr, ⊎_elim, Bool, true, false, List, [], ◌∷◌, ◌++◌, length, Result, Err, refl, sym, ◌∙◌, ap, subst, arith, append_assoc}
 use Rattle.std.specs.Prelude.{IsTrue, All}
 use Rattle.std.proofs.lemmas.List.{append-nil, length-append}
 use Rattle.std.proofs.lemmas.List.Elements.{All-nil, All-cons, All-append}
@@ -14,7 +14,7 @@ use Rattle.mirror.specs.FollowerView.{FollowerView}
 use Rattle.texts.specs.Written.{IsWritten}
 use Rattle.frame_lines.specs.Lines.{IsMeant, Says, AllSay, applied_line, applied_lines}
 use Rattle.frame_lines.specs.Taken.{IsBetween, GoesOn, Applied, OpensTaken, FollowedLine}
-use Rattle.frame_lines.specs.Followed.{StopsAt, LeavesNear, LeavesStore, FollowedLines, OpensFirst}
+use Rattle.frame_lines.specs.Followed.{StopsAt, LeavesNear, LeavesJust, LeavesStore, TellsApplied, FollowedLines, OpensFirst}
 use Rattle.frame_lines.specs.declared.ended.FollowEnd.{FollowEnd}
 use Rattle.frame_lines.specs.declared.ended.FollowEnd.TheVariants.{All as AllFollowed, BadFrame, Gap, WriteFault, MediaFault, NoMemory}
 
@@ -72,10 +72,21 @@ module _ {S : Type 0} (tells : Bool) (view : S → StoreView) (first : FollowerV
     data_is = λ told. two.data_is told ∙ ap (followed more) (one.data_is told) ∙ sym (followed_append frames more (view first.store).state.bytes);
   }
 
+  -- what a store leaves that goes on, of which whatever may be left opens with its data
+  just : (Opens : Shape → List ℕ → List ℕ → Type 0) (frames : List Frame) (new : StoreView)
+      → ((image : List ℕ) → IsTrue tells → new.is_dead ≡ false → new.left_since new.moment image → Opens new.shape image new.state.bytes)
+      → GoesOn tells frames (view first.store) new → GoesOn tells frames (view first.store) new × LeavesJust tells Opens (view first.store) new frames
+  just Opens frames new only on = (
+    on,
+    λ told image left. subst (λ (p : Shape × List ℕ). Opens p.0 image p.1) (λ i. (on.data_is.shape i, on.data_is.data_is told i)) (only image told on.alive left),
+  )
+
   -- all lines were followed
-  pub ended_all : (Opens : Shape → List ℕ → List ℕ → Type 0) (now : FollowerView S) (rest : List (List ℕ)) (n : ℕ) (text : List ℕ) → rest ≡ [] → SoFar tells view first now lines rest n text
+  pub ended_all : (Opens : Shape → List ℕ → List ℕ → Type 0) (now : FollowerView S) (rest : List (List ℕ)) (n : ℕ) (text : List ℕ)
+      → ((image : List ℕ) → IsTrue tells → (view now.store).is_dead ≡ false → (view now.store).left_since (view now.store).moment image → Opens (view now.store).shape image (view now.store).state.bytes)
+      → rest ≡ [] → SoFar tells view first now lines rest n text
       → FollowedLines (view first.store).shape (LeavesStore tells Opens (view first.store) (view now.store) AllFollowed) lines AllFollowed false text
-  ended_all Opens now rest n text none far = record {
+  ended_all Opens now rest n text only none far = record {
     frames = far.frames;
     front = far.front;
     behind = rest;
@@ -83,8 +94,8 @@ module _ {S : Type 0} (tells : Bool) (view : S → StoreView) (first : FollowerV
     said = far.said;
     good = far.good;
     sequence = far.sequence;
-    told = far.told;
-    leaves = far.goes_on;
+    told = (refl, far.told);
+    leaves = just Opens far.frames (view now.store) only far.goes_on;
     stops = none;
   }
 
@@ -144,10 +155,14 @@ module _ {S : Type 0} (tells : Bool) (view : S → StoreView) (first : FollowerV
     goes_on more (inl passed) = subst (λ (t : List ℕ). SoFar tells view first new lines rest (n + 1) t) (sym (append-nil text) ∙ ap (λ (t : List ℕ). text ++ t) (sym passed.2)) (passes passed.0 passed.1)
     goes_on more (inr took) = subst (λ (t : List ℕ). SoFar tells view first new lines rest (n + 1) (text ++ t)) (sym took.3) (applies took.0 took.1 took.2)
 
+    -- nothing more was written
+    no_more : (more : List ℕ) → more ≡ [] → text ++ more ≡ applied_lines 0 far.frames
+    no_more more none = ap (λ (m : List ℕ). text ++ m) none ∙ append-nil text ∙ far.told
+
     -- the run ends at this line
-    stopped : (Opens : Shape → List ℕ → List ℕ → Type 0) (ended : FollowEnd) (cut : Bool) (more : List ℕ) → cut ≡ false → more ≡ [] → LeavesStore tells Opens (view first.store) (view new.store) ended far.frames (line ∷ rest) → StopsAt (view first.store).shape (length far.front) (length far.frames) (line ∷ rest) ended
+    stopped : (Opens : Shape → List ℕ → List ℕ → Type 0) (ended : FollowEnd) (cut : Bool) (more : List ℕ) → TellsApplied ended cut (text ++ more) far.frames → LeavesStore tells Opens (view first.store) (view new.store) ended far.frames (line ∷ rest) → StopsAt (view first.store).shape (length far.front) (length far.frames) (line ∷ rest) ended
         → FollowedLines (view first.store).shape (LeavesStore tells Opens (view first.store) (view new.store) ended) lines ended cut (text ++ more)
-    stopped Opens ended cut more whole none leaves stops = record {
+    stopped Opens ended cut more told leaves stops = record {
       frames = far.frames;
       front = far.front;
       behind = line ∷ rest;
@@ -155,7 +170,7 @@ module _ {S : Type 0} (tells : Bool) (view : S → StoreView) (first : FollowerV
       said = far.said;
       good = far.good;
       sequence = far.sequence;
-      told = subst (λ (b : Bool). IsWritten b (text ++ more) (applied_lines 0 far.frames)) (sym whole) (ap (λ (m : List ℕ). text ++ m) none ∙ append-nil text ∙ far.told);
+      told = told;
       leaves = leaves;
       stops = stops;
     }
@@ -163,17 +178,22 @@ module _ {S : Type 0} (tells : Bool) (view : S → StoreView) (first : FollowerV
     still : GoesOn tells [] (view now.store) (view new.store) → GoesOn tells far.frames (view first.store) (view new.store)
     still same = subst (λ (fs : List Frame). GoesOn tells fs (view first.store) (view new.store)) (append-nil far.frames) (more_applied [] same)
 
-    pub ended_at : (Opens : Shape → List ℕ → List ℕ → Type 0) → LeavesNear tells Opens (view first.store) (view new.store) far.frames (line ∷ rest) → (T : Type 0) (ended : FollowEnd) (cut : Bool) (more : List ℕ) → (let r : Result T FollowEnd = Err ended in FollowedLine tells view shape n line now new r cut more)
+    pub ended_at : (Opens : Shape → List ℕ → List ℕ → Type 0)
+        → ((image : List ℕ) → IsTrue tells → (view new.store).is_dead ≡ false → (view new.store).left_since (view new.store).moment image → Opens (view new.store).shape image (view new.store).state.bytes)
+        → LeavesNear tells Opens (view first.store) (view new.store) far.frames (line ∷ rest) → (T : Type 0) (ended : FollowEnd) (cut : Bool) (more : List ℕ) → (let r : Result T FollowEnd = Err ended in FollowedLine tells view shape n line now new r cut more)
         → FollowedLines (view first.store).shape (LeavesStore tells Opens (view first.store) (view new.store) ended) lines ended cut (text ++ more)
-    ended_at Opens near T AllFollowed cut more ended = absurd ended.2.2
-    ended_at Opens near T (BadFrame m) cut more ended = stopped Opens (BadFrame m) cut more ended.0 ended.1
-        (subst (λ (f : FollowerView S). GoesOn tells far.frames (view first.store) (view f.store)) (sym ended.2.3) far.goes_on)
+    unfolding applies
+    ended_at Opens only near T AllFollowed cut more ended = absurd ended.2.2
+    ended_at Opens only near T (BadFrame m) cut more ended = stopped Opens (BadFrame m) cut more (ended.0, no_more more ended.1)
+        (just Opens far.frames (view new.store) only (subst (λ (f : FollowerView S). GoesOn tells far.frames (view first.store) (view f.store)) (sym ended.2.3) far.goes_on))
         (omega (arith, ended.2.0, far.number), line, rest, refl, ended.2.1, λ f says. ended.2.2 f (subst (λ (s : Shape). Says s f line) shape_is says))
-    ended_at Opens near T (Gap expected got) cut more ended = stopped Opens (Gap expected got) cut more ended.0 ended.1 (still ended.2.2.2)
+    ended_at Opens only near T (Gap expected got) cut more ended = stopped Opens (Gap expected got) cut more (ended.0, no_more more ended.1) (just Opens far.frames (view new.store) only (still ended.2.2.2))
         (line, rest, refl, ended.2.0, here ended.2.0 ended.2.1, ended.2.2.0, subst (λ (k : ℕ). IsGap k expected got) far.count ended.2.2.1)
-    ended_at Opens near T WriteFault cut more ended =
+    ended_at Opens only near T WriteFault cut more ended =
         let f = ended.1 in
         let next = applies f ended.2 ended.3 in
+        let long = length-append far.frames (f ∷ []) in
+        let applied_more : length (far.frames ++ f ∷ []) ≡ now.applied + 1 = omega (arith, far.count, long) in
         record {
           frames = next.frames;
           front = next.front;
@@ -182,13 +202,20 @@ module _ {S : Type 0} (tells : Bool) (view : S → StoreView) (first : FollowerV
           said = next.said;
           good = next.good;
           sequence = next.sequence;
-          told = subst (λ (b : Bool). IsWritten b (text ++ more) (applied_lines 0 next.frames)) (sym ended.0)
-              (ended.4.0, ended.4.1, sym next.told ∙ ap (λ (t : List ℕ). text ++ t) ended.4.2 ∙ sym (append_assoc text more ended.4.0));
-          leaves = next.goes_on;
+          told = (
+            ended.0,
+            far.frames,
+            f,
+            more,
+            refl,
+            subst (λ (n : ℕ). IsWritten true more (applied_line n)) (sym applied_more) ended.4,
+            ap (λ (t : List ℕ). t ++ more) far.told,
+          );
+          leaves = just Opens next.frames (view new.store) only next.goes_on;
           stops = tt;
         }
-    ended_at Opens near T MediaFault cut more ended = stopped Opens MediaFault cut more ended.0 ended.1 near tt
-    ended_at Opens near T NoMemory cut more ended = stopped Opens NoMemory cut more ended.0 ended.1 near tt
+    ended_at Opens only near T MediaFault cut more ended = stopped Opens MediaFault cut more (ended.0, no_more more ended.1) near tt
+    ended_at Opens only near T NoMemory cut more ended = stopped Opens NoMemory cut more (ended.0, no_more more ended.1) near tt
 
     -- what a loss of power leaves behind this line
     pub near : (Opens : Shape → List ℕ → List ℕ → Type 0) → ((t : ℕ) (image : List ℕ) → IsTrue tells → t ≤ (view new.store).moment → (view new.store).left_since (view new.store).moment image → (view new.store).left_since t image)
@@ -249,7 +276,7 @@ none_followed tells Opens store lines only = record {
   said = refl;
   good = All-nil (IsFrameIn store.shape);
   sequence = tt;
-  told = refl;
+  told = (refl, refl);
   leaves = λ told image left. inl (only image told left);
   stops = tt;
 }

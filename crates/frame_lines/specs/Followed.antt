@@ -1,5 +1,5 @@
 -- What comes of lines that say frames.
-use Rattle.std.specs.Prelude.{ℕ, ◌≡◌, ◌⊎◌, ◌+◌, Bool, IsTrue, List, [], ◌∷◌, ◌++◌, length, All}
+use Rattle.std.specs.Prelude.{ℕ, ◌≡◌, ◌⊎◌, ◌+◌, Bool, true, false, IsTrue, List, [], ◌∷◌, ◌++◌, length, All}
 use Rattle.mars_base.specs.Causes.{Rose}
 use Rattle.array_shape.specs.declared.shape.Shape.{Shape}
 use Rattle.eaw_face.specs.StoreView.{StoreView}
@@ -7,7 +7,7 @@ use Rattle.eaw_face.specs.Frame.{Frame, IsFrameIn}
 use Rattle.eaw_face.specs.Mirroring.{AreInSequence, followed}
 use Rattle.mirror.specs.Following.{IsGap}
 use Rattle.texts.specs.Written.{IsWritten}
-use Rattle.frame_lines.specs.Lines.{IsMeant, Says, AllSay, applied_lines}
+use Rattle.frame_lines.specs.Lines.{IsMeant, Says, AllSay, applied_line, applied_lines}
 use Rattle.frame_lines.specs.Taken.{GoesOn}
 use Rattle.frame_lines.specs.declared.ended.FollowEnd.{FollowEnd}
 use Rattle.frame_lines.specs.declared.ended.FollowEnd.TheVariants.{All as AllFollowed, BadFrame, Gap, WriteFault, MediaFault, NoMemory}
@@ -30,14 +30,24 @@ OpensNear Opens shape bytes frames behind image =
 abbrev pub LeavesNear : Bool → (Shape → List ℕ → List ℕ → Type 0) → StoreView → StoreView → List Frame → List (List ℕ) → Type 0
 LeavesNear tells Opens old new frames behind = IsTrue tells → (image : List ℕ) → new.left_since new.moment image → OpensNear Opens old.shape old.state.bytes frames behind image
 
+-- whatever a loss of power leaves now opens with the data with just these frames applied
+abbrev pub LeavesJust : Bool → (Shape → List ℕ → List ℕ → Type 0) → StoreView → StoreView → List Frame → Type 0
+LeavesJust tells Opens old new frames = IsTrue tells → (image : List ℕ) → new.left_since new.moment image → Opens old.shape image (followed frames old.state.bytes)
+
 -- The store goes on with these frames applied. If the medium failed or memory ran out, they are applied, or they and the one of the next line.
 abbrev pub LeavesStore : Bool → (Shape → List ℕ → List ℕ → Type 0) → StoreView → StoreView → FollowEnd → List Frame → List (List ℕ) → Type 0
 LeavesStore tells Opens old new MediaFault frames behind = LeavesNear tells Opens old new frames behind
 LeavesStore tells Opens old new NoMemory frames behind = LeavesNear tells Opens old new frames behind
-LeavesStore tells Opens old new _ frames behind = GoesOn tells frames old new
+LeavesStore tells Opens old new _ frames behind = GoesOn tells frames old new × LeavesJust tells Opens old new frames
 
--- Frames that the first lines say, in sequence from 1 on, were applied, and of each was told how many are by then: but of the last one a front
--- only, if the sink took no more. Then the lines ended, or were not followed further. Leaves says what the frames leave, given the lines behind.
+-- Of each of these frames was told how many are by then; where the sink took no more, of the last one a front only.
+abbrev pub TellsApplied : FollowEnd → Bool → List ℕ → List Frame → Type 0
+TellsApplied WriteFault cut text frames = (cut ≡ true) × (before : List Frame) × (last : Frame) × (part : List ℕ)
+    × (frames ≡ before ++ last ∷ []) × IsWritten true part (applied_line (length frames)) × (text ≡ applied_lines 0 before ++ part)
+TellsApplied _ cut text frames = (cut ≡ false) × (text ≡ applied_lines 0 frames)
+
+-- Frames that the first lines say, in sequence from 1 on, were applied, and each was told. Then the lines ended, or were not followed further.
+-- Leaves says what the frames leave, given the lines behind.
 pub record FollowedLines (shape : Shape) (Leaves : List Frame → List (List ℕ) → Type 0) (lines : List (List ℕ)) (ended : FollowEnd) (cut : Bool) (text : List ℕ) : Type 0 where
   pub frames : List Frame
   pub front : List (List ℕ)
@@ -46,7 +56,7 @@ pub record FollowedLines (shape : Shape) (Leaves : List Frame → List (List ℕ
   pub said : AllSay shape front frames
   pub good : All (IsFrameIn shape) frames
   pub sequence : AreInSequence 1 frames
-  pub told : IsWritten cut text (applied_lines 0 frames)
+  pub told : TellsApplied ended cut text frames
   pub leaves : Leaves frames behind
   pub stops : StopsAt shape (length front) (length frames) behind ended
 

@@ -30,6 +30,6 @@ pub trait Mirrored: Responder {
     /// If it can answer a further line, the store is not dead.
     ghost alive: { (self : Self) → Self.is_ready self → (view self).is_dead ≡ false };
 
-    /// The state says the committed data.
-    ghost data_of: { (self : Self) (state : Self.State) → IsTrue Self.tells → Self.stands self state → Self.holds state (view self).state.bytes };
+    /// The state says the committed data, if it can answer a further line.
+    ghost data_of: { (self : Self) (state : Self.State) → IsTrue Self.tells → Self.is_ready self → Self.stands self state → Self.holds state (view self).state.bytes };
 }

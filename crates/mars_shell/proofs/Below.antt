@@ -53,6 +53,6 @@ module _ (tells : Bool) (told : IsTrue tells) (Opens : Shape → List ℕ → Li
       → Serves (says_framed (index_at old.state.bytes) old input cut text) Opens (index_at old.state.bytes) old result cut text new
   says_on result served =
       let bytes_are : mid.state.bytes ≡ old.state.bytes = ap (λ (s : State). s.bytes) (says.state told) in
-      let moved = subst (λ (x : Shape × List ℕ × Index). Serves (λ ended. SaysFramed x.0 x.1 (begun_on x.2 x.1) input ended cut text) Opens (index_of_form form) mid result cut text new)
+      let moved = subst (λ (x : Shape × List ℕ × Index). Serves (λ ended. SaysFramed x.2 x.0 x.1 (begun_on x.2 x.1) input ended cut text) Opens (index_of_form form) mid result cut text new)
       (λ i. (says.shape i, bytes_are i, sym (of_form form old.state.bytes (says.is told)) i)) served in
       serves_on tells told Opens form old mid says new (says_framed (index_at old.state.bytes) old input cut text) result cut text moved

@@ -1,9 +1,11 @@
 -- What the kinds of a status give, of a format and of work over records.
 use Rattle.std.proofs.Common.{◌≡◌, ℕ, refl, Result, Ok, Err}
 use Rattle.command_words.specs.declared.words.FormatNumbers.{FormatNumbers}
+use Rattle.std.specs.Prelude.{IfOk, IfErr}
 use Rattle.mars_core.specs.declared.fault.CoreFault.{CoreFault}
 use Rattle.mars_core.specs.declared.fault.CoreFault.TheVariants as core
 use Rattle.script_run.specs.declared.ended.Ended.{Ended}
+use Rattle.script_run.specs.declared.ended.Ended.TheVariants as script
 use Rattle.mars_shell.specs.Formats.{FormatSays}
 use Rattle.mars_shell.specs.Served.{ServedCounts}
 use Rattle.array_runs.specs.Statuses.{Counts, IsEarly, served_status}
@@ -38,3 +40,11 @@ served_counts (Err core.NoMemory) s k k' m m' counts = (refl, counts.0, counts.1
 pub served : (result : Result Ended CoreFault) (status : Status) (s s' k k' m m' n n' : ℕ) → status ≡ served_status result → s' ≡ s → n ≡ m → m' ≡ n' → ServedCounts result k k' n n'
     → Counts status s s' k k' m m'
 served result status s s' k k' m m' n n' is read before after counts = rw (is, read, ← before, after) (served_counts result s k k' n n' counts)
+
+-- nothing was written where memory ran out, if nothing was where the work was not done, and where memory ran out in it
+pub served_short : (Silent : Type 0) (result : Result Ended CoreFault) → IfErr result (λ fault. Silent) → IfOk result (λ ended. ended ≡ script.NoMemory → Silent) → served_status result ≡ NoMemory → Silent
+served_short Silent (Ok script.All) untold short is = absurd (let no : ⊥ = cc is in no)
+served_short Silent (Ok script.WriteFault) untold short is = absurd (let no : ⊥ = cc is in no)
+served_short Silent (Ok script.MediaFault) untold short is = absurd (let no : ⊥ = cc is in no)
+served_short Silent (Ok script.NoMemory) untold short is = short refl
+served_short Silent (Err fault) untold short is = untold

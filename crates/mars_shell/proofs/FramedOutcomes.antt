@@ -33,7 +33,7 @@ framed_outcome tells told old only_now store attached keeps defers later new beh
     (λ ended taken. record {
       shape = store.shape;
       array = array tells told old only_now store attached keeps;
-      taken = subst (λ (bytes : List ℕ). TakesTurns defers (SaysFramed store.shape bytes (begun_on (index_at bytes) bytes) input ended cut text) old ended new) (attached.bytes told) taken;
+      taken = subst (λ (bytes : List ℕ). TakesTurns defers (SaysFramed (index_at bytes) store.shape bytes (begun_on (index_at bytes) bytes) input ended cut text) old ended new) (attached.bytes told) taken;
     }) outcome
 
 -- the work was not begun

@@ -12,7 +12,7 @@ use Rattle.eaw_face.specs.Mirroring.{followed}
 use Rattle.eaw_face.specs.StoreView.{StoreView, LeavesOnly}
 use Rattle.eaw_device.specs.Opens.{Opens, KeepsData, Attached, IsBehind, IsArray}
 use Rattle.frame_lines.specs.Taken.{GoesOn}
-use Rattle.frame_lines.specs.Followed.{LeavesStore, FollowedLines, OpensFirst, Counts as LineCounts}
+use Rattle.frame_lines.specs.Followed.{LeavesJust, LeavesNear, LeavesStore, OpensNear, FollowedLines, OpensFirst, Counts as LineCounts}
 use Rattle.frame_lines.specs.declared.ended.FollowEnd.{FollowEnd}
 use Rattle.frame_lines.specs.declared.ended.FollowEnd.TheVariants as follow
 use Rattle.script_run.specs.Input.{input_limit}
@@ -29,7 +29,8 @@ use Rattle.array_runs.proofs.Opened.{array, at_entry}
 
 module _ (tells : Bool) (told : IsTrue tells) (old : View) (only_now : (image : List ℕ) → IsTrue tells → old.left_since old.moment image → MayLeave old.content image)
     (store : StoreView) (attached : Attached tells old store) (keeps : KeepsData tells old store.moment store.left_since)
-    (store' : StoreView) (new : View) (behind : IsBehind tells false store' new) where
+    (store' : StoreView) (new : View) (behind : IsBehind tells false store' new)
+    (counts_now : (t : ℕ) (image : List ℕ) → IsTrue tells → t ≤ new.moment → MayLeave new.content image → new.left_since t image) where
   -- the medium has the data of a store that goes on
   stands : (frames : List Frame) → GoesOn tells frames store store' → HasNoVote store.shape new.content.bytes × (settled_data store.shape new.content.bytes ≡ followed frames (settled_data store.shape old.content.bytes))
   stands frames on = (
@@ -37,13 +38,33 @@ module _ (tells : Bool) (told : IsTrue tells) (old : View) (only_now : (image : 
     ap (λ (s : Shape). settled_data s new.content.bytes) (sym on.data_is.shape) ∙ behind.bytes told on.alive ∙ on.data_is.data_is told ∙ ap (λ (b : List ℕ). followed frames b) (attached.bytes told),
   )
 
+  -- what may be left of the medium may be left of the store
+  left_now : (image : List ℕ) → MayLeave new.content image → store'.left_since store'.moment image
+  left_now image left = subst (λ (t : ℕ). store'.left_since t image) behind.moment (behind.left new.moment image (counts_now new.moment image told (omega arith) left))
+
+  first_bytes : store.state.bytes ≡ settled_data store.shape old.content.bytes
+  first_bytes = attached.bytes told
+
+  stands_now : (frames : List Frame) → GoesOn tells frames store store' × LeavesJust tells Opens store store' frames
+      → HasNoVote store.shape new.content.bytes × (settled_data store.shape new.content.bytes ≡ followed frames (settled_data store.shape old.content.bytes))
+      × ((image : List ℕ) → MayLeave new.content image → Opens store.shape image (followed frames (settled_data store.shape old.content.bytes)))
+  stands_now frames on = (
+    (stands frames on.0).0,
+    (stands frames on.0).1,
+    λ image left. subst (λ (b : List ℕ). Opens store.shape image (followed frames b)) first_bytes (on.1 told image (left_now image left)),
+  )
+
+  near_now : (frames : List Frame) (later : List (List ℕ)) → LeavesNear tells Opens store store' frames later
+      → (image : List ℕ) → MayLeave new.content image → OpensNear Opens store.shape (settled_data store.shape old.content.bytes) frames later image
+  near_now frames later near image left = subst (λ (b : List ℕ). OpensNear Opens store.shape b frames later image) first_bytes (near told image (left_now image left))
+
   leaves_on : (ended : FollowEnd) (frames : List Frame) (later : List (List ℕ)) → LeavesStore tells Opens store store' ended frames later → LeavesFollowed store.shape old new ended frames later
-  leaves_on follow.All frames later on = stands frames on
-  leaves_on (follow.BadFrame n) frames later on = stands frames on
-  leaves_on (follow.Gap expected got) frames later on = stands frames on
-  leaves_on follow.WriteFault frames later on = stands frames on
-  leaves_on follow.MediaFault frames later on = tt
-  leaves_on follow.NoMemory frames later on = tt
+  leaves_on follow.All frames later on = stands_now frames on
+  leaves_on (follow.BadFrame n) frames later on = stands_now frames on
+  leaves_on (follow.Gap expected got) frames later on = stands_now frames on
+  leaves_on follow.WriteFault frames later on = stands_now frames on
+  leaves_on follow.MediaFault frames later on = near_now frames later on
+  leaves_on follow.NoMemory frames later on = near_now frames later on
 
   pub follows : (input : List ℕ) (ended : FollowEnd) (cut : Bool) (text : List ℕ) → FollowedLines store.shape (LeavesStore tells Opens store store' ended) (lines_of input) ended cut text
       → LeavesOnly (OpensFirst Opens store.shape store.state.bytes (lines_of input)) store store' → Follows old input ended new cut text

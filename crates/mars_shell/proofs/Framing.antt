@@ -24,7 +24,7 @@ use Rattle.frame_lines.specs.Begun.{HasBegun, RanFramed}
 use Rattle.frame_lines.proofs.Framing.{are_some}
 use Rattle.array_runs.specs.Records.{begun_on}
 use Rattle.mars_shell.specs.OnCore.{TurnsOn}
-use Rattle.mars_shell.specs.Standing.{Progress, callers_of, HasData, line_script, framed_lines, framed_start, turns_in, Stands, Comes}
+use Rattle.mars_shell.specs.Standing.{Progress, callers_of, HasShown, line_script, framed_lines, framed_start, turns_in, IsShown, Stands, Comes}
 use Rattle.mars_shell.specs.FramedRun.{says_framed}
 use Rattle.mars_shell.proofs.Acknowledged.{committed_kept}
 use Rattle.mars_shell.proofs.Lining.{gives_clean, stops_clean, answered_turns, safe_now}
@@ -40,20 +40,20 @@ framed_stops_clean : (old : Framed Progress) (n : ℕ) (line : List ℕ) (new : 
 framed_stops_clean old n line new (inl stops) none = stops_clean (callers_of old.inner) old.inner.turns n line new.inner.turns stops.1 none
 framed_stops_clean old n line new (inr done) none = gives_clean (callers_of old.inner) old.inner.turns n line done.0 new.inner.turns done.1.1 none
 
-framed_ends_clean : (old : Framed Progress) (n : ℕ) (line : List ℕ) (ended : Ended) (cut : Bool) (rest : List ℕ) (new : Framed Progress) → ended ≢ MediaFault
-    → Ends framed_lines old n line ended cut rest new → has_fault old.inner.turns ≡ false → has_fault new.inner.turns ≡ false
-framed_ends_clean old n line WriteFault cut rest new unfailed ends none = gives_clean (callers_of old.inner) old.inner.turns n line ends.2.reply new.inner.turns ends.2.gives.1 none
-framed_ends_clean old n line MediaFault cut rest new unfailed ends none = absurd (unfailed refl)
-framed_ends_clean old n line NoMemory cut rest new unfailed ends none = framed_stops_clean old n line new ends.2.0 none
-framed_ends_clean old n line Done cut rest new unfailed ends none = absurd ends
+framed_ends_clean : (index : Index) (old : Framed Progress) (n : ℕ) (line : List ℕ) (ended : Ended) (cut : Bool) (rest : List ℕ) (new : Framed Progress) → ended ≢ MediaFault
+    → Ends (framed_lines index) old n line ended cut rest new → has_fault old.inner.turns ≡ false → has_fault new.inner.turns ≡ false
+framed_ends_clean index old n line WriteFault cut rest new unfailed ends none = gives_clean (callers_of old.inner) old.inner.turns n line ends.2.reply new.inner.turns ends.2.gives.1 none
+framed_ends_clean index old n line MediaFault cut rest new unfailed ends none = absurd (unfailed refl)
+framed_ends_clean index old n line NoMemory cut rest new unfailed ends none = framed_stops_clean old n line new ends.2.0 none
+framed_ends_clean index old n line Done cut rest new unfailed ends none = absurd ends
 
-framed_clean : (old : Framed Progress) (n : ℕ) (lines : List (List ℕ)) (ended : Ended) (cut : Bool) (answers : List (List ℕ)) (rest : List ℕ) (new : Framed Progress) → ended ≢ MediaFault
-    → Answered framed_lines old n lines ended cut answers rest new → has_fault old.inner.turns ≡ false → has_fault new.inner.turns ≡ false
-framed_clean old n [] ended cut [] rest new unfailed is none = ap (λ (s : Framed Progress). has_fault s.inner.turns) is.3 ∙ none
-framed_clean old n [] ended cut (answer ∷ answers) rest new unfailed is none = absurd is
-framed_clean old n (line ∷ lines) ended cut [] rest new unfailed ends none = framed_ends_clean old n line ended cut rest new unfailed ends none
-framed_clean old n (line ∷ lines) ended cut (answer ∷ answers) rest new unfailed more none =
-    framed_clean more.0 (n + 1) lines ended cut answers rest new unfailed more.2 (gives_clean (callers_of old.inner) old.inner.turns n line more.1.reply more.0.inner.turns more.1.gives.1 none)
+framed_clean : (index : Index) (old : Framed Progress) (n : ℕ) (lines : List (List ℕ)) (ended : Ended) (cut : Bool) (answers : List (List ℕ)) (rest : List ℕ) (new : Framed Progress) → ended ≢ MediaFault
+    → Answered (framed_lines index) old n lines ended cut answers rest new → has_fault old.inner.turns ≡ false → has_fault new.inner.turns ≡ false
+framed_clean index old n [] ended cut [] rest new unfailed is none = ap (λ (s : Framed Progress). has_fault s.inner.turns) is.3 ∙ none
+framed_clean index old n [] ended cut (answer ∷ answers) rest new unfailed is none = absurd is
+framed_clean index old n (line ∷ lines) ended cut [] rest new unfailed ends none = framed_ends_clean index old n line ended cut rest new unfailed ends none
+framed_clean index old n (line ∷ lines) ended cut (answer ∷ answers) rest new unfailed more none =
+    framed_clean index more.0 (n + 1) lines ended cut answers rest new unfailed more.2 (gives_clean (callers_of old.inner) old.inner.turns n line more.1.reply more.0.inner.turns more.1.gives.1 none)
 
 -- ---- a core that has begun over a store that mirrors
 
@@ -84,6 +84,10 @@ module _ (tells : Bool) (Opens : Shape → List ℕ → List ℕ → Type 0) (in
       safe = safe_now tells callers (core_of Opens index mid held) ready told;
     }
 
+    -- the data of the store shows the first state
+    pub shown_first : IsShown (core_of Opens index mid held)
+    shown_first lives = record { sound = begins.over.sound told begins.alive; names = begins.over.names told begins.alive; table = begins.over.table told begins.alive; keys = begins.over.keys told }
+
     pub has_begun : HasBegun mid first
     has_begun = record {
       shape = sym begins.shape;
@@ -110,11 +114,11 @@ module _ (tells : Bool) (Opens : Shape → List ℕ → List ℕ → Type 0) (in
         }
 
       -- the history has what was acknowledged
-      kept : (last : Framed Progress) → Comes (core_of Opens index mid held) first.inner later last.inner → (answers : List (List ℕ)) (rest : List ℕ) → Answered framed_lines first 1 (lines_of input) ended cut answers rest last
+      kept : (last : Framed Progress) → Comes (core_of Opens index mid held) first.inner later last.inner → (answers : List (List ℕ)) (rest : List ℕ) → Answered (framed_lines index) first 1 (lines_of input) ended cut answers rest last
           → (frames : List Frame) (caller n : ℕ) → caller < 2 ^ 64 → n < 2 ^ 64 → Contains answers (lines_of_frames frames ++ reply_line caller (Committed n)) → n ≤ length later.state.history
       kept last comes answers rest answered frames caller n few fits has =
           let most : mid.shape.numbers ≤ 2 ^ 64 = let r = mid.shape.in_range in omega (arith, r.most_numbers) in
-          let plain = plain_of first 1 (lines_of input) ended cut answers rest last most answered in
+          let plain = plain_of index first 1 (lines_of input) ended cut answers rest last most answered in
           committed_kept mid.shape.numbers most caller n few fits core.limits core.state later.state (lines_of input) plain.ended plain.cut plain.answers plain.rest last.inner.turns (ready.sound told) (turned last comes)
           (answered_turns first.inner 1 (lines_of input) plain.ended plain.cut plain.answers plain.rest last.inner plain.answered) (plain.told frames caller n few has)
 
@@ -123,7 +127,7 @@ module _ (tells : Bool) (Opens : Shape → List ℕ → List ℕ → Type 0) (in
         brought : mid.sending.is_down ≡ false → (begun_on index old.state.bytes).index.bytes ≡ followed sent old.state.bytes
         brought up = ap (λ (s : State). s.index.bytes) (sym (begun_is tells Opens index old mid (core_of Opens index mid held) begins told)) ∙ has_begun.data_is up
 
-        pub by_frames : RanFramed line_script HasData (λ (s : Framed Progress). Stands later s.inner × HasSent new s) (λ (s : Framed Progress). Comes (core_of Opens index mid held) first.inner later s.inner)
+        pub by_frames : RanFramed line_script (HasShown index) (λ (s : Framed Progress). (Stands later s.inner × IsShown later) × HasSent new s) (λ (s : Framed Progress). Comes (core_of Opens index mid held) first.inner later s.inner)
             mid first (lines_of input) ended cut text → TurnsOn (says_framed index old input cut text ended) (core_of Opens index mid held) ended later
         by_frames (inl (up, behind, text_is, ran)) = turns_on ran.final ran.comes (inl (record {
           sent = sent;
@@ -135,12 +139,12 @@ module _ (tells : Bool) (Opens : Shape → List ℕ → List ℕ → Type 0) (in
             rest = ran.rest;
             text_is = text_is ∙ ap (λ (t : List ℕ). lines_of_frames sent ++ t) ran.text_is;
             last = turns_in ran.final;
-            answered = framed_turns first.inner.start first 1 (lines_of input) ended cut ran.answers ran.rest ran.final refl ran.answered;
+            answered = framed_turns index first.inner.start first 1 (lines_of input) ended cut ran.answers ran.rest ran.final refl ran.answered;
             turns_are = refl;
             acknowledged = kept ran.final ran.comes ran.answers ran.rest ran.answered;
             whole = λ all. data_is ∙ (ran.stands all).1.data_is;
           });
-        })) (λ unfailed. framed_clean first 1 (lines_of input) ended cut ran.answers ran.rest ran.final unfailed ran.answered refl)
+        })) (λ unfailed. framed_clean index first 1 (lines_of input) ended cut ran.answers ran.rest ran.final unfailed ran.answered refl)
         by_frames (inr (inl (up, is, short, part, comes))) = turns_on first comes (inl (record {
           sent = sent;
           good = begins.mirrors.adds.good;

@@ -3,6 +3,7 @@ use Rattle.std.proofs.Common.{◌⊎◌, ℕ, ◌+◌, ◌<◌, ◌≤◌, ◌^�
 use Rattle.std.specs.Prelude.{Contains}
 use Rattle.std.proofs.lemmas.List.Elements.{Contains-append_left, Contains-append_right, Contains-push, Contains-append_cases, Contains-push_cases}
 use Rattle.eaw_face.specs.Frame.{Frame}
+use Rattle.page_store.specs.Index.{Index}
 use Rattle.history.specs.declared.call.Reply.TheVariants.{Committed}
 use Rattle.script_text.specs.Replies.{reply_line}
 use Rattle.script_run.specs.Transcript.{Ends, Answered}
@@ -31,10 +32,10 @@ plain_stops old n line new (inr done) = (done.1.0, inr (done.0, done.1.1))
 stopped : (old : Framed Progress) (n : ℕ) (line : List ℕ) (lines : List (List ℕ)) (new : Framed Progress) → line_script.stops old.inner n line new.inner → Plain old n (line ∷ lines) [] new
 stopped old n line lines new stops = record { ended = NoMemory; cut = false; answers = []; rest = []; answered = (refl, refl, stops); told = λ frames caller m few has. absurd (omega (arith, has.1)) }
 
-plain_ends : (old : Framed Progress) (n : ℕ) (line : List ℕ) (lines : List (List ℕ)) (ended : Ended) (cut : Bool) (rest : List ℕ) (new : Framed Progress) → Ends framed_lines old n line ended cut rest new
+plain_ends : (index : Index) (old : Framed Progress) (n : ℕ) (line : List ℕ) (lines : List (List ℕ)) (ended : Ended) (cut : Bool) (rest : List ℕ) (new : Framed Progress) → Ends (framed_lines index) old n line ended cut rest new
     → Plain old n (line ∷ lines) [] new
-plain_ends old n line lines WriteFault cut rest new ends = stopped old n line lines new (plain_stops old n line new (inr (ends.2.reply, ends.2.gives)))
-plain_ends old n line lines MediaFault cut rest new ends = record {
+plain_ends index old n line lines WriteFault cut rest new ends = stopped old n line lines new (plain_stops old n line new (inr (ends.2.reply, ends.2.gives)))
+plain_ends index old n line lines MediaFault cut rest new ends = record {
   ended = MediaFault;
   cut = cut;
   answers = [];
@@ -42,12 +43,12 @@ plain_ends old n line lines MediaFault cut rest new ends = record {
   answered = (ends.0, ends.1.0, ends.2);
   told = λ frames caller m few has. absurd (omega (arith, has.1));
 }
-plain_ends old n line lines NoMemory cut rest new ends = stopped old n line lines new (plain_stops old n line new ends.2.0)
-plain_ends old n line lines Done cut rest new ends = absurd ends
+plain_ends index old n line lines NoMemory cut rest new ends = stopped old n line lines new (plain_stops old n line new ends.2.0)
+plain_ends index old n line lines Done cut rest new ends = absurd ends
 
-pub plain_of : (old : Framed Progress) (n : ℕ) (lines : List (List ℕ)) (ended : Ended) (cut : Bool) (answers : List (List ℕ)) (rest : List ℕ) (new : Framed Progress) → callers_of old.inner ≤ 2 ^ 64
-    → Answered framed_lines old n lines ended cut answers rest new → Plain old n lines answers new
-plain_of old n [] ended cut [] rest new most is = record {
+pub plain_of : (index : Index) (old : Framed Progress) (n : ℕ) (lines : List (List ℕ)) (ended : Ended) (cut : Bool) (answers : List (List ℕ)) (rest : List ℕ) (new : Framed Progress) → callers_of old.inner ≤ 2 ^ 64
+    → Answered (framed_lines index) old n lines ended cut answers rest new → Plain old n lines answers new
+plain_of index old n [] ended cut [] rest new most is = record {
   ended = ended;
   cut = cut;
   answers = [];
@@ -55,11 +56,11 @@ plain_of old n [] ended cut [] rest new most is = record {
   answered = (is.0, is.1, is.2, ap (λ (s : Framed Progress). s.inner) is.3);
   told = λ frames caller m few has. absurd (omega (arith, has.1));
 }
-plain_of old n [] ended cut (answer ∷ answers) rest new most is = absurd is
-plain_of old n (line ∷ lines) ended cut [] rest new most ends = plain_ends old n line lines ended cut rest new ends
-plain_of old n (line ∷ lines) ended cut (answer ∷ answers) rest new most more =
+plain_of index old n [] ended cut (answer ∷ answers) rest new most is = absurd is
+plain_of index old n (line ∷ lines) ended cut [] rest new most ends = plain_ends index old n line lines ended cut rest new ends
+plain_of index old n (line ∷ lines) ended cut (answer ∷ answers) rest new most more =
     let gives = more.1 in
-    let later = plain_of more.0 (n + 1) lines ended cut answers rest new (subst (λ (start : Start). start.limits.callers ≤ 2 ^ 64) (sym gives.gives.0) most) more.2 in
+    let later = plain_of index more.0 (n + 1) lines ended cut answers rest new (subst (λ (start : Start). start.limits.callers ≤ 2 ^ 64) (sym gives.gives.0) most) more.2 in
     record {
       ended = later.ended;
       cut = later.cut;

@@ -25,7 +25,7 @@ use Rattle.told_commands.specs.Tables.{MadeBy, Refuses}
 use Rattle.told_commands.specs.Purge.{PurgedBy}
 use Rattle.array_runs.specs.declared.status.Refusal.{Refusal}
 use Rattle.array_runs.specs.declared.status.Status.{Status}
-use Rattle.array_runs.specs.declared.status.Status.TheVariants.{Good, Usage, NoMemory, Refused, BadFrame, Gap}
+use Rattle.array_runs.specs.declared.status.Status.TheVariants.{Good, Usage, MediaFault, NoMemory, Refused, BadFrame, Gap}
 
 -- `Usage` comes only if the words ask for nothing or for callers, for whom an array may have too few numbers. Else they ask for something
 -- of which Holds is said, but if memory ran out they may be unread.
@@ -80,9 +80,11 @@ IsComplete (Make name) status = (status ≡ Good) ⊎ ((status ≡ NoMemory) ⊎
 IsComplete Follow status = (status ≡ Good) ⊎ ((status ≡ NoMemory) ⊎ (((n : ℕ) × (status ≡ BadFrame n)) ⊎ ((expected : ℕ) × (got : ℕ) × (status ≡ Gap expected got))))
 IsComplete asked status = (status ≡ Good) ⊎ (status ≡ NoMemory)
 
--- a command that tells something only at its end
-abbrev pub TellsLate : Words → Type 0
-TellsLate Dump = Unit {0}
-TellsLate (Make name) = Unit {0}
-TellsLate Purge = Unit {0}
-TellsLate asked = ⊥
+-- a command that ended so before it told what it tells at its end
+abbrev pub TellsLate : Words → Status → Type 0
+TellsLate Dump status = (status ≡ MediaFault) ⊎ (status ≡ NoMemory)
+TellsLate (Make name) status = (status ≡ MediaFault) ⊎ (status ≡ NoMemory)
+TellsLate Purge status = (status ≡ MediaFault) ⊎ (status ≡ NoMemory)
+TellsLate (Callers numbers) status = status ≡ NoMemory
+TellsLate (Drill numbers) status = status ≡ NoMemory
+TellsLate asked status = ⊥

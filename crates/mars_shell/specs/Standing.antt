@@ -1,7 +1,8 @@
 -- The state that callers' turns over a core stand in, and how it goes on.
-use Rattle.std.specs.Prelude.{ℕ, ◌≡◌, List, [], ◌++◌, false, length}
+use Rattle.std.specs.Prelude.{ℕ, ◌≡◌, List, [], ◌++◌, false, length, IsFalse}
 use Rattle.array_shape.specs.declared.shape.Shape.{Shape}
 use Rattle.eaw_face.specs.Frame.{Frame}
+use Rattle.page_store.specs.Index.{Index}
 use Rattle.caller_steps.specs.State.{State}
 use Rattle.caller_steps.specs.Room.{Limits}
 use Rattle.caller_steps.specs.Core.{CoreView, IsSafe, Continues}
@@ -11,6 +12,7 @@ use Rattle.caller_steps.specs.Step.{Runs}
 use Rattle.history.specs.declared.call.Reply.TheVariants.{Media}
 use Rattle.script_run.specs.Script.{Script}
 use Rattle.frame_lines.specs.Framed.{Framed, framed}
+use Rattle.array_runs.specs.Records.{HasAll}
 use Rattle.mars_shell.specs.Lines.{LineGives, LineMeets, LineStops}
 
 -- the limits of a core, and its state before the first line
@@ -28,6 +30,15 @@ pub record Progress : Type 0 where
 abbrev pub callers_of : Progress → ℕ
 callers_of progress = progress.start.limits.callers
 
+-- the turns so far have led to a state, and this data has its records and its keys, sound under an index
+pub record HasShown (index : Index) (progress : Progress) (bytes : List ℕ) : Type 0 where
+  pub runs : Runs progress.start.limits progress.start.state progress.turns progress.state
+  pub all : HasAll index bytes progress.state
+
+-- if a core lives, the data shows its state
+abbrev pub IsShown : CoreView → Type 0
+IsShown core = IsFalse core.state.is_dead → core.shows core.state
+
 -- the turns so far have led to a state with this data
 pub record HasData (progress : Progress) (bytes : List ℕ) : Type 0 where
   pub runs : Runs progress.start.limits progress.start.state progress.turns progress.state
@@ -42,8 +53,8 @@ line_script = record {
 }
 
 -- the same, with the frames that a call sends before its reply
-abbrev pub framed_lines : Script (Framed Progress)
-framed_lines = framed HasData line_script
+abbrev pub framed_lines : Index → Script (Framed Progress)
+framed_lines index = framed (HasShown index) line_script
 
 -- no caller has had a turn, and the opening has sent these frames from the data that was opened on
 abbrev pub framed_start : Limits → Shape → List ℕ → State → List Frame → Framed Progress

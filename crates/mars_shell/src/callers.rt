@@ -67,6 +67,7 @@ pub fn run_callers<
     requires depth { HasDepth crew.now.numbers.writing }
     ensures early { IsEarly result.0 → result.1 ≡ media }
     ensures silent { IsEarly result.0 ⊎ IsRefusal result.0 → sink.new ≡ sink.old }
+    ensures short { result.0 ≡ Status.NoMemory → sink.new ≡ sink.old }
     ensures counts { Counts result.0 (S.faults source.old) (S.faults source.new) (K.faults sink.old) (K.faults sink.new) (M.view media).faults (M.view result.1).faults }
     ensures steady { IsTrue (S.steady source.old) → result.0 ≡ Status.ReadFault → ⊥ }
     ensures input { IsTrue S.tells → InputSays result.0 (S.left source.old) (S.left source.new) }
@@ -104,6 +105,7 @@ fn run_callers_on<
     requires tries { 1 ≤ crew.now.numbers.tries }
     ensures early { IsEarly result.0 → result.1 ≡ media }
     ensures silent { IsEarly result.0 ⊎ IsRefusal result.0 → sink.new ≡ sink.old }
+    ensures short { result.0 ≡ Status.NoMemory → sink.new ≡ sink.old }
     ensures counts { Counts result.0 (S.faults source.old) (S.faults source.new) (K.faults sink.old) (K.faults sink.new) (M.view media).faults (M.view result.1).faults }
     ensures steady { IsTrue (S.steady source.old) → result.0 ≡ Status.ReadFault → ⊥ }
     ensures input { IsTrue S.tells → InputSays result.0 (S.left source.old) (S.left source.new) }
@@ -142,6 +144,7 @@ fn serve_jointly<R: Threads + Wait + Sync, K: Sink, S: EawStore + Drop + Send, G
         (λ cut text. IsTrue S.tells → Serves (λ ended. JointWork crew.now.numbers.callers crew.now.numbers.readers crew.now.numbers.tries input.now ended cut text) S.opens (index_at (S.view store).state.bytes) (S.view store)
         result.0 cut text (S.view result.1)) }
     ensures untold { IfErr result.0 (λ fault. sink.new ≡ sink.old) }
+    ensures short { IfOk result.0 (λ ended. ended ≡ Ended.NoMemory → sink.new ≡ sink.old) }
     ensures counts { ServedCounts result.0 (K.faults sink.old) (K.faults sink.new) (S.view store).faults (S.view result.1).faults }
 {
     let mut store = store;
@@ -181,6 +184,7 @@ fn work_under<
     ensures served { Wrote K.tells (K.written sink.old) (K.written sink.new) (K.faults sink.old) (K.faults sink.new)
         (λ cut text. IsTrue S.tells → Serves (λ ended. JointWork crew.now.numbers.callers crew.now.numbers.readers crew.now.numbers.tries input.now ended cut text) S.opens I.index (S.view store) result.0 cut text (S.view result.1)) }
     ensures untold { IfErr result.0 (λ fault. sink.new ≡ sink.old) }
+    ensures short { IfOk result.0 (λ ended. ended ≡ Ended.NoMemory → sink.new ≡ sink.old) }
     ensures counts { ServedCounts result.0 (K.faults sink.old) (K.faults sink.new) (S.view store).faults (S.view result.1).faults }
 {
     let core = match Core::<S, I, KeepsAll>::attach(alloc, room, store) {
@@ -218,6 +222,7 @@ fn work_jointly<
         (λ cut text. IsTrue S.tells → Works (λ ended. JointWork crew.now.numbers.callers crew.now.numbers.readers crew.now.numbers.tries input.now ended cut text) (core_of S.opens I.index (S.view core.records.store) core) result.0
         cut text (core_of S.opens I.index (S.view result.1.records.store) result.1)) }
     ensures untold { IfErr result.0 (λ fault. sink.new ≡ sink.old) }
+    ensures short { IfOk result.0 (λ ended. ended ≡ Ended.NoMemory → sink.new ≡ sink.old) }
     ensures given_back { IfErr result.0 (λ fault. result.1 ≡ core) }
     ensures counts { IfOk result.0 (λ ended. WorkCounts ended (K.faults sink.old) (K.faults sink.new) (S.view core.records.store).faults (S.view result.1.records.store).faults) }
 {

@@ -31,12 +31,14 @@ pub struct DrawnScript {
 }
 
 impl CoreWork for DrawnScript {
-    ghost use Rattle.std.specs.Prelude.{◌<◌, ◌^◌, false};
+    ghost use Rattle.std.specs.Prelude.{◌<◌, ◌^◌, true, false};
     ghost use Rattle.mars_shell.specs.Drill.{Drills};
 
     ghost reads = { false };
 
     ghost can_be_done = { λ work. work.numbers.seed < 2 ^ 31 };
+
+    ghost at_once = { true };
 
     ghost does = { λ work input. Drills work.numbers };
 

@@ -12,8 +12,8 @@ ghost use Rattle.mars_shell.specs.Late.{HasDepth};
 ghost use Rattle.mars_shell.specs.Served.{Serves, ServedCounts};
 ghost use Rattle.mars_shell.specs.FramedRun.{TakesFramed, says_framed};
 
-use crate::core_work::OnCore;
 use crate::lines::ByTurns;
+use crate::mirrored::ShownLines;
 use crate::records::over_records;
 use crate::responder::LineCore;
 use array_runs::{Status, find_form, open_for, served_status};
@@ -53,8 +53,7 @@ pub(crate) fn run_lines<S: Source, K: Sink, M: Media + Drop + Send>(
         (λ cut text. (input : List ℕ) × (IsTrue S.tells → S.left source.old ≡ input) × (IsTrue M.tells → OutcomeFor (Run options) (M.view media) result.0 (M.view result.1) input cut text)) }
 {
     if !options.frames {
-        let work = OnCore { work: ByTurns };
-        return over_records(alloc, source, sink, media, options.writing, &work);
+        return over_records(alloc, source, sink, media, options.writing, &ByTurns);
     }
     match options.writing {
         Writing::AtOnce => run_framed(alloc, source, sink, media, AtOnce),
@@ -139,12 +138,14 @@ fn work_framed<K: Sink, S: EawStore + Drop + Send, I: KeyIndex + Send>(
             return (Err(fault), store);
         }
     };
-    let lines = LineCore {
-        core,
-        callers: numbers,
+    let shown = ShownLines {
+        lines: LineCore {
+            core,
+            callers: numbers,
+        },
     };
-    let (ended, lines) = answer_framed(alloc, input, sink, lines);
-    let LineCore { core, callers: _ } = lines;
+    let (ended, shown) = answer_framed(alloc, input, sink, shown);
+    let LineCore { core, callers: _ } = shown.lines;
     let (store, _link) = core.into_store().into_parts();
     (Ok(ended), store)
 }

@@ -44,6 +44,7 @@ pub fn tell_end<K: Sink>(
         (λ cut text. TellsEnd result cut text (work_text lines.now.faults history.now lines.now.fates.items (entries (records (table_of base.now) history.now)) (answers_in lines.now.answers)) (flat_map done_lines history.now ++ media_line)) }
     ensures whole { result ≢ Ended.MediaFault → result ≢ Ended.NoMemory → (end ≡ WorkEnd.All) × IsOk lines.now.answers }
     ensures fault { (result ≡ Ended.MediaFault) ↔ (end ≡ WorkEnd.MediaFault) }
+    ensures short { result ≡ Ended.NoMemory → sink.new ≡ sink.old }
 {
     match end {
         WorkEnd::All => match work_text(alloc, lines, history, base) {

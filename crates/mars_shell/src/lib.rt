@@ -3,8 +3,8 @@
 //!
 //! `run` does what the words of the command line ask for, and answers with a status. Read first `whole.rt`, then `specs/Asked` (what
 //! comes of it, by command and status), `specs/Outcome` of `array_runs` (what was not begun), `specs/Run` (turns of callers over records) and
-//! `specs/PrefixLaw` (what a loss of power leaves). The trait of work over records is in `record_work.rt`, that of work on a core in
-//! `core_work.rt`, and `records.rt` goes from the opening to the status.
+//! `specs/PrefixLaw` (what a loss of power leaves). The trait of work on a core over records is in `core_work.rt`, and `records.rt`
+//! goes from the opening to the status.
 //!
 //! The laws in `laws.rt`: what a run leaves is what the next one needs (`runs_compose`), and what the fates of callers say of the history
 //! (`what_callers_are_told`). The one in `images.rt` says what images hold without their bytes (`what_images_hold`).
@@ -26,7 +26,6 @@ mod lines;
 mod media_room;
 mod mirrored;
 mod obeying;
-mod record_work;
 mod records;
 mod responder;
 mod summary;

@@ -15,12 +15,14 @@ use std::alloc::Global;
 pub struct ByTurns;
 
 impl CoreWork for ByTurns {
-    ghost use Rattle.std.specs.Prelude.{true};
+    ghost use Rattle.std.specs.Prelude.{true, false};
     ghost use Rattle.mars_shell.specs.Run.{Answers};
 
     ghost reads = { true };
 
     ghost can_be_done = { λ work. Unit {0} };
+
+    ghost at_once = { false };
 
     ghost does = { λ work. Answers };
 

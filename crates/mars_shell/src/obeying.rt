@@ -13,7 +13,6 @@ ghost use Rattle.array_runs.specs.Statuses.{Counts, IsSilent};
 
 use crate::callers::{Crew, run_callers};
 use crate::commands::run_commands;
-use crate::core_work::OnCore;
 use crate::drilling::DrawnScript;
 use crate::following::run_follow;
 use crate::formatting::run_format;
@@ -45,7 +44,7 @@ pub fn obey<
     ensures steady { IsTrue (S.steady source.old) → result.0 ≡ Status.ReadFault → ⊥ }
     ensures input { IfReads asked (source.new ≡ source.old) (IsTrue S.tells → InputSays result.0 (S.left source.old) (S.left source.new)) }
     ensures formats { (numbers : FormatNumbers) → asked ≡ Format numbers → FormatSays numbers (M.view media).size result.0 (sink.new ≡ sink.old) (result.1 ≡ media) }
-    ensures untold { TellsLate asked → (result.0 ≡ Status.MediaFault) ⊎ (result.0 ≡ Status.NoMemory) → sink.new ≡ sink.old }
+    ensures untold { TellsLate asked result.0 → sink.new ≡ sink.old }
     ensures ran { Wrote K.tells (K.written sink.old) (K.written sink.new) (K.faults sink.old) (K.faults sink.new)
         (λ cut text. (input : List ℕ) × (IsTrue S.tells → S.left source.old ≡ input) × (IsTrue M.tells → OutcomeFor asked (M.view media) result.0 (M.view result.1) input cut text)) }
     ensures complete { IsFit asked S.tells (S.left source.old) M.tells (M.view media)
@@ -62,9 +61,7 @@ pub fn obey<
         Words::Follow => run_follow(rt.alloc(), source, sink, media),
         Words::Dump => run_told(rt.alloc(), source, sink, media, &Dump),
         Words::Drill(numbers) => {
-            let work = OnCore {
-                work: DrawnScript { numbers },
-            };
+            let work = DrawnScript { numbers };
             over_records(rt.alloc(), source, sink, media, numbers.writing, &work)
         }
         Words::Format(numbers) => run_format(sink, media, &numbers),

@@ -1,5 +1,5 @@
 // Work over the records of the array that a medium holds.
-ghost use Rattle.std.specs.Prelude.{◌≡◌, ◌⊎◌, ℕ, List, None, false, IsTrue, IsFalse, IfErr};
+ghost use Rattle.std.specs.Prelude.{◌≡◌, ◌⊎◌, ℕ, List, None, false, IsTrue, IsFalse, IfOk, IfErr};
 ghost use Rattle.eaw_face.specs.Causes.{IsAlive};
 ghost use Rattle.texts.specs.Written.{Wrote};
 ghost use Rattle.array_runs.specs.Forms.{index_at};
@@ -10,7 +10,7 @@ ghost use Rattle.mars_shell.specs.Run.{TakesTurns};
 ghost use Rattle.mars_shell.specs.Served.{Serves, ServedCounts};
 ghost use Rattle.array_runs.specs.Statuses.{Counts, IsEarly, IsRefusal};
 
-use crate::record_work::RecordWork;
+use crate::core_work::{CoreWork, work_over};
 use array_runs::{Status, find_form, open_for, served_status};
 use btree_pages::BTreePages;
 use command_words::Writing;
@@ -27,7 +27,7 @@ use std::alloc::Global;
 
 /// Does work over the records of the array that the medium holds, if they are sound, on a device that writes the data of commits to its
 /// place when it is told so.
-pub fn over_records<S: Source, K: Sink, M: Media + Drop + Send, W: RecordWork>(
+pub fn over_records<S: Source, K: Sink, M: Media + Drop + Send, W: CoreWork>(
     alloc: Global,
     source: &mut S,
     sink: &mut K,
@@ -40,6 +40,7 @@ pub fn over_records<S: Source, K: Sink, M: Media + Drop + Send, W: RecordWork>(
     ensures no_usage { result.0 ≡ Status.Usage → ⊥ }
     ensures early { IsEarly result.0 → IsTrue W.reads × (result.1 ≡ media) }
     ensures silent { IsEarly result.0 ⊎ IsRefusal result.0 → sink.new ≡ sink.old }
+    ensures short { IsTrue W.at_once → result.0 ≡ Status.NoMemory → sink.new ≡ sink.old }
     ensures counts { Counts result.0 (S.faults source.old) (S.faults source.new) (K.faults sink.old) (K.faults sink.new) (M.view media).faults (M.view result.1).faults }
     ensures steady { IsTrue (S.steady source.old) → result.0 ≡ Status.ReadFault → ⊥ }
     ensures input { IsTrue W.reads → IsTrue S.tells → InputSays result.0 (S.left source.old) (S.left source.new) }
@@ -58,7 +59,7 @@ pub fn over_records<S: Source, K: Sink, M: Media + Drop + Send, W: RecordWork>(
 }
 
 // The same on a device of this type.
-fn over_records_on<S: Source, K: Sink, M: Media + Drop + Send, B: WriteBack + Send, W: RecordWork>(
+fn over_records_on<S: Source, K: Sink, M: Media + Drop + Send, B: WriteBack + Send, W: CoreWork>(
     alloc: Global,
     source: &mut S,
     sink: &mut K,
@@ -70,6 +71,7 @@ fn over_records_on<S: Source, K: Sink, M: Media + Drop + Send, B: WriteBack + Se
     ensures no_usage { result.0 ≡ Status.Usage → ⊥ }
     ensures early { IsEarly result.0 → IsTrue W.reads × (result.1 ≡ media) }
     ensures silent { IsEarly result.0 ⊎ IsRefusal result.0 → sink.new ≡ sink.old }
+    ensures short { IsTrue W.at_once → result.0 ≡ Status.NoMemory → sink.new ≡ sink.old }
     ensures counts { Counts result.0 (S.faults source.old) (S.faults source.new) (K.faults sink.old) (K.faults sink.new) (M.view media).faults (M.view result.1).faults }
     ensures steady { IsTrue (S.steady source.old) → result.0 ≡ Status.ReadFault → ⊥ }
     ensures input { IsTrue W.reads → IsTrue S.tells → InputSays result.0 (S.left source.old) (S.left source.new) }
@@ -89,7 +91,7 @@ fn over_records_on<S: Source, K: Sink, M: Media + Drop + Send, B: WriteBack + Se
 
 // Does work over the records of a store, under the index that its data names, and returns the store. Nothing is written if the records
 // were not taken.
-fn serve<K: Sink, S: EawStore + Drop + Send, W: RecordWork>(
+fn serve<K: Sink, S: EawStore + Drop + Send, W: CoreWork>(
     alloc: Global,
     input: &[u8],
     sink: &mut K,
@@ -103,12 +105,13 @@ fn serve<K: Sink, S: EawStore + Drop + Send, W: RecordWork>(
     ensures served { Wrote K.tells (K.written sink.old) (K.written sink.new) (K.faults sink.old) (K.faults sink.new)
         (λ cut text. IsTrue S.tells → Serves (λ ended. W.does work.now input.now ended cut text) S.opens (index_at (S.view store).state.bytes) (S.view store) result.0 cut text (S.view result.1)) }
     ensures untold { IfErr result.0 (λ fault. sink.new ≡ sink.old) }
+    ensures short { IsTrue W.at_once → IfOk result.0 (λ ended. ended ≡ Ended.NoMemory → sink.new ≡ sink.old) }
     ensures counts { ServedCounts result.0 (K.faults sink.old) (K.faults sink.new) (S.view store).faults (S.view result.1).faults }
 {
     let mut store = store;
     match find_form(&mut store) {
-        Ok(Form::Chain) => work.work_over::<K, S, KeyList>(alloc, input, sink, room, store),
-        Ok(Form::Tree) => work.work_over::<K, S, BTreePages>(alloc, input, sink, room, store),
+        Ok(Form::Chain) => work_over::<K, S, KeyList, W>(alloc, input, sink, room, store, work),
+        Ok(Form::Tree) => work_over::<K, S, BTreePages, W>(alloc, input, sink, room, store, work),
         Err(fault) => (Err(fault), store),
     }
 }

@@ -14,15 +14,9 @@ pub struct LineCore<C: Core> {
 }
 
 impl<C: Core> Responder for LineCore<C> {
-    ghost use Rattle.std.specs.Prelude.{◌≡◌, ◌⊎◌, ◌++◌, [], List, true};
-    ghost use Rattle.std.proofs.Common.{refl, sym, ap, subst, ◌∙◌};
-    ghost use Rattle.std.proofs.lemmas.List.{append-nil, append_assoc};
-    ghost use Rattle.caller_steps.proofs.Continuing.{continues_none, continues_on};
-    ghost use Rattle.caller_steps.proofs.Running.{turns_on, turns_tell, turns_of_runs};
-    ghost use Rattle.caller_steps.specs.Room.{Limits};
-    ghost use Rattle.caller_steps.specs.Run.{Turn};
-    ghost use Rattle.caller_steps.specs.Step.{Runs};
-    ghost use Rattle.mars_shell.specs.Standing.{Progress, HasData, line_script, IsReady, Stands, Comes};
+    ghost use Rattle.std.specs.Prelude.{◌≡◌, ◌⊎◌, IsTrue};
+    ghost use Rattle.mars_shell.specs.Standing.{Progress, HasData, line_script, IsReady, IsShown, Stands, Comes};
+    ghost use Rattle.mars_shell.proofs.Coming.{comes_to_itself, comes_further};
 
     ghost tells = { C.tells };
 
@@ -40,28 +34,13 @@ impl<C: Core> Responder for LineCore<C> {
 
     ghost holds = { HasData };
 
-    ghost sends = { λ old new. (new.core ≡ old.core) ⊎ C.sends old.core new.core };
+    ghost sends = { λ old new. (new.core ≡ old.core)
+        ⊎ (C.sends old.core new.core × (IsTrue C.tells → IsShown (C.view old.core) → IsShown (C.view new.core))) };
 
-    ghost comes_none = { λ lines progress told ready stands. record {
-      more = [];
-      turns_are = sym (append-nil progress.turns);
-      runs = refl;
-      continues = continues_none (C.view lines.core) stands.sound stands.safe;
-    } };
+    ghost comes_none = { λ lines progress told ready stands. comes_to_itself (C.view lines.core) progress stands };
 
-    // One run after another is a run.
     ghost comes_on = { λ first mid last s t u told ready stands before behind.
-        let old = C.view first.core in
-        let now = C.view mid.core in
-        let later = C.view last.core in
-        let run = subst (λ (limits : Limits). Runs limits now.state behind.more later.state) before.continues.limits behind.runs in
-        record {
-          more = before.more ++ behind.more;
-          turns_are = behind.turns_are ∙ ap (λ (turns : List Turn). turns ++ behind.more) before.turns_are ∙ append_assoc s.turns before.more behind.more;
-          runs = turns_tell true old.limits old.state later.state (before.more ++ behind.more) refl (turns_on true old.limits old.state now.state later.state before.more behind.more
-              (turns_of_runs old.limits old.state now.state before.more before.runs) (turns_of_runs old.limits now.state later.state behind.more run));
-          continues = continues_on old now later before.continues behind.continues;
-        } };
+        comes_further (C.view first.core) (C.view mid.core) (C.view last.core) s t u before behind };
 
     fn answer(&mut self, line: &[u8], n: u64, out: &mut Vec<u8>) -> Result<(), Stop> {
         out.clear();

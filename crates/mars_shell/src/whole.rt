@@ -53,8 +53,8 @@ pub fn run<
         (source.new ≡ source.old) (IsTrue S.tells → InputSays result.0 (S.left source.old) (S.left source.new))) }
     ensures formats { WordsSay (map string_bytes words.now) result.0 ((sink.new ≡ sink.old) × (result.1 ≡ media)) (λ asked. (numbers : FormatNumbers)
         → asked ≡ Format numbers → FormatSays numbers (M.view media).size result.0 (sink.new ≡ sink.old) (result.1 ≡ media)) }
-    // A dump, a purge and the making of a table write nothing if the medium failed or memory ran out.
-    ensures untold { WordsSay (map string_bytes words.now) result.0 (sink.new ≡ sink.old) (λ asked. TellsLate asked → (result.0 ≡ Status.MediaFault) ⊎ (result.0 ≡ Status.NoMemory) → sink.new ≡ sink.old) }
+    // A dump, a purge and the making of a table write nothing if the medium failed or memory ran out, and callers and a drill if memory did.
+    ensures untold { WordsSay (map string_bytes words.now) result.0 (sink.new ≡ sink.old) (λ asked. TellsLate asked result.0 → sink.new ≡ sink.old) }
     // What the words ask for was done, and each status has its cause. For `run` the text answers the lines of the input one by one, and for
     // `drill` it is the summary of the replies. For both the history is legal and obeys the prefix law. For `dump` the text is the records,
     // for `make` the number of the new table, for `purge` how many keys were taken out, for `eaw` it answers the commands by the model,

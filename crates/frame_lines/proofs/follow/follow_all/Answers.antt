@@ -5,7 +5,7 @@ use Rattle.mars_base.specs.Causes.{Rose}
 use Rattle.mars_base.proofs.Going.{stays, then, weaker}
 use Rattle.script_run.specs.Lines.{lines_of}
 use Rattle.frame_lines.specs.Followed.{OpensFirst}
-use Rattle.frame_lines.proofs.Running.{SoFar, begins, goes_on, near, ended_at, opens_first}
+use Rattle.frame_lines.proofs.Running.{SoFar, begins, goes_on, near, ended_all, ended_at, opens_first}
 use Rattle.frame_lines.proofs.follow.follow_all.Goals as goal
 
 pub loop-line-init : goal.loop-line-init
@@ -35,6 +35,7 @@ returns-in-Err-clause-ran g c =
       wrote = λ told. end.wrote told ∙ ap (λ (x : List ℕ). x ++ end.text) (so.1 told) ∙ append_assoc (g.K.Sink.written c.args.sink.now) so.0 end.text;
       counts = subst (λ (n : ℕ). let now = g.K.Sink.faults c.follow_line.new.sink in MatchBool end.cut (Rose n now) (now ≡ n)) c.loop-line.invariant.sink end.counts;
       holds = ended_at s.tells s.view first lines c.args.shape c.requires.shape c.loop-line.follower c.follow_line.new.follower c.in-Some.line.now (lines_of c.in-Some.after.now) c.loop-line.n so.0 far s.opens
+          (g.met.S.EawStore.only_now c.follow_line.new.follower.store)
           (near s.tells s.view first lines c.args.shape c.requires.shape c.loop-line.follower c.follow_line.new.follower c.in-Some.line.now (lines_of c.in-Some.after.now) c.loop-line.n so.0 far s.opens
           (λ t image told le left. g.met.S.EawStore.counts_now c.follow_line.new.follower.store t image told le left)
           (λ image told left. g.met.S.EawStore.only_now c.loop-line.follower.store image told far.goes_on.alive left) c.in-Err.ensures.moments)

@@ -1,4 +1,4 @@
-use Rattle.std.proofs.Common.{[], false, ⊎_elim, refl, sym, subst}
+use Rattle.std.proofs.Common.{[], false, ⊎_elim, refl, sym, subst, ◌∙◌}
 use Rattle.std.proofs.lemmas.List.{append-nil}
 use Rattle.reader_work.specs.Readership.{passes_for}
 use Rattle.mars_shell.specs.Joint.{JointWork}
@@ -7,7 +7,7 @@ use Rattle.array_runs.specs.Records.{OverRecords}
 use Rattle.array_runs.specs.Statuses.{IsEarly, IsRefusal}
 use Rattle.array_runs.specs.declared.status.Status.{Status}
 use Rattle.array_runs.proofs.Endings.{served_late, served_refused, input_read}
-use Rattle.mars_shell.proofs.Endings.{served}
+use Rattle.mars_shell.proofs.Endings.{served, served_short}
 use Rattle.mars_shell.proofs.Outcomes.{records_outcome, turns_none}
 use Rattle.mars_shell.proofs.callers.run_callers_on.Goals as goal
 
@@ -80,3 +80,6 @@ pub returns-clause-input : goal.returns-clause-input
 returns-clause-input g c = λ told.
     let read = c.in-Ok.ensures.ended refl told in
     input_read c.served_status.result _ _ (λ early. served_late c.serve_jointly-served.result.0 (subst IsEarly c.served_status.ensures early)) read.0 read.1
+
+pub returns-clause-short : goal.returns-clause-short
+returns-clause-short g c = λ is. served_short _ c.serve_jointly-served.result.0 c.serve_jointly-served.ensures.untold c.serve_jointly-served.ensures.short (sym c.served_status.ensures ∙ is)

@@ -62,3 +62,9 @@ returns-in-Err-clause-served g c =
       holds = λ told. unread false s.tells s.opens (index_at (s.view c.args.store).state.bytes) (s.view c.args.store) (s.view c.find_form.new.store) (is_media_fault c.in-Err.fault) c.in-Err.fault told c.in-Err.ensures.cause
           c.in-Err.ensures.left;
     }
+
+pub returns-in-Ok-Chain-clause-short : goal.returns-in-Ok-Chain-clause-short
+returns-in-Ok-Chain-clause-short g c = c.work_under.ensures.short
+
+pub returns-in-Ok-Tree-clause-short : goal.returns-in-Ok-Tree-clause-short
+returns-in-Ok-Tree-clause-short g c = c.work_under-in-Ok-Tree.ensures.short

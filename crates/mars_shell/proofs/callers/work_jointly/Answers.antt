@@ -88,3 +88,6 @@ pub work_with-requires-clause-some : goal.work_with-requires-clause-some
 work_with-requires-clause-some g c κs within =
     let callers : length c.in-Ok.script.plans.items ≡ c.args.crew.now.numbers.callers = ap length c.in-Ok.ensures.3 ∙ as_many 0 c.args.crew.now.numbers.callers c.in-Ok.ensures.0 in
     omega (arith, callers, c.requires.some)
+
+pub returns-in-Ok-work_with-clause-short : goal.returns-in-Ok-work_with-clause-short
+returns-in-Ok-work_with-clause-short g c = c.tell_end-ended.ensures.short

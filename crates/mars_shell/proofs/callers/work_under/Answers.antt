@@ -63,3 +63,6 @@ returns-in-Err-clause-served g c =
       holds = λ tells.
           untaken s.tells s.opens g.I.KeyIndex.index (s.view c.args.store) (s.view c.in-Err.store) c.in-Err.fault tells c.in-Err.ensures.cause c.in-Err.ensures.gives_back;
     }
+
+pub returns-in-Ok-worked-clause-short : goal.returns-in-Ok-worked-clause-short
+returns-in-Ok-worked-clause-short g c = rw c.in-Ok-worked.is at c.work_jointly-worked.ensures.short

@@ -34,7 +34,7 @@ returns-clause-ran g c =
         λ told. inr (
           ended,
           c.follow_status.ensures,
-          follows media.tells told old (g.met.M.Media.only_now c.args.media) _ c.in-Ok.ensures.attached c.in-Ok.ensures.keeps _ new c.into_media.ensures
+          follows media.tells told old (g.met.M.Media.only_now c.args.media) _ c.in-Ok.ensures.attached c.in-Ok.ensures.keeps _ new c.into_media.ensures (g.met.M.Media.counts_now c.into_media.result)
               input ended said.ran.cut said.ran.text (rw c.deref.ensures.value at said.ran.holds) (rw c.deref.ensures.value at (said.moments told)),
         ),
       );

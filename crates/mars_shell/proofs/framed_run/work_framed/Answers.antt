@@ -10,7 +10,7 @@ use Rattle.array_runs.proofs.Untaken.{untaken}
 use Rattle.mars_shell.specs.Served.{Served}
 use Rattle.mars_shell.specs.FramedRun.{says_framed}
 use Rattle.mars_shell.proofs.Serving.{can_share, served}
-use Rattle.mars_shell.proofs.Framing.{some_bytes, first, stands_first, has_begun, by_frames}
+use Rattle.mars_shell.proofs.Framing.{some_bytes, first, stands_first, shown_first, has_begun, by_frames}
 use Rattle.mars_shell.proofs.Below.{untaken_below, served_below}
 use Rattle.mars_shell.proofs.framed_run.work_framed.Goals as goal
 
@@ -70,7 +70,7 @@ returns-clause-served g c =
     let index = g.I.KeyIndex.index in
     let prim = c.in-Ok.primary in
     let core = c.in-Ok-attach.core in
-    let last = c.answer_framed-ended.result.1.core in
+    let last = c.answer_framed-ended.result.1.lines.core in
     let sent = sending_in true (λ l. l.frames) (λ l. l.faults) prim in
     let sent' = sending_in true (λ l. l.frames) (λ l. l.faults) last.records.store in
     let old = over (s.view prim.store) sent in
@@ -95,7 +95,7 @@ returns-clause-served g c =
       counts = ran.counts;
       holds = λ told.
           let done = ran.holds told (first s.tells s.opens index old mid _ core begins told 0 ready refl none refl from_one)
-          (stands_first s.tells s.opens index old mid _ core begins told 0 ready refl none refl from_one)
+          (stands_first s.tells s.opens index old mid _ core begins told 0 ready refl none refl from_one, shown_first s.tells s.opens index old mid _ core begins told 0 ready refl none refl from_one)
           (has_begun s.tells s.opens index old mid _ core begins told 0 ready refl none refl from_one) in
           let turns = by_frames s.tells s.opens index old mid _ core begins told 0 ready refl none refl from_one later input ended ran.cut ran.text new refl done in
           let all = served s.tells s.opens index old mid (core_of s.opens index mid core) begins told new later over_last (says_framed index old input ran.cut ran.text ended) ended turns in

@@ -74,7 +74,7 @@ pub returns-in-Callers-clause-formats : goal.returns-in-Callers-clause-formats
 returns-in-Callers-clause-formats g c = rw c.in-Callers.is (λ numbers is. absurd (let no : ⊥ = cc is in no))
 
 pub returns-in-Callers-clause-untold : goal.returns-in-Callers-clause-untold
-returns-in-Callers-clause-untold g c = rw c.in-Callers.is (λ is. absurd is)
+returns-in-Callers-clause-untold g c = rw c.in-Callers.is c.run_callers.ensures.short
 
 pub returns-in-Callers-clause-ran : goal.returns-in-Callers-clause-ran
 returns-in-Callers-clause-ran g c = rw c.in-Callers.is c.run_callers.ensures.ran
@@ -109,7 +109,7 @@ pub returns-in-Dump-clause-formats : goal.returns-in-Dump-clause-formats
 returns-in-Dump-clause-formats g c = rw c.in-Dump.is (λ numbers is. absurd (let no : ⊥ = cc is in no))
 
 pub returns-in-Dump-clause-untold : goal.returns-in-Dump-clause-untold
-returns-in-Dump-clause-untold g c = rw c.in-Dump.is (λ late. c.run_told.ensures.untold)
+returns-in-Dump-clause-untold g c = rw c.in-Dump.is c.run_told.ensures.untold
 
 pub returns-in-Dump-clause-ran : goal.returns-in-Dump-clause-ran
 returns-in-Dump-clause-ran g c =
@@ -143,7 +143,7 @@ pub returns-in-Drill-clause-formats : goal.returns-in-Drill-clause-formats
 returns-in-Drill-clause-formats g c = rw c.in-Drill.is (λ numbers is. absurd (let no : ⊥ = cc is in no))
 
 pub returns-in-Drill-clause-untold : goal.returns-in-Drill-clause-untold
-returns-in-Drill-clause-untold g c = rw c.in-Drill.is (λ is. absurd is)
+returns-in-Drill-clause-untold g c = rw c.in-Drill.is (c.over_records.ensures.short refl)
 
 pub returns-in-Drill-clause-ran : goal.returns-in-Drill-clause-ran
 returns-in-Drill-clause-ran g c =
@@ -253,7 +253,7 @@ pub returns-in-Make-clause-formats : goal.returns-in-Make-clause-formats
 returns-in-Make-clause-formats g c = rw c.in-Make.is (λ numbers is. absurd (let no : ⊥ = cc is in no))
 
 pub returns-in-Make-clause-untold : goal.returns-in-Make-clause-untold
-returns-in-Make-clause-untold g c = rw c.in-Make.is (λ late. c.run_told-in-Make.ensures.untold)
+returns-in-Make-clause-untold g c = rw c.in-Make.is c.run_told-in-Make.ensures.untold
 
 pub returns-in-Make-clause-ran : goal.returns-in-Make-clause-ran
 returns-in-Make-clause-ran g c =
@@ -287,7 +287,7 @@ pub returns-in-Purge-clause-formats : goal.returns-in-Purge-clause-formats
 returns-in-Purge-clause-formats g c = rw c.in-Purge.is (λ numbers is. absurd (let no : ⊥ = cc is in no))
 
 pub returns-in-Purge-clause-untold : goal.returns-in-Purge-clause-untold
-returns-in-Purge-clause-untold g c = rw c.in-Purge.is (λ late. c.run_told-in-Purge.ensures.untold)
+returns-in-Purge-clause-untold g c = rw c.in-Purge.is c.run_told-in-Purge.ensures.untold
 
 pub returns-in-Purge-clause-ran : goal.returns-in-Purge-clause-ran
 returns-in-Purge-clause-ran g c =

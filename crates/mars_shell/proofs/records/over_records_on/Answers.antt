@@ -5,7 +5,7 @@ use Rattle.mars_shell.specs.Run.{TakesTurns}
 use Rattle.array_runs.specs.Statuses.{IsEarly, IsRefusal}
 use Rattle.array_runs.specs.declared.status.Status.{Status}
 use Rattle.array_runs.proofs.Endings.{served_late, served_refused, served_usage, input_read}
-use Rattle.mars_shell.proofs.Endings.{served}
+use Rattle.mars_shell.proofs.Endings.{served, served_short}
 use Rattle.mars_shell.proofs.Outcomes.{records_outcome, turns_none}
 use Rattle.mars_shell.proofs.records.over_records_on.Goals as goal
 
@@ -22,7 +22,7 @@ returns-in-Err-clause-ran g c =
       holds = (
         input,
         (λ asked _. refl),
-        λ told. turns_none 0 g.B.WriteBack.defers (λ ended. g.W.RecordWork.does c.args.work.now input ended false []) old c.in-Err.ended.0 new false [] (c.in-Err.ensures.outcome told),
+        λ told. turns_none 0 g.B.WriteBack.defers (λ ended. g.W.CoreWork.does c.args.work.now input ended false []) old c.in-Err.ended.0 new false [] (c.in-Err.ensures.outcome told),
       );
     }
 
@@ -50,7 +50,7 @@ returns-clause-ran g c =
     let met = (g.met.M.Media g.world.𝓛 g.world.𝓜 g.world.𝓡 ((λ s x. x), (λ x. x), (λ x. x), λ x. x)) in
     let old = media.view c.args.media in
     let new = media.view c.into_media.result in
-    let work = g.W.RecordWork in
+    let work = g.W.CoreWork in
     let said = c.serve-served.ensures.served in
     let input = c.in-Ok.opened.1.items in
     record {
@@ -93,3 +93,6 @@ returns-clause-input g c = λ asked told.
 
 pub returns-clause-unread : goal.returns-clause-unread
 returns-clause-unread g c = λ unasked. c.open_for.ensures.unread (c.reads.ensures ∙ unasked)
+
+pub returns-clause-short : goal.returns-clause-short
+returns-clause-short g c = λ quiet is. served_short _ c.serve-served.result.0 c.serve-served.ensures.untold (c.serve-served.ensures.short quiet) (sym c.served_status.ensures ∙ is)

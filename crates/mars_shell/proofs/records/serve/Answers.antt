@@ -20,7 +20,7 @@ returns-in-Ok-Chain-clause-served g c =
       text = said.text;
       wrote = said.wrote;
       counts = said.counts;
-      holds = λ told. serves_on s.tells told s.opens 0 old mid form (s.view c.work_over.result.1) (λ ended. g.W.RecordWork.does c.args.work.now c.args.input.now ended said.cut said.text) c.work_over.result.0 said.cut said.text (said.holds told);
+      holds = λ told. serves_on s.tells told s.opens 0 old mid form (s.view c.work_over.result.1) (λ ended. g.W.CoreWork.does c.args.work.now c.args.input.now ended said.cut said.text) c.work_over.result.0 said.cut said.text (said.holds told);
     }
 
 pub returns-in-Ok-Chain-clause-untold : goal.returns-in-Ok-Chain-clause-untold
@@ -41,7 +41,7 @@ returns-in-Ok-Tree-clause-served g c =
       text = said.text;
       wrote = said.wrote;
       counts = said.counts;
-      holds = λ told. serves_on s.tells told s.opens 1 old mid form (s.view c.work_over-in-Ok-Tree.result.1) (λ ended. g.W.RecordWork.does c.args.work.now c.args.input.now ended said.cut said.text) c.work_over-in-Ok-Tree.result.0 said.cut said.text (said.holds told);
+      holds = λ told. serves_on s.tells told s.opens 1 old mid form (s.view c.work_over-in-Ok-Tree.result.1) (λ ended. g.W.CoreWork.does c.args.work.now c.args.input.now ended said.cut said.text) c.work_over-in-Ok-Tree.result.0 said.cut said.text (said.holds told);
     }
 
 pub returns-in-Ok-Tree-clause-untold : goal.returns-in-Ok-Tree-clause-untold
@@ -61,3 +61,9 @@ returns-in-Err-clause-served g c =
       holds = λ told. unread false s.tells s.opens (index_at (s.view c.args.store).state.bytes) (s.view c.args.store) (s.view c.find_form.new.store) (is_media_fault c.in-Err.fault) c.in-Err.fault told c.in-Err.ensures.cause
           c.in-Err.ensures.left;
     }
+
+pub returns-in-Ok-Chain-clause-short : goal.returns-in-Ok-Chain-clause-short
+returns-in-Ok-Chain-clause-short g c = c.work_over.ensures.short
+
+pub returns-in-Ok-Tree-clause-short : goal.returns-in-Ok-Tree-clause-short
+returns-in-Ok-Tree-clause-short g c = c.work_over-in-Ok-Tree.ensures.short

@@ -36,7 +36,7 @@ returns-in-Ok-write_answer-clause-answers g c = λ tell state stood.
     let up = sym c.link_down.ensures ∙ c.if-link_down.false in
     let alive = g.met.R.Mirrored.alive mid ready in
     let wrote = c.in-Ok-write_answer.ensures in
-    let holds = g.met.R.Mirrored.data_of mid done.0 tell done.2 in (
+    let holds = g.met.R.Mirrored.data_of mid done.0 tell ready done.2 in (
       next r.tells (view old) (view mid) sends c.requires.1 state stood.1 done.0 tell up alive,
       gives_framed r.tells (view old) (view mid) sends c.requires.1 state stood.1 done.0 tell up alive r.script r.holds c.args.n c.args.line.now c.write_answer.new.out.items c.answer.new.out.items c.clear.new.self.items done.1 holds c.clear.ensures.items (wrote.written ∙ ap (λ (t : List ℕ). (c.clear.new.self.items ++ flat_map bytes_line (view mid).sending.frames) ++ t) c.deref.ensures.value),
       (wrote.stands.stands tell done.0 done.2, has_sent r.tells (view old) (view mid) sends c.requires.1 state stood.1 done.0 tell up alive (view new) wrote.is_but),

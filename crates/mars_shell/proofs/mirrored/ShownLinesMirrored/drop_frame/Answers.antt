@@ -1,15 +1,15 @@
 use Rattle.std.proofs.Common.{sym, ap, subst, ◌∙◌}
 use Rattle.caller_steps.specs.Core.{CoreView}
 use Rattle.mars_core.specs.Held.{core_of}
-use Rattle.mars_shell.specs.Standing.{Stands, Comes}
+use Rattle.mars_shell.specs.Standing.{Stands, IsShown, Comes}
 use Rattle.mars_shell.proofs.GivingUp.{core_is, stands_on, comes_on}
-use Rattle.mars_shell.proofs.mirrored.LineCoreCoreMirrored.drop_frame.Goals as goal
+use Rattle.mars_shell.proofs.mirrored.ShownLinesMirrored.drop_frame.Goals as goal
 
 pub returns-clause-stands : goal.returns-clause-stands
 returns-clause-stands g c =
     let s = g.S.EawStore in
     let index = g.I.KeyIndex.index in
-    let was = c.args.self.now.core in
+    let was = c.args.self.now.lines.core in
     let is = c.drop_frame.new.self in
     let old = s.view was.records.store in
     let new = s.view is.records.store in
@@ -22,6 +22,9 @@ returns-clause-stands g c =
         alive = ap (λ (v : CoreView). v.state.is_dead) same ∙ ready.alive;
       };
       faults = gives.faults;
-      stands = λ told progress stood. subst (λ (v : CoreView). Stands v progress) (sym same) (stands_on core new.left_since gives.left progress stood);
-      comes = λ told ready progress stood. subst (λ (v : CoreView). Comes core progress v progress) (sym same) (comes_on core new.left_since gives.left progress stood);
+      stands = λ told progress stood. (
+        subst (λ (v : CoreView). Stands v progress) (sym same) (stands_on core new.left_since gives.left progress stood.0),
+        subst (λ (v : CoreView). IsShown v) (sym same) stood.1,
+      );
+      comes = λ told ready progress stood. subst (λ (v : CoreView). Comes core progress v progress) (sym same) (comes_on core new.left_since gives.left progress stood.0);
     }

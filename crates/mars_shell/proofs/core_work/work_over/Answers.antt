@@ -6,7 +6,7 @@ use Rattle.mars_core.specs.Over.{IsOver}
 use Rattle.mars_shell.specs.Served.{Served}
 use Rattle.array_runs.proofs.Untaken.{untaken}
 use Rattle.mars_shell.proofs.Serving.{untold, can_share, served}
-use Rattle.mars_shell.proofs.core_work.OnCoreRecordWork.work_over.Goals as goal
+use Rattle.mars_shell.proofs.core_work.work_over.Goals as goal
 
 pub work_on-worked-requires-clause-numbers : goal.work_on-worked-requires-clause-numbers
 work_on-worked-requires-clause-numbers g c = ap (λ (shape : Shape). shape.numbers) (c.shape-numbers.ensures ∙ sym c.in-Ok.ensures.begins.shape)
@@ -17,7 +17,7 @@ work_on-worked-requires-clause-ready g c =
     let store = c.in-Ok.core.records.store in
     let begins = c.in-Ok.ensures.begins in
     can_share s.tells s.opens g.I.KeyIndex.index (s.view c.args.store) (s.view store) _ begins 0 (omega arith)
-    (λ told image left. g.met.S.EawStore.only_now store image told begins.alive left)
+    (λ told image left. (g.met.S.EawStore g.world.𝓛 g.world.𝓜 g.world.𝓡 ((λ s x. x), (λ x. x), (λ x. x), λ x. x)).only_now store image told begins.alive left)
 
 pub returns-in-Ok-worked-clause-served : goal.returns-in-Ok-worked-clause-served
 returns-in-Ok-worked-clause-served g c =
@@ -28,7 +28,7 @@ returns-in-Ok-worked-clause-served g c =
     let over = subst (λ st. IsOver s.tells (s.opens (s.view st).shape) g.I.KeyIndex.index (s.view st) (core_of s.opens g.I.KeyIndex.index (s.view st) core)) c.into_store-store.ensures.store c.into_store-store.ensures.over in
     let works = c.work_on-worked.ensures.works in
     let ended = c.in-Ok-worked.ended in
-    let does = g.W.CoreWork.does c.args.self.now.work c.args.input.now ended works.cut works.text in
+    let does = g.W.CoreWork.does c.args.work.now c.args.input.now ended works.cut works.text in
     record {
       cut = works.cut;
       text = works.text;
@@ -65,3 +65,6 @@ returns-in-Err-clause-served g c =
       holds = λ tells.
           untaken s.tells s.opens g.I.KeyIndex.index (s.view c.args.store) (s.view c.in-Err.store) c.in-Err.fault tells c.in-Err.ensures.cause c.in-Err.ensures.gives_back;
     }
+
+pub returns-in-Ok-worked-clause-short : goal.returns-in-Ok-worked-clause-short
+returns-in-Ok-worked-clause-short g c = λ quiet. rw c.in-Ok-worked.is at (c.work_on-worked.ensures.short quiet)
