@@ -12,13 +12,12 @@ mod kept;
 use crate::choice::{Image, choose};
 use crate::ending::tell;
 use crate::image::{fresh_image, no_image};
-use crate::kept::KEPT;
+use crate::kept::resident;
 use mars_base::NoMemory;
 use mars_shell::{OpenGate, Status, run};
 use media_file::FileMedia;
 use outside::{StdSink, StdSource};
 use pcm_media::{Media, MemoryMedia};
-use resident_media::ResidentMedia;
 use std::fs::File;
 use std::io::{ErrorKind, Input, Result as IoResult};
 use std::process::ExitCode;
@@ -61,13 +60,13 @@ where
     }
 }
 
-// A run over a file, which is kept in memory as it is read. A missing file that is not to be created is an image of no bytes.
+// A run over a file, of which each block is read once. A missing file that is not to be created is an image of no bytes.
 fn run_on_file<R>(rt: &R, words: &[String], path: &str, least: u64) -> Status
 where
     R: AllocGlobal + Files<File = File> + Input + Print + Threads + Wait + Sync,
 {
     match FileMedia::attach(rt, path, least) {
-        Ok(Some(media)) => match ResidentMedia::over(rt.alloc(), media, KEPT) {
+        Ok(Some(media)) => match resident(rt.alloc(), media) {
             Ok(media) => run_over(rt, words, media),
             Err(_) => Status::NoMemory,
         },

@@ -1,12 +1,14 @@
 -- A medium that was just made.
-use Rattle.std.proofs.Common.{◌≡◌, ℕ, zero, suc, ◌-◌, ◌<◌, ◌≤◌, Bool, false, inl, inr, List, [], ◌∷◌, length, get_or, take, replicate, refl, sym, ◌∙◌, ap, subst, arith, length-append}
+use Rattle.std.proofs.Common.{◌≡◌, ℕ, zero, suc, ◌-◌, ◌/◌, ◌<◌, ◌≤◌, Bool, false, inl, inr, List, [], ◌∷◌, length, get_or, take, refl, sym, ◌∙◌, ap, subst, arith, length-append}
 use Rattle.std.specs.Prelude.{◌↔◌}
 use Rattle.std.proofs.lemmas.Bool.{cases_lt}
 use Rattle.std.proofs.lemmas.List.{get_or-take, get_or_append_left, get_or-append_right, get_or_past, length-take-le}
 use Rattle.pcm_media.specs.View.{View}
 use Rattle.resident_media.specs.Noted.{up_to}
-use Rattle.resident_media.specs.Blocks.{AreFor}
+use Rattle.resident_media.specs.Blocks.{Kept, fresh}
 use Rattle.resident_media.specs.Resident.{Lies, below, over}
+use Rattle.resident_media.proofs.Places.{none_known}
+use Rattle.resident_media.proofs.Spots.{not_both}
 
 pub length-up_to : (n : ℕ) → length (up_to n) ≡ n
 unfolding up_to
@@ -25,27 +27,17 @@ get_or-up_to (suc n) t d lt = elim (cases_lt t n) [
       get_or-append_right (up_to n) (n ∷ []) n t d (length-up_to n) high ∙ first ∙ sym is
 ]
 
-none_known : (n b : ℕ) → get_or (replicate n false) b false ≡ false
-none_known zero b = refl
-none_known (suc n) zero = refl
-none_known (suc n) (suc b) = none_known n b
-
-pub lies_anew : (tells : Bool) (inner : View) (len capacity : ℕ) (kept : List ℕ) (known : List Bool) (wait moment n : ℕ) (stood : List ℕ) → moment ≡ inner.moment → stood ≡ up_to moment → len ≤ inner.size
-    → len ≤ capacity → length kept ≡ 0 → AreFor len (length known) → known ≡ replicate n false → Lies tells inner len capacity kept known wait moment stood
-lies_anew tells inner len capacity kept known wait moment n stood now is fits reserved empty blocks none = record {
+pub lies_anew : (tells : Bool) (inner : View) (kept : Kept) (len blocks capacity moment : ℕ) (stood : List ℕ) → kept ≡ fresh len blocks → moment ≡ inner.moment → stood ≡ up_to moment → len ≤ inner.size
+    → len ≤ capacity → Lies tells inner kept capacity moment stood
+lies_anew tells inner kept len blocks capacity moment stood anew now is fits reserved = record {
   count = ap (λ (l : List ℕ). length l) is ∙ length-up_to moment;
   past = λ t lt.
       let low : t < moment = omega (arith, length-up_to moment, ap (λ (l : List ℕ). length l) is) in
       omega (arith, ap (λ (l : List ℕ). get_or l t 0) is, get_or-up_to moment t 0 low);
   later = omega arith;
-  fits = fits;
-  reserved = reserved;
-  low = omega (arith, empty);
-  all = λ some. absurd (omega (arith, empty, some));
-  ready = λ some. absurd (omega (arith, empty, some));
-  none = λ z b. ap (λ (l : List Bool). get_or l b false) none ∙ none_known n b;
-  blocks = blocks;
-  holds = λ told i lt seen. absurd (omega (arith, empty, lt));
+  fits = omega (arith, fits, ap (λ (k : Kept). k.len) anew);
+  reserved = omega (arith, reserved, ap (λ (k : Kept). k.len) anew);
+  holds = λ told i lt seen. absurd (not_both (sym (none_known blocks (i / 4096)) ∙ sym (ap (λ (k : Kept). get_or k.known (i / 4096) false) anew) ∙ seen));
 }
 
 pub below_anew : (m t : ℕ) → t ≤ m → below (up_to m) m m t ≡ t

@@ -1,117 +1,97 @@
--- Kept bytes after a read from below, after a write, and after a write that failed.
-use Rattle.std.proofs.Common.{◌≡◌, ℕ, ◌+◌, ◌-◌, ◌*◌, ◌/◌, ◌<◌, ◌≤◌, ◌⊎◌, min, Bool, true, false, inl, inr, List, [], ◌∷◌, ◌++◌, length, get_or, take, drop, refl, sym, ◌∙◌, ap, arith, length-append, length-drop, true≢false}
+-- What is kept after a read from below, after a write, and after a write that failed.
+use Rattle.std.proofs.Common.{◌≡◌, ℕ, ◌+◌, ◌-◌, ◌*◌, ◌/◌, ◌<◌, ◌≤◌, min, Bool, true, false, inl, inr, List, [], ◌∷◌, length, get_or, take, refl, sym, ◌∙◌, ap, arith}
 use Rattle.std.proofs.lemmas.Bool.{cases_lt}
-use Rattle.std.proofs.lemmas.List.{get_or-take, get_or_append_left, get_or-append_right, length-take-le, get_or-drop, ext_get_or}
-use borrow.Rule.Slice.PartMut.{put_mid, post_of}
+use Rattle.std.proofs.lemmas.List.{ext_get_or, get_or-take}
 use Rattle.mars_base.specs.Bytes.{put, range}
 use Rattle.mars_base.proofs.Puts.{get_or-put_inside}
 use Rattle.pcm_media.specs.Images.{Content, Touched}
-use Rattle.pcm_media.proofs.Ranges.{length-range, get_or-range}
 use Rattle.pcm_media.proofs.Left.{get_or-put_outside}
-use Rattle.resident_media.specs.Blocks.{Holds, AreKnown, IsMarked, IsPut, Covers, end_block}
+use Rattle.pcm_media.proofs.Ranges.{length-range, get_or-range}
+use Rattle.resident_media.specs.Blocks.{Kept, Holds, IsSeen, IsPut, IsMarked, AreKnown, Covers, IsCovered, byte_at, end_block}
+use Rattle.resident_media.proofs.Spots.{not_both}
 
-pub not_both : false ≡ true → ⊥
-not_both e = true≢false (sym e)
+module _ (at count : ℕ) (part : List ℕ) (kept next : Kept) (long : length part ≡ count) (len : next.len ≡ kept.len) (covers : Covers at (length part) kept.len kept.known next.known)
+    (is : IsPut at (length part) part kept next) where
+  -- a kept byte that was not put
+  unput : (content : List ℕ) → Holds kept content → (i : ℕ) → i < next.len → (at ≤ i → i < at + count → ⊥) → IsSeen next.known i → byte_at next i ≡ get_or content i 0
+  unput content holds i lt out seen =
+      let beside : at ≤ i → i < at + length part → ⊥ = λ le lt'. out le (omega (arith, lt', long)) in
+      let was : IsSeen kept.known i = sym (covers.outside (i / 4096) (λ c. beside (omega (arith, c.1)) (omega (arith, c.2, lt, len)))) ∙ seen in
+      is.outside i was beside ∙ holds i (omega (arith, lt, len)) was
 
-either : (x : Bool) → (x ≡ true) ⊎ (x ≡ false)
-either true = inl refl
-either false = inr refl
-
--- a part of the kept bytes with others in their place
-module _ (from k : ℕ) (kept part : List ℕ) (long : length part ≡ k) (fits : from + k ≤ length kept) where
-  abbrev now : List ℕ
-  now = put_mid from k kept part
-
-  front : length (take from kept) ≡ from
-  front = length-take-le from kept (omega arith)
-
-  now_before : (i : ℕ) → i < from → get_or now i 0 ≡ get_or kept i 0
-  now_before i lt = get_or_append_left (take from kept) (part ++ post_of from k kept) 0 i (omega (arith, front)) ∙ get_or-take from kept i 0 lt
-
-  now_inside : (i : ℕ) → from ≤ i → i < from + k → get_or now i 0 ≡ get_or part (i - from) 0
-  now_inside i le lt = get_or-append_right (take from kept) (part ++ post_of from k kept) from i 0 front le ∙ get_or_append_left part (post_of from k kept) 0 (i - from) (omega arith)
-
-  now_after : (i : ℕ) → from + k ≤ i → get_or now i 0 ≡ get_or kept i 0
-  now_after i le =
-      get_or-append_right (take from kept) (part ++ post_of from k kept) from i 0 front (omega arith)
-      ∙ get_or-append_right part (post_of from k kept) k (i - from) 0 long (omega arith)
-      ∙ get_or-drop k (drop from kept) (i - from - k) 0
-      ∙ get_or-drop from kept (k + (i - from - k)) 0
-      ∙ ap (λ (j : ℕ). get_or kept j 0) (omega arith)
-
-  now_long : length now ≡ length kept
-  now_long = omega (arith, front, length-append (take from kept) (part ++ post_of from k kept), length-append part (post_of from k kept), length-drop k (drop from kept), length-drop from kept)
-
-  module _ (first end : ℕ) (from_is : from ≡ first * 4096) (to_is : from + k ≡ min (end * 4096) (length kept)) (known marked : List Bool) (content : List ℕ) (holds : Holds kept known content) where
-    elsewhere : (is_known : Bool) → IsMarked first end is_known known marked → (i : ℕ) → i < length kept → get_or marked (i / 4096) false ≡ true
-        → (first ≤ i / 4096 → i / 4096 < end → ⊥) → get_or now i 0 ≡ get_or kept i 0 → get_or now i 0 ≡ get_or content i 0
-    elsewhere is_known mark i lt seen out same = same ∙ holds i lt (sym (mark.outside (i / 4096) out) ∙ seen)
-
-    -- the part is that of the content
-    pub holds_fetched : IsMarked first end true known marked → part ≡ range content from k → Holds now marked content
-    holds_fetched mark is i lt seen =
-        let low : i < length kept = omega (arith, now_long) in
-        elim (cases_lt i from) [
-          | inl before ↦ elsewhere true mark i low seen (λ le lt'. omega arith) (now_before i before)
-          | inr le ↦ elim (cases_lt i (from + k)) [
-            | inl inside ↦ now_inside i le inside ∙ ap (λ (l : List ℕ). get_or l (i - from) 0) is ∙ get_or-range content from k (i - from) (omega arith) ∙ ap (λ (j : ℕ). get_or content j 0) (omega arith)
-            | inr after ↦ elsewhere true mark i low seen (λ le' lt'. omega arith) (now_after i after)
-          ]
-        ]
-
-    -- the part is anything
-    pub holds_lost : IsMarked first end false known marked → Holds now marked content
-    holds_lost mark i lt seen =
-        let low : i < length kept = omega (arith, now_long) in
-        elim (cases_lt i from) [
-          | inl before ↦ elsewhere false mark i low seen (λ le lt'. omega arith) (now_before i before)
-          | inr le ↦ elim (cases_lt i (from + k)) [
-            | inl inside ↦ absurd (not_both (sym (mark.inside (i / 4096) (omega arith) (omega arith)) ∙ seen))
-            | inr after ↦ elsewhere false mark i low seen (λ le' lt'. omega arith) (now_after i after)
-          ]
-        ]
-
--- a write that was done
-pub holds_put : (kept next content : List ℕ) (known marked : List Bool) (at : ℕ) (bytes : List ℕ) → at + length bytes ≤ length content → length kept ≤ length content
-    → IsPut at bytes kept next → Covers at (length bytes) (length kept) known marked → Holds kept known content → Holds next marked (put content at bytes)
-holds_put kept next content known marked at bytes fits few is covers holds i lt seen =
-    let low : i < length kept = omega (arith, is.long) in
-    let old : (at ≤ i → i < at + length bytes → ⊥) → get_or next i 0 ≡ get_or (put content at bytes) i 0 = λ out.
-    let was : get_or known (i / 4096) false ≡ true = sym (covers.outside (i / 4096) (λ c. out (omega (arith, c.1)) (omega (arith, c.2, low)))) ∙ seen in
-    is.outside i out ∙ holds i low was ∙ sym (get_or-put_outside content at bytes fits i out) in
-    elim (cases_lt i at) [
-      | inl before ↦ old (λ le lt'. omega arith)
-      | inr le ↦ elim (cases_lt i (at + length bytes)) [
-        | inl inside ↦ is.inside i low le inside ∙ sym (get_or-put_inside content at bytes fits i le inside)
-        | inr after ↦ old (λ le' lt'. omega arith)
-      ]
+  -- the part was read from below
+  pub holds_fetched : (content : List ℕ) → part ≡ range content at count → Holds kept content → Holds next content
+  holds_fetched content from holds i lt seen = elim (cases_lt i at) [
+    | inl front ↦ unput content holds i lt (λ le lt'. omega (arith, front, le)) seen
+    | inr le ↦ elim (cases_lt i (at + count)) [
+      | inl inside ↦
+          is.inside i seen le (omega (arith, inside, long)) ∙ ap (λ (l : List ℕ). get_or l (i - at) 0) from
+          ∙ get_or-range content at count (i - at) (omega (arith, inside, le)) ∙ ap (λ (k : ℕ). get_or content k 0) (omega (arith, le))
+      | inr rear ↦ unput content holds i lt (λ le' lt'. omega (arith, rear, lt')) seen
     ]
+  ]
+
+  -- it is as much of a write as is kept
+  pub holds_put : (content bytes : List ℕ) → at + length bytes ≤ length content → at < kept.len → count ≡ min (length bytes) (kept.len - at) → part ≡ take count bytes
+      → Holds kept content → Holds next (put content at bytes)
+  holds_put content bytes fits far few from holds i lt seen =
+      let old : (at ≤ i → i < at + length bytes → ⊥) → byte_at next i ≡ get_or (put content at bytes) i 0 = λ out.
+      unput content holds i lt (λ le lt'. out le (omega (arith, few, lt'))) seen ∙ sym (get_or-put_outside content at bytes fits i out) in
+      elim (cases_lt i at) [
+        | inl front ↦ old (λ le lt'. omega (arith, front, le))
+        | inr le ↦ elim (cases_lt i (at + count)) [
+          | inl inside ↦
+              is.inside i seen le (omega (arith, inside, long)) ∙ ap (λ (l : List ℕ). get_or l (i - at) 0) from
+              ∙ get_or-take count bytes (i - at) 0 (omega (arith, inside, le)) ∙ sym (get_or-put_inside content at bytes fits i le (omega (arith, inside, few)))
+          | inr rear ↦ old (λ le' lt'. omega (arith, rear, lt', few, lt, len, far))
+        ]
+      ]
+
+-- what lies behind the kept bytes covers nothing
+pub covers_cut : (at count total len : ℕ) (old new : List Bool) → at < len → count ≡ min total (len - at) → Covers at count len old new → Covers at total len old new
+covers_cut at count total len old new far few covers = record {
+  long = covers.long;
+  inside = λ b c. covers.inside b (c.0, c.1, omega (arith, c.0, c.1, c.2, few, far));
+  outside = λ b out. covers.outside b (λ c. out (c.0, c.1, omega (arith, c.2, few)));
+}
+
+-- a write behind the kept bytes
+pub covers_beyond : (at total len : ℕ) (known : List Bool) → len ≤ at → Covers at total len known known
+covers_beyond at total len known far = record {
+  long = refl;
+  inside = λ b c. absurd (omega (arith, c.0, c.1, far));
+  outside = λ b out. refl;
+}
+
+pub holds_beyond : (kept : Kept) (content bytes : List ℕ) (at : ℕ) → at + length bytes ≤ length content → kept.len ≤ at → Holds kept content → Holds kept (put content at bytes)
+holds_beyond kept content bytes at fits far holds i lt seen = holds i lt seen ∙ sym (get_or-put_outside content at bytes fits i (λ le lt'. omega (arith, far, lt, le)))
+
+-- whole blocks
+pub marks_fetched : (first end count len : ℕ) (old new : List Bool) → first < end → (end - 1) * 4096 < len → count ≡ min (end * 4096) len - first * 4096
+    → Covers (first * 4096) count len old new → IsMarked first end true old new
+marks_fetched first end count len old new some low few covers = record {
+  long = covers.long;
+  inside = λ b le lt. covers.inside b (omega (arith, lt, low), omega (arith, le), omega (arith, le, lt, few, low, some));
+  outside = λ b out. covers.outside b (λ c. out (omega (arith, c.1)) (omega (arith, c.0, c.1, c.2, few, low, some)));
+}
 
 -- a write that failed
-pub holds_forgotten : (kept : List ℕ) (known next : List Bool) (old new : Content) (at count : ℕ) → Touched ((at, count) ∷ []) old new
-    → ((i : ℕ) → at ≤ i → i < at + count → get_or next (i / 4096) false ≡ false) → ((b : ℕ) → get_or next b false ≡ true → get_or known b false ≡ true)
-    → Holds kept known old.bytes → Holds kept next new.bytes
-holds_forgotten kept known next old new at count touched inside others holds i lt seen =
-    holds i lt (others (i / 4096) seen) ∙ sym (touched.bytes.same i ((λ le lt'. not_both (sym (inside i le lt') ∙ seen)), tt))
-
--- where no block was known, none became so
-pub still_none : (known next : List Bool) → ((b : ℕ) → get_or next b false ≡ true → get_or known b false ≡ true) → ((b : ℕ) → get_or known b false ≡ false) → (b : ℕ) → get_or next b false ≡ false
-still_none known next less none b = elim (either (get_or next b false)) [ inl is ↦ absurd (not_both (sym (none b) ∙ less b is)) | inr not ↦ not ]
+pub holds_forgotten : (kept next : Kept) (old new : Content) (at count : ℕ) → Touched ((at, count) ∷ []) old new → next.len ≡ kept.len → next.room ≡ kept.room → next.places ≡ kept.places
+    → ((i : ℕ) → at ≤ i → i < at + count → get_or next.known (i / 4096) false ≡ false) → ((b : ℕ) → get_or next.known b false ≡ true → get_or kept.known b false ≡ true)
+    → Holds kept old.bytes → Holds next new.bytes
+holds_forgotten kept next old new at count touched len room places inside others holds i lt seen =
+    ap (λ (l : List ℕ). byte_at (record { len = kept.len; room = l; places = next.places; known = kept.known }) i) room
+    ∙ ap (λ (l : List ℕ). byte_at (record { len = kept.len; room = kept.room; places = l; known = kept.known }) i) places
+    ∙ holds i (omega (arith, len, lt)) (others (i / 4096) seen) ∙ sym (touched.bytes.same i ((λ le lt'. not_both (sym (inside i le lt') ∙ seen)), tt))
 
 -- a call that writes nothing
-pub holds_same : (kept : List ℕ) (known : List Bool) (old new : Content) → Touched [] old new → Holds kept known old.bytes → Holds kept known new.bytes
-holds_same kept known old new touched holds i lt seen = holds i lt seen ∙ sym (touched.bytes.same i tt)
+pub holds_same : (kept : Kept) (old new : Content) → Touched [] old new → Holds kept old.bytes → Holds kept new.bytes
+holds_same kept old new touched holds i lt seen = holds i lt seen ∙ sym (touched.bytes.same i tt)
 
 -- known bytes are those of the content
-pub served : (kept : List ℕ) (known : List Bool) (content : List ℕ) (at n : ℕ) → at + n ≤ length kept → length kept ≤ length content
-    → AreKnown known (at / 4096) (end_block at n) → Holds kept known content → take n (drop at kept) ≡ range content at n
-served kept known content at n fits few seen holds =
-    let one : length (range kept at n) ≡ n = length-range kept at n fits in
-    let two : length (range content at n) ≡ n = length-range content at n (omega arith) in
-    ext_get_or 0 (range kept at n) (range content at n) (omega arith) (λ i lt.
-    get_or-range kept at n i (omega arith)
-    ∙ holds (at + i) (omega arith) (seen ((at + i) / 4096) (omega arith) (omega arith))
-    ∙ sym (get_or-range content at n i (omega arith)))
-
-pub holds_back : (kept : List ℕ) (known : List Bool) (old new : Content) → Touched [] old new → Holds kept known new.bytes → Holds kept known old.bytes
-holds_back kept known old new touched holds i lt seen = holds i lt seen ∙ touched.bytes.same i tt
+pub served : (kept : Kept) (content buf : List ℕ) (at n : ℕ) → at + n ≤ kept.len → at + n ≤ length content → length buf ≡ n → AreKnown kept.known (at / 4096) (end_block at n)
+    → ((i : ℕ) → i < n → get_or buf i 0 ≡ byte_at kept (at + i)) → Holds kept content → buf ≡ range content at n
+served kept content buf at n fits within long seen is holds =
+    let one : length (range content at n) ≡ n = length-range content at n within in
+    ext_get_or 0 buf (range content at n) (omega (arith, one, long))
+    (λ i lt. is i (omega (arith, lt, long)) ∙ holds (at + i) (omega (arith, lt, long, fits)) (seen ((at + i) / 4096) (omega arith) (omega (arith, lt, long))) ∙ sym (get_or-range content at n i (omega (arith, lt, long))))

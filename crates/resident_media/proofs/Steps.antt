@@ -1,18 +1,14 @@
 -- A call after a step of the moment: one call below, or none.
-use Rattle.std.proofs.Common.{◌≡◌, ℕ, ◌+◌, ◌-◌, ◌/◌, ◌^◌, ◌<◌, ◌≤◌, ◌⊎◌, Bool, true, false, inl, inr, List, [], ◌∷◌, ◌++◌, length, get_or, take, drop, Result, Ok, Err, sym, ◌∙◌, ap, subst, arith, append-nil, take_all}
-use Rattle.std.proofs.lemmas.Bool.{and_parts, and_from, cases_lt}
-use Rattle.std.proofs.lemmas.List.{drop_all}
+use Rattle.std.proofs.Common.{◌≡◌, ℕ, ◌+◌, ◌-◌, ◌/◌, ◌^◌, ◌<◌, ◌≤◌, ◌⊎◌, Bool, true, false, inl, inr, List, [], ◌∷◌, ◌++◌, length, get_or, Result, Ok, Err, sym, ◌∙◌, ap, subst, arith}
+use Rattle.std.proofs.lemmas.Bool.{and_parts, and_from}
 use Rattle.std.proofs.lemmas.Bool.Decides.{nat_tests}
 use Rattle.std.specs.Prelude.{IsTrue, IsOk, nat_le, ◌&&◌}
 use Rattle.mars_base.specs.Moments.{Ticks}
 use Rattle.pcm_media.specs.View.{View, Writes}
-use Rattle.resident_media.specs.Blocks.{Holds}
+use Rattle.resident_media.specs.Blocks.{Kept, Holds}
 use Rattle.resident_media.specs.Resident.{Resident, over, shown, Called, Served, IsTicked, Stepped, Lies, is_steady}
-use Rattle.resident_media.proofs.Kept.{not_both}
+use Rattle.resident_media.proofs.Kept.{holds_same}
 use Rattle.resident_media.proofs.Lifts.{lift_called, lift_served, lift_stopped}
-
-pub back : {X : Type 0} (items new : List X) (n : ℕ) → n ≡ length items → length new ≡ length items → take n (new ++ drop (length new) items) ≡ new
-back {X} items new n count long = ap (λ (l : List X). take n (new ++ l)) (drop_all (length new) items (omega (arith, long))) ∙ ap (take n) (append-nil new) ∙ take_all n new (omega (arith, count, long))
 
 module _ {M : Type 0} (view : M → View) where
   pub step_of : {T E : Type 0} (old now inside : Resident M) (result : Result T E) (x : T) → IsTicked view old now result → result ≡ Ok x → inside ≡ now → Stepped view old inside
@@ -20,6 +16,7 @@ module _ {M : Type 0} (view : M → View) where
       let ok : IsTicked view old now (Ok x) = subst (λ (r : Result T E). IsTicked view old now r) was ticked in
       subst (λ (s : Resident M). Stepped view old s) (sym is) (record {
         inner = ok.inner;
+        kept = ok.kept;
         low = ok.low;
         moment = ok.moment;
         faults = ok.faults;
@@ -68,55 +65,22 @@ module _ {M : Type 0} (view : M → View) where
         let n : (view after).moment ≡ (view inside.inner).moment = ap (λ x. (view x).moment) served.0 in
         record { up = omega (arith, n); low = omega (arith, m, n, s.later, s.moment); size = ap (λ x. (view x).size) served.0 }
 
-    pub lies_after : (after : M) (len capacity : ℕ) (kept next : List ℕ) (known marked : List Bool) (wait : ℕ) → Moves after → Lies tells (view inside.inner) len capacity kept known wait inside.moment inside.stood → length next ≡ length kept
-        → length marked ≡ length known → (length kept ≡ 0 → (b : ℕ) → get_or marked b false ≡ false)
-        → (IsTrue tells → Holds kept known (view inside.inner).content.bytes → Holds next marked (view after).content.bytes) → Lies tells (view after) len capacity next marked wait inside.moment inside.stood
-    lies_after after len capacity kept next known marked wait moves lies one two none holds = record {
+    pub lies_after : (after : M) (kept next : Kept) (capacity more : ℕ) → Moves after → Lies tells (view inside.inner) kept capacity inside.moment inside.stood → next.len ≡ kept.len → capacity ≤ more
+        → (IsTrue tells → Holds kept (view inside.inner).content.bytes → Holds next (view after).content.bytes) → Lies tells (view after) next more inside.moment inside.stood
+    lies_after after kept next capacity more moves lies len grows holds = record {
       count = lies.count;
       past = λ t lt. omega (arith, lies.past t lt, moves.up);
       later = moves.low;
-      fits = omega (arith, lies.fits, moves.size);
-      reserved = lies.reserved;
-      low = omega (arith, lies.low, one);
-      all = λ some. one ∙ lies.all (omega (arith, one, some));
-      ready = λ some. lies.ready (omega (arith, one, some));
-      none = λ z. none (omega (arith, one, z));
-      blocks = record { all = omega (arith, lies.blocks.all, two); last = omega (arith, lies.blocks.last, two) };
+      fits = omega (arith, lies.fits, moves.size, len);
+      reserved = omega (arith, lies.reserved, len, grows);
       holds = λ told. holds told (lies.holds told);
     }
 
-    -- a read that was handed on and counted
-    pub lies_counted : (after : M) (len capacity capacity' : ℕ) (kept next : List ℕ) (known : List Bool) (wait wait' : ℕ) → Moves after → Lies tells (view inside.inner) len capacity kept known wait inside.moment inside.stood
-        → wait' ≡ wait - 1 → (0 < wait → next ≡ kept) → (wait ≡ 0 → length next ≡ len) → (length kept ≡ len → next ≡ kept) → length kept ≤ length next → capacity ≤ capacity'
-        → (IsTrue tells → Holds kept known (view after).content.bytes) → Lies tells (view after) len capacity' next known wait' inside.moment inside.stood
-    lies_counted after len capacity capacity' kept next known wait wait' moves lies less stays filled same grows more holds =
-        let long : length next ≤ len = elim (cases_lt 0 wait) [
-          | inl some ↦ omega (arith, lies.low, ap (λ (l : List ℕ). length l) (stays some))
-          | inr none ↦ omega (arith, filled (omega (arith, none)))
-        ] in record {
-          count = lies.count;
-          past = λ t lt. omega (arith, lies.past t lt, moves.up);
-          later = moves.low;
-          fits = omega (arith, lies.fits, moves.size);
-          reserved = omega (arith, lies.reserved, more);
-          low = long;
-          all = λ some. elim (cases_lt 0 wait) [
-            | inl few ↦ let is : length next ≡ length kept = ap (λ (l : List ℕ). length l) (stays few) in is ∙ lies.all (omega (arith, is, some))
-            | inr none ↦ filled (omega (arith, none))
-          ];
-          ready = λ some. elim (cases_lt 0 wait) [
-            | inl few ↦ let is : length next ≡ length kept = ap (λ (l : List ℕ). length l) (stays few) in absurd (omega (arith, lies.ready (omega (arith, is, some)), few))
-            | inr none ↦ omega (arith, none, less)
-          ];
-          none = λ z. lies.none (omega (arith, grows, z));
-          blocks = lies.blocks;
-          holds = λ told i lt seen. elim (cases_lt 0 (length kept)) [
-            | inl some ↦
-                let is = same (lies.all some) in
-                ap (λ (l : List ℕ). get_or l i 0) is ∙ holds told i (omega (arith, ap (λ (l : List ℕ). length l) is, lt)) seen
-            | inr zero ↦ absurd (not_both (sym (lies.none (omega (arith, zero)) (i / 4096)) ∙ seen))
-          ];
-        }
+    -- no bytes change
+    pub holds_either : {T E : Type 0} (kept : Kept) (after : M) (result : Result T E) → Called tells view promises [] 0 inside.inner after result ⊎ Served inside.inner after result
+        → IsTrue tells → Holds kept (view inside.inner).content.bytes → Holds kept (view after).content.bytes
+    holds_either kept after result (inl called) told = holds_same kept (view inside.inner).content (view after).content (called.does.touched told)
+    holds_either kept after result (inr served) told = subst (λ (m : M). Holds kept (view m).content.bytes) (sym served.0)
 
     low_next : (calls : ℕ) → nat_le (old.moment + (calls + 1)) (2 ^ 64 - 1) ≡ true → nat_le (inside.moment + calls) (2 ^ 64 - 1) ≡ true
     low_next calls is = grind (arith, nat_tests, s.moment, is)

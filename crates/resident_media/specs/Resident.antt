@@ -1,22 +1,18 @@
 -- What a medium that serves reads from memory shows.
-use Rattle.std.specs.Prelude.{ℕ, ◌+◌, ◌-◌, ◌/◌, ◌^◌, ◌<◌, ◌≤◌, ◌≡◌, nat_le, ◌&&◌, min, Bool, false, IsTrue, List, [], ◌++◌, ◌∷◌, take, length, get_or, replicate, Result, IsOk, OnOk, OnErr, ◌↔◌}
+use Rattle.std.specs.Prelude.{ℕ, ◌+◌, ◌-◌, ◌/◌, ◌^◌, ◌<◌, ◌≤◌, ◌≡◌, nat_le, ◌&&◌, min, Bool, IsTrue, List, [], ◌++◌, ◌∷◌, take, length, get_or, Result, IsOk, OnOk, OnErr, ◌↔◌}
 use Rattle.std.proofs.Common.{subst, arith, length-take}
 use Rattle.std.proofs.lemmas.List.{get_or_past}
 use Rattle.mars_base.specs.Causes.{next_count}
 use Rattle.mars_base.specs.Moments.{Ticks}
 use Rattle.pcm_media.specs.Images.{MayLeave}
 use Rattle.pcm_media.specs.View.{View, Writes}
-use Rattle.resident_media.specs.Blocks.{Holds, AreFor, AreKnown, end_block}
+use Rattle.resident_media.specs.Blocks.{Kept, Holds, AreKnown, fresh, end_block}
 
--- The medium below; of how many of the first bytes it is to keep copies, and how many reads it hands on before there is room for them; the bytes
--- that it keeps, none or all of these, and which of their blocks are known; its own moment; how many calls it failed by itself; and which moment
--- of the medium below stood at each moment before this one.
+-- The medium below; what it keeps of the first bytes; its own moment; how many calls it failed by itself; and which moment of the medium below
+-- stood at each moment before this one.
 pub record Resident (M : Type 0) : Type 0 where
   pub inner : M
-  pub len : ℕ
-  pub wait : ℕ
-  pub kept : List ℕ
-  pub known : List Bool
+  pub kept : Kept
   pub moment : ℕ
   pub faults : ℕ
   pub stood : List ℕ
@@ -50,19 +46,14 @@ abbrev pub Served : {M T E : Type 0} → M → M → Result T E → Type 0
 Served old new result = (new ≡ old) × IsOk result
 
 -- Moments that were noted are as many as there were, and none is above that of the medium below, which is at most its own. Kept are the first
--- bytes, all or none, and those in known blocks are what a read gives. Before there is room no block is known. Room is reserved.
-pub record Lies (tells : Bool) (inner : View) (len capacity : ℕ) (kept : List ℕ) (known : List Bool) (wait moment : ℕ) (stood : List ℕ) : Type 0 where
+-- bytes, and those in known blocks are what a read gives. Room for a read of all of them is reserved.
+pub record Lies (tells : Bool) (inner : View) (kept : Kept) (capacity moment : ℕ) (stood : List ℕ) : Type 0 where
   pub count : length stood ≡ moment
   pub past : (t : ℕ) → t < length stood → get_or stood t 0 ≤ inner.moment
   pub later : inner.moment ≤ moment
-  pub fits : len ≤ inner.size
-  pub reserved : len ≤ capacity
-  pub low : length kept ≤ len
-  pub all : 0 < length kept → length kept ≡ len
-  pub ready : 0 < length kept → wait ≡ 0
-  pub none : length kept ≡ 0 → (b : ℕ) → get_or known b false ≡ false
-  pub blocks : AreFor len (length known)
-  pub holds : IsTrue tells → Holds kept known inner.content.bytes
+  pub fits : kept.len ≤ inner.size
+  pub reserved : kept.len ≤ capacity
+  pub holds : IsTrue tells → Holds kept inner.content.bytes
 
 -- The medium below promises one call for each call promised here and for each that was served from memory: these are what the moments differ by.
 abbrev pub is_steady : {M : Type 0} → (M → View) → (M → ℕ → ℕ → Bool) → Resident M → ℕ → ℕ → Bool
@@ -86,10 +77,7 @@ only_over inner stood moment faults image law left =
 -- A step of its own moment: the moment that stands below is noted. At the last value it fails.
 pub record IsTicked {M T E : Type 0} (view : M → View) (old new : Resident M) (result : Result T E) : Type 0 where
   pub inner : new.inner ≡ old.inner
-  pub len : new.len ≡ old.len
-  pub wait : new.wait ≡ old.wait
   pub kept : new.kept ≡ old.kept
-  pub known : new.known ≡ old.known
   pub low : OnOk result (old.moment < 2 ^ 64 - 1)
   pub moment : OnOk result (new.moment ≡ old.moment + 1)
   pub faults : OnOk result (new.faults ≡ old.faults)
@@ -102,21 +90,18 @@ pub record IsTicked {M T E : Type 0} (view : M → View) (old new : Resident M) 
   pub count : length old.stood ≡ old.moment
   pub past : (t : ℕ) → t < length old.stood → get_or old.stood t 0 ≤ (view old.inner).moment
 
--- One that was made shows what the medium below does, and knows no block. There is room after as many reads as there are blocks.
+-- One that was made shows what the medium below does, and knows no block.
 pub record IsAnew {M : Type 0} (view : M → View) (inner : M) (limit : ℕ) (new : Resident M) : Type 0 where
   pub inner_is : new.inner ≡ inner
   pub moment : new.moment ≡ (view inner).moment
   pub faults : new.faults ≡ 0
   pub left : (t : ℕ) (image : List ℕ) → t ≤ (view inner).moment → (shown view new).left_since t image ↔ (view inner).left_since t image
-  pub len : new.len ≡ min (view inner).size limit
-  pub kept : new.kept ≡ []
-  pub wait : new.wait ≡ length new.known
-  pub blocks : AreFor new.len (length new.known)
-  pub none : new.known ≡ replicate (length new.known) false
+  pub kept : new.kept ≡ fresh (min (view inner).size limit) (end_block 0 (min (view inner).size limit))
 
 -- the same by what it was and what it is, when it did not fail
 pub record Stepped {M : Type 0} (view : M → View) (old new : Resident M) : Type 0 where
   pub inner : new.inner ≡ old.inner
+  pub kept : new.kept ≡ old.kept
   pub low : old.moment < 2 ^ 64 - 1
   pub moment : new.moment ≡ old.moment + 1
   pub faults : new.faults ≡ old.faults
@@ -125,6 +110,6 @@ pub record Stepped {M : Type 0} (view : M → View) (old new : Resident M) : Typ
   pub count : length old.stood ≡ old.moment
   pub past : (t : ℕ) → t < length old.stood → get_or old.stood t 0 ≤ (view old.inner).moment
 
--- so many bytes from a place on, which is one of these, are kept, and their blocks are known
+-- so many bytes from a place on are kept, and their blocks are known
 abbrev pub Knows : {M : Type 0} → Resident M → ℕ → ℕ → Type 0
-Knows r at count = (at < length r.kept) × (at + count ≤ length r.kept) × AreKnown r.known (at / 4096) (end_block at count)
+Knows r at count = (at + count ≤ r.kept.len) × AreKnown r.kept.known (at / 4096) (end_block at count)

@@ -1,201 +1,251 @@
-// Blocks of 4,096 bytes that are kept in memory, and reads that make them known.
-ghost use Rattle.std.specs.Prelude.{◌≡◌, ◌+◌, ◌-◌, ◌*◌, ◌/◌, ◌<◌, ◌≤◌, ◌⊎◌, ◌^◌, [], ℕ, length, IsTrue, IsFalse, IsOk, OnOk, OnErr, get_or, false, true};
-ghost use Rattle.std.specs.Bool.{OnTrue, OnFalse};
+// Blocks of the first bytes of a medium that are kept in memory.
+ghost use Rattle.std.specs.Prelude.{◌≡◌, ◌+◌, ◌*◌, ◌/◌, ◌%◌, ◌<◌, ◌≤◌, ◌↔◌, ◌⊎◌, ◌^◌, ℕ, List, [], length, slice_index, IfOk, OnOk, OnErr, IsTrue, get_or, false, true};
 ghost use Rattle.std.specs.Vec.{vec_capacity};
-ghost use Rattle.mars_base.specs.Bytes.{range};
-ghost use Rattle.pcm_media.specs.Images.{Touched};
-ghost use Rattle.resident_media.specs.Blocks.{Holds, AreKnown, AreFor, IsMarked, IsPut, Covers, Learns, StaysOutside, end_block};
+ghost use Rattle.mars_base.specs.Bytes.{put, range};
+ghost use Rattle.resident_media.specs.Blocks.{AreKnown, Covers, Holds, IsMarked, IsPut, Learns, StaysOutside, end_block, fresh, spot};
 ghost use Rattle.resident_media.specs.Resident.{Called, Served};
+ghost use Rattle.resident_media.specs.Placing.{Gets};
 
-use mars_base::Failed;
+use crate::flags::{BLOCK, behind_unknown, first_unknown, forget};
+use crate::room::copy_out;
+use mars_base::{Failed, NoMemory};
 use pcm_media::Media;
+use std::alloc::Global;
+use std::marker::Model;
 
-pub const BLOCK: usize = 4096;
+const ZEROS: [u8; BLOCK] = [0; BLOCK];
 
-/// Whether the byte at `at` is kept, and so many from there on.
-pub fn is_within(at: u64, count: usize, kept: usize) -> bool
-    ensures yes { OnTrue result ((at < kept) × (at + count ≤ kept)) }
-    ensures no { OnFalse result (at < kept → kept < at + count) }
+fn zeros() -> &'static [u8]
+    ensures { length result.now ≡ 4096 }
 {
-    at < kept as u64 && count as u64 <= kept as u64 - at
+    &ZEROS
 }
 
-/// Counts a read that was handed on. After the last of these there is room for `len` bytes, which was reserved.
-pub fn count_read(kept: &mut Vec<u8>, wait: &mut usize, len: usize)
-    requires reserved { len ≤ vec_capacity kept.old }
-    requires low { length kept.old.items ≤ len }
-    ensures waits { wait.new ≡ wait.old - 1 }
-    ensures stays { 0 < wait.old → kept.new.items ≡ kept.old.items }
-    ensures filled { wait.old ≡ 0 → length kept.new.items ≡ len }
-    ensures same { length kept.old.items ≡ len → kept.new.items ≡ kept.old.items }
-    ensures grows { length kept.old.items ≤ length kept.new.items }
-    ensures capacity { vec_capacity kept.old ≤ vec_capacity kept.new }
+// Makes it as long as `count` at least, for which room is reserved.
+fn lengthen(bytes: &mut Vec<u8>, count: usize)
+    requires reserved { count ≤ vec_capacity bytes.old }
+    ensures long { count ≤ length bytes.new.items }
+    ensures capacity { vec_capacity bytes.old ≤ vec_capacity bytes.new }
 {
-    if *wait > 0 {
-        *wait -= 1;
-        return;
-    }
-    if kept.len() < len {
-        let _ = kept.resize(len, 0);
+    if bytes.len() < count {
+        let _ = bytes.resize(count, 0);
     }
 }
 
-// The first unknown block from `first` on, or `end`.
-fn first_unknown(known: &[bool], first: usize, end: usize) -> usize
-    requires order { first ≤ end }
-    requires few { end ≤ length known.now }
-    ensures low { first ≤ result }
-    ensures high { result ≤ end }
-    ensures before { AreKnown known.now first result }
-    ensures there { result < end → get_or known.now result false ≡ false }
-{
-    for b in first..end {
-        if !known[b] {
-            return b;
+/// Copies of the first `len` bytes of a medium, each block where it was put when it was first kept. Room is reserved for all of them, of which
+/// none is touched before a block needs it.
+#[derive(Drop)]
+pub struct Blocks {
+    len: usize,
+    room: Vec<u8>,
+    places: Vec<usize>,
+    known: Vec<bool>,
+}
+
+impl Model for Blocks {
+    ghost use Rattle.std.specs.Vec.{vec_capacity};
+    ghost use Rattle.resident_media.specs.Blocks.{Kept, Stands};
+
+    ghost Value = { Kept };
+
+    ghost view = { λ b. record { len = b.len; room = b.room.items; places = b.places.items; known = b.known.items } };
+
+    ghost invariant = { λ b. Stands (record { len = b.len; room = b.room.items; places = b.places.items; known = b.known.items }) (vec_capacity b.room) };
+}
+
+impl Blocks {
+    /// Reserves room for so many bytes.
+    pub fn new(alloc: Global, len: usize) -> Result<Blocks, NoMemory>
+        ensures fresh { IfOk result (λ blocks. blocks ≡ fresh len (end_block 0 len)) }
+    {
+        let count = len.div_ceil(BLOCK);
+        let Some(size) = count.checked_mul(BLOCK) else {
+            return Err(NoMemory);
+        };
+        Ok(Blocks {
+            len,
+            room: Vec::with_capacity(alloc, size)?,
+            places: Vec::from_elem(alloc, 0, count)?,
+            known: Vec::from_elem(alloc, false, count)?,
+        })
+    }
+
+    /// Whether so many bytes from `at` on are kept.
+    pub fn has(&self, at: u64, count: usize) -> bool
+        ensures { IsTrue result ↔ (at + count ≤ self.now.len) }
+    {
+        at <= self.len as u64 && count as u64 <= self.len as u64 - at
+    }
+
+    // Where in the room the block begins. One that had no place has got one.
+    fn place_for(&mut self, block: usize) -> usize
+        requires there { block < length self.old.known }
+        ensures from { result + 4096 ≡ get_or self.new.places block 0 * 4096 }
+        ensures gets { Gets block self.old self.new }
+    {
+        let place = self.places[block];
+        if place > 0 {
+            return (place - 1) * BLOCK;
+        }
+        let from = self.room.len();
+        // There is room for each block that has no place.
+        let _ = self.room.extend_from_slice(zeros());
+        self.places[block] = from / BLOCK + 1;
+        from
+    }
+
+    // Puts a part of a block over what is kept of it, if the block is known or the part covers it. It is known then.
+    fn put_part(&mut self, at: usize, part: &[u8])
+        requires some { 0 < length part.now }
+        requires within { at + length part.now ≤ self.old.len }
+        requires one { at % 4096 + length part.now ≤ 4096 }
+        ensures len { self.new.len ≡ self.old.len }
+        ensures known { Covers at (length part.now) self.old.len self.old.known self.new.known }
+        ensures bytes { IsPut at (length part.now) part.now self.old self.new }
+    {
+        let block = at / BLOCK;
+        let is_whole = at % BLOCK == 0 && part.len() == BLOCK.min(self.len - at);
+        if !is_whole && !self.known[block] {
+            return;
+        }
+        let from = self.place_for(block) + at % BLOCK;
+        self.room[from..from + part.len()].copy_from_slice(part);
+        self.known[block] = true;
+    }
+
+    // Puts bytes over the kept ones block by block.
+    fn put_all(&mut self, at: usize, bytes: &[u8])
+        requires within { at + length bytes.now ≤ self.old.len }
+        requires small { at + length bytes.now < 2 ^ 64 }
+        ensures len { self.new.len ≡ self.old.len }
+        ensures known { Covers at (length bytes.now) self.old.len self.old.known self.new.known }
+        ensures bytes { IsPut at (length bytes.now) bytes.now self.old self.new }
+    {
+        let mut done = 0;
+        while done < bytes.len() {
+            let part = (BLOCK - (at + done) % BLOCK).min(bytes.len() - done);
+            self.put_part(at + done, &bytes[done..done + part]);
+            done += part;
         }
     }
-    end
-}
 
-// The block behind the last unknown one of those from `first`, which is unknown, up to `end`.
-fn behind_unknown(known: &[bool], first: usize, end: usize) -> usize
-    requires order { first < end }
-    requires few { end ≤ length known.now }
-    requires there { get_or known.now first false ≡ false }
-    ensures low { first < result }
-    ensures high { result ≤ end }
-    ensures after { AreKnown known.now result end }
-{
-    let mut to = end;
-    while known[to - 1] {
-        to -= 1;
-    }
-    to
-}
-
-// Makes the blocks from `first` up to `end` known or unknown.
-fn mark(known: &mut [bool], first: usize, end: usize, is_known: bool)
-    requires order { first ≤ end }
-    requires few { end ≤ length known.old }
-    ensures { IsMarked first end is_known known.old known.new }
-{
-    for b in first..end {
-        known[b] = is_known;
-    }
-}
-
-/// Puts bytes over the kept ones from `at` on, as far as they are kept.
-pub fn put_kept(kept: &mut [u8], at: u64, bytes: &[u8])
-    ensures { IsPut at bytes.now kept.old kept.new }
-{
-    let len = kept.len();
-    if at >= len as u64 {
-        return;
-    }
-    let at = at as usize;
-    let count = bytes.len().min(len - at);
-    kept[at..at + count].copy_from_slice(&bytes[..count]);
-}
-
-/// Makes the blocks known that these `count` bytes cover, when so many are `kept`.
-pub fn cover(known: &mut [bool], kept: usize, at: u64, count: usize)
-    requires { 0 < kept → AreFor kept (length known.old) }
-    ensures { Covers at count kept known.old known.new }
-{
-    if at >= kept as u64 {
-        return;
-    }
-    let at = at as usize;
-    let behind = at + count.min(kept - at);
-    let first = at.div_ceil(BLOCK);
-    let end = if behind == kept {
-        known.len()
-    } else {
-        behind / BLOCK
-    };
-    mark(known, first, end.max(first), true);
-}
-
-/// Makes the blocks unknown that lie in these `count` bytes, in whole or in part.
-pub fn forget(known: &mut [bool], at: u64, count: usize)
-    requires { length known.old ≤ 2 ^ 52 }
-    ensures long { length known.new ≡ length known.old }
-    ensures inside { (i : ℕ) → at ≤ i → i < at + count → get_or known.new (i / 4096) false ≡ false }
-    ensures others { (b : ℕ) → get_or known.new b false ≡ true → get_or known.old b false ≡ true }
-    ensures outside { StaysOutside (at / 4096) (end_block at count) known.old known.new }
-{
-    let blocks = known.len() as u64;
-    let first = (at / BLOCK as u64).min(blocks);
-    let end = at
-        .saturating_add(count as u64)
-        .div_ceil(BLOCK as u64)
-        .min(blocks);
-    mark(known, first as usize, end as usize, false);
-}
-
-// Reads these blocks from below, all in one call, which makes them known. If it fails, they are unknown.
-fn fetch<M: Media>(
-    inner: &mut M,
-    kept: &mut [u8],
-    known: &mut [bool],
-    first: usize,
-    end: usize,
-) -> Result<(), Failed>
-    requires order { first ≤ end }
-    requires few { end ≤ length known.old }
-    requires fits { length kept.old ≤ (M.view inner.old).size }
-    requires blocks { AreFor (length kept.old) (length known.old) }
-    requires from { first * 4096 ≤ length kept.old }
-    ensures called { Called M.tells M.view M.steady [] 0 inner.old inner.new result }
-    ensures kept_long { length kept.new ≡ length kept.old }
-    ensures known_long { length known.new ≡ length known.old }
-    ensures holds { IsTrue M.tells → Holds kept.old known.old (M.view inner.old).content.bytes → Holds kept.new known.new (M.view inner.new).content.bytes }
-    ensures known { OnOk result (IsMarked first end true known.old known.new) }
-    ensures unknown { OnErr result (IsMarked first end false known.old known.new) }
-{
-    let from = first * BLOCK;
-    let to = (end * BLOCK).min(kept.len());
-    match inner.read(from as u64, &mut kept[from..to]) {
-        Ok(()) => {
-            mark(known, first, end, true);
-            Ok(())
+    /// Puts bytes over the kept ones from `at` on, as far as they are kept and their blocks are known. Those that they cover are known then.
+    pub fn put(&mut self, at: u64, bytes: &[u8])
+        ensures len { self.new.len ≡ self.old.len }
+        ensures known { Covers at (length bytes.now) self.old.len self.old.known self.new.known }
+        ensures holds { (content : List ℕ) → at + length bytes.now ≤ length content → Holds self.old content → Holds self.new (put content at bytes.now) }
+    {
+        if at >= self.len as u64 {
+            return;
         }
-        Err(failed) => {
-            mark(known, first, end, false);
-            Err(failed)
-        }
+        let at = at as usize;
+        let count = bytes.len().min(self.len - at);
+        self.put_all(at, &bytes[..count]);
     }
-}
 
-/// Copies bytes from the kept ones. Their blocks from the first unknown one up to the last are read from below first, all in one call.
-pub fn read_kept<M: Media>(
-    inner: &mut M,
-    kept: &mut [u8],
-    known: &mut [bool],
-    at: u64,
-    buf: &mut [u8],
-) -> Result<(), Failed>
-    requires within { at + length buf.old ≤ length kept.old }
-    requires fits { length kept.old ≤ (M.view inner.old).size }
-    requires blocks { AreFor (length kept.old) (length known.old) }
-    ensures called { Called M.tells M.view M.steady [] 0 inner.old inner.new result ⊎ Served inner.old inner.new result }
-    ensures kept_long { length kept.new ≡ length kept.old }
-    ensures known_long { length known.new ≡ length known.old }
-    ensures holds { IsTrue M.tells → Holds kept.old known.old (M.view inner.old).content.bytes → Holds kept.new known.new (M.view inner.new).content.bytes }
-    ensures bytes { IsTrue M.tells → Holds kept.old known.old (M.view inner.old).content.bytes → length (M.view inner.old).content.bytes ≡ (M.view inner.old).size →
-        OnOk result (buf.new ≡ range (M.view inner.old).content.bytes at (length buf.old)) }
-    ensures hit { AreKnown known.old (at / 4096) (end_block at (length buf.old)) → Served inner.old inner.new result × (known.new ≡ known.old) }
-    ensures learns { OnOk result (Learns (M.view inner.old).moment (M.view inner.new).moment (at / 4096) (end_block at (length buf.old)) known.old known.new) }
-    ensures outside { StaysOutside (at / 4096) (end_block at (length buf.old)) known.old known.new }
-{
-    let at = at as usize;
-    let first = at / BLOCK;
-    let end = (at + buf.len()).div_ceil(BLOCK);
-    let from = first_unknown(known, first, end);
-    if from < end {
-        let to = behind_unknown(known, from, end);
-        fetch(inner, kept, known, from, to)?;
+    /// Makes the blocks unknown that lie in these `count` bytes, in whole or in part.
+    pub fn forget(&mut self, at: u64, count: usize)
+        ensures room { self.new.room ≡ self.old.room }
+        ensures places { self.new.places ≡ self.old.places }
+        ensures len { self.new.len ≡ self.old.len }
+        ensures inside { (i : ℕ) → at ≤ i → i < at + count → get_or self.new.known (i / 4096) false ≡ false }
+        ensures others { (b : ℕ) → get_or self.new.known b false ≡ true → get_or self.old.known b false ≡ true }
+        ensures outside { StaysOutside (at / 4096) (end_block at count) self.old.known self.new.known }
+    {
+        forget(&mut self.known, at, count);
     }
-    buf.copy_from_slice(&kept[at..at + buf.len()]);
-    Ok(())
+
+    // Reads these blocks from below, all in one call, which makes them known. If it fails, what is kept is as it was.
+    fn fetch<M: Media>(
+        &mut self,
+        inner: &mut M,
+        scratch: &mut Vec<u8>,
+        first: usize,
+        end: usize,
+    ) -> Result<(), Failed>
+        requires order { first < end }
+        requires few { end ≤ length self.old.known }
+        requires fits { self.old.len ≤ (M.view inner.old).size }
+        requires reserved { self.old.len ≤ vec_capacity scratch.old }
+        ensures called { Called M.tells M.view M.steady [] 0 inner.old inner.new result }
+        ensures len { self.new.len ≡ self.old.len }
+        ensures capacity { vec_capacity scratch.old ≤ vec_capacity scratch.new }
+        ensures known { OnOk result (IsMarked first end true self.old.known self.new.known) }
+        ensures same { OnErr result (self.new ≡ self.old) }
+        ensures holds { IsTrue M.tells → length (M.view inner.old).content.bytes ≡ (M.view inner.old).size → Holds self.old (M.view inner.old).content.bytes → Holds self.new (M.view inner.old).content.bytes }
+    {
+        let len = self.len;
+        let from = first * BLOCK;
+        let count = (end * BLOCK).min(len) - from;
+        lengthen(scratch, count);
+        let bytes = &mut scratch[..count];
+        inner.read(from as u64, bytes)?;
+        self.put_all(from, bytes);
+        Ok(())
+    }
+
+    // Copies bytes of known blocks.
+    fn copy(&self, at: usize, buf: &mut [u8])
+        requires within { at + length buf.old ≤ self.now.len }
+        requires known { AreKnown self.now.known (at / 4096) (end_block at (length buf.old)) }
+        ensures { (i : ℕ) → i < length buf.old → slice_index buf.new i ≡ slice_index self.now.room (spot self.now.places (at + i)) }
+    {
+        copy_out(&self.room, &self.places, at, buf);
+    }
+
+    // Makes the blocks from `first` up to `end` known: those from the first unknown one up to the last are read from below, all in one call.
+    fn learn<M: Media>(
+        &mut self,
+        inner: &mut M,
+        scratch: &mut Vec<u8>,
+        first: usize,
+        end: usize,
+    ) -> Result<(), Failed>
+        requires order { first ≤ end }
+        requires few { end ≤ length self.old.known }
+        requires fits { self.old.len ≤ (M.view inner.old).size }
+        requires reserved { self.old.len ≤ vec_capacity scratch.old }
+        ensures called { Called M.tells M.view M.steady [] 0 inner.old inner.new result ⊎ Served inner.old inner.new result }
+        ensures len { self.new.len ≡ self.old.len }
+        ensures capacity { vec_capacity scratch.old ≤ vec_capacity scratch.new }
+        ensures hit { AreKnown self.old.known first end → Served inner.old inner.new result × (self.new ≡ self.old) }
+        ensures learns { OnOk result (Learns (M.view inner.old).moment (M.view inner.new).moment first end self.old.known self.new.known) }
+        ensures outside { StaysOutside first end self.old.known self.new.known }
+        ensures holds { IsTrue M.tells → length (M.view inner.old).content.bytes ≡ (M.view inner.old).size → Holds self.old (M.view inner.old).content.bytes → Holds self.new (M.view inner.old).content.bytes }
+    {
+        let from = first_unknown(&self.known, first, end);
+        if from == end {
+            return Ok(());
+        }
+        let to = behind_unknown(&self.known, from, end);
+        self.fetch(inner, scratch, from, to)
+    }
+
+    /// Copies bytes from the kept ones, whose blocks are made known first.
+    pub fn read<M: Media>(
+        &mut self,
+        inner: &mut M,
+        scratch: &mut Vec<u8>,
+        at: usize,
+        buf: &mut [u8],
+    ) -> Result<(), Failed>
+        requires within { at + length buf.old ≤ self.old.len }
+        requires fits { self.old.len ≤ (M.view inner.old).size }
+        requires reserved { self.old.len ≤ vec_capacity scratch.old }
+        ensures called { Called M.tells M.view M.steady [] 0 inner.old inner.new result ⊎ Served inner.old inner.new result }
+        ensures len { self.new.len ≡ self.old.len }
+        ensures capacity { vec_capacity scratch.old ≤ vec_capacity scratch.new }
+        ensures hit { AreKnown self.old.known (at / 4096) (end_block at (length buf.old)) → Served inner.old inner.new result × (self.new ≡ self.old) }
+        ensures learns { OnOk result (Learns (M.view inner.old).moment (M.view inner.new).moment (at / 4096) (end_block at (length buf.old)) self.old.known self.new.known) }
+        ensures outside { StaysOutside (at / 4096) (end_block at (length buf.old)) self.old.known self.new.known }
+        ensures holds { IsTrue M.tells → length (M.view inner.old).content.bytes ≡ (M.view inner.old).size → Holds self.old (M.view inner.old).content.bytes → Holds self.new (M.view inner.old).content.bytes }
+        ensures bytes { IsTrue M.tells → Holds self.old (M.view inner.old).content.bytes → length (M.view inner.old).content.bytes ≡ (M.view inner.old).size →
+            OnOk result (buf.new ≡ range (M.view inner.old).content.bytes at (length buf.old)) }
+    {
+        // The blocks are as many as these bytes need.
+        let _ = &self.len;
+        self.learn(inner, scratch, at / BLOCK, (at + buf.len()).div_ceil(BLOCK))?;
+        self.copy(at, buf);
+        Ok(())
+    }
 }

@@ -8,7 +8,7 @@ ghost use Rattle.resident_media.specs.Blocks.{Learns, StaysOutside, end_block};
 ghost use Rattle.resident_media.specs.Once.{Does, handed, written_at};
 ghost use Rattle.resident_media.specs.Resident.{shown, is_steady, IsTicked, IsAnew, Knows, Called, Served};
 
-use crate::blocks::{BLOCK, count_read, cover, forget, is_within, put_kept, read_kept};
+use crate::blocks::Blocks;
 use crate::moment_notes::MomentNotes;
 use mars_base::Failed;
 use pcm_media::Media;
@@ -16,16 +16,15 @@ use std::alloc::{AllocFailed, Global};
 use std::marker::Model;
 
 /// A medium over a medium that nobody else writes, of whose first bytes it keeps those in memory that were read, by blocks of 4,096. A read within
-/// known blocks makes no call below. A write is handed on, and then put into what is kept: the blocks that it covers whole are known then. Where it
-/// fails, the blocks that it touches are unknown again. As many reads as there are blocks are handed on first: clearing the room costs about as
-/// much, and a short run does not pay for it.
+/// known blocks makes no call below, and any other makes one, for all unknown blocks that it touches. A write is handed on, and then put into
+/// what is kept: the blocks that it covers whole are known then. Where it fails, the blocks that it touches are unknown again. Room is reserved
+/// for all, and none of it is touched before a block needs it: so a short run does not pay for a large medium.
 #[derive(Drop)]
 pub struct ResidentMedia<M: Media> {
     inner: M,
-    len: usize,
-    wait: usize,
-    kept: Vec<u8>,
-    known: Vec<bool>,
+    blocks: Blocks,
+    // What a read below gives, on its way into the blocks.
+    scratch: Vec<u8>,
     moment: u64,
     faults: u64,
     notes: MomentNotes,
@@ -37,9 +36,9 @@ impl<M: Media> Model for ResidentMedia<M> {
 
     ghost Value = { Resident M };
 
-    ghost view = { λ m. record { inner = m.inner; len = m.len; wait = m.wait; kept = m.kept.items; known = m.known.items; moment = m.moment; faults = m.faults; stood = m.notes.stood } };
+    ghost view = { λ m. record { inner = m.inner; kept = m.blocks; moment = m.moment; faults = m.faults; stood = m.notes.stood } };
 
-    ghost invariant = { λ m. Lies M.tells (M.view m.inner) m.len (vec_capacity m.kept) m.kept.items m.known.items m.wait m.moment m.notes.stood };
+    ghost invariant = { λ m. Lies M.tells (M.view m.inner) m.blocks (vec_capacity m.scratch) m.moment m.notes.stood };
 }
 
 impl<M: Media> ResidentMedia<M> {
@@ -49,20 +48,17 @@ impl<M: Media> ResidentMedia<M> {
         ensures given_back { IfErr result (λ failed. failed.value ≡ inner) }
     {
         let len = inner.len().min(limit) as usize;
-        let blocks = len.div_ceil(BLOCK);
-        let Ok(kept) = Vec::with_capacity(alloc, len) else {
+        let Ok(blocks) = Blocks::new(alloc, len) else {
             return Err(AllocFailed { value: inner });
         };
-        let Ok(known) = Vec::from_elem(alloc, false, blocks) else {
+        let Ok(scratch) = Vec::with_capacity(alloc, len) else {
             return Err(AllocFailed { value: inner });
         };
         let moment = inner.moment();
         Ok(ResidentMedia {
             inner,
-            len,
-            wait: blocks,
-            kept,
-            known,
+            blocks,
+            scratch,
             moment,
             faults: 0,
             notes: MomentNotes::new(moment),
@@ -75,10 +71,8 @@ impl<M: Media> ResidentMedia<M> {
     {
         let ResidentMedia {
             inner,
-            len: _,
-            wait: _,
-            kept: _,
-            known: _,
+            blocks: _,
+            scratch: _,
             moment: _,
             faults: _,
             notes: _,
@@ -137,20 +131,17 @@ impl<M: Media> Media for ResidentMedia<M> {
             → IsOk result × IsTrue (is_steady M.view M.steady self.new calls more) }
 
         ensures hit { Knows self.old at (length buf.old) → self.old.moment < 2 ^ 64 - 1 → IsOk result × (self.new.inner ≡ self.old.inner) }
-        ensures learns { at < length self.old.kept → at + length buf.old ≤ length self.old.kept → OnOk result (Learns (M.view self.old.inner).moment (M.view self.new.inner).moment (at / 4096) (end_block at (length buf.old)) self.old.known self.new.known) }
-        ensures beyond { (at < length self.old.kept → length self.old.kept < at + length buf.old) → OnOk result (Does M.view handed self.old self.new) }
-        ensures others { StaysOutside (at / 4096) (end_block at (length buf.old)) self.old.known self.new.known }
-        ensures waits { self.old.moment < 2 ^ 64 - 1 → self.new.wait ≡ self.old.wait - 1 }
-        ensures room { self.old.moment < 2 ^ 64 - 1 → self.old.wait ≡ 0 → length self.new.kept ≡ self.old.len }
-        ensures len { self.new.len ≡ self.old.len }
+        ensures learns { at + length buf.old ≤ self.old.kept.len → OnOk result (Learns (M.view self.old.inner).moment (M.view self.new.inner).moment (at / 4096) (end_block at (length buf.old)) self.old.kept.known self.new.kept.known) }
+        ensures beyond { self.old.kept.len < at + length buf.old → OnOk result (Does M.view handed self.old self.new) }
+        ensures others { StaysOutside (at / 4096) (end_block at (length buf.old)) self.old.kept.known self.new.kept.known }
+        ensures len { self.new.kept.len ≡ self.old.kept.len }
     {
         self.tick()?;
-        if !is_within(at, buf.len(), self.kept.len()) {
-            let done = self.inner.read(at, buf);
-            count_read(&mut self.kept, &mut self.wait, self.len);
-            return done;
+        if !self.blocks.has(at, buf.len()) {
+            return self.inner.read(at, buf);
         }
-        read_kept(&mut self.inner, &mut self.kept, &mut self.known, at, buf)
+        self.blocks
+            .read(&mut self.inner, &mut self.scratch, at as usize, buf)
     }
 
     fn write(&mut self, at: u64, bytes: &[u8]) -> Result<(), Failed>
@@ -163,18 +154,17 @@ impl<M: Media> Media for ResidentMedia<M> {
             → IsOk result × IsTrue (is_steady M.view M.steady self.new calls more) }
 
         ensures handed { OnOk result (Does M.view (written_at at (length bytes.now)) self.old self.new) }
-        ensures others { StaysOutside (at / 4096) (end_block at (length bytes.now)) self.old.known self.new.known }
-        ensures room { (length self.new.kept ≡ length self.old.kept) × (self.new.len ≡ self.old.len) × (self.new.wait ≡ self.old.wait) }
+        ensures others { StaysOutside (at / 4096) (end_block at (length bytes.now)) self.old.kept.known self.new.kept.known }
+        ensures len { self.new.kept.len ≡ self.old.kept.len }
     {
         self.tick()?;
         match self.inner.write(at, bytes) {
             Ok(()) => {
-                put_kept(&mut self.kept, at, bytes);
-                cover(&mut self.known, self.kept.len(), at, bytes.len());
+                self.blocks.put(at, bytes);
                 Ok(())
             }
             Err(failed) => {
-                forget(&mut self.known, at, bytes.len());
+                self.blocks.forget(at, bytes.len());
                 Err(failed)
             }
         }
@@ -188,7 +178,7 @@ impl<M: Media> Media for ResidentMedia<M> {
         ensures steady { (calls more : ℕ) → IsTrue (is_steady M.view M.steady self.old (calls + 1) more)
             → IsOk result × IsTrue (is_steady M.view M.steady self.new calls more) }
 
-        ensures same { (self.new.known ≡ self.old.known) × (self.new.kept ≡ self.old.kept) × (self.new.len ≡ self.old.len) × (self.new.wait ≡ self.old.wait) }
+        ensures same { self.new.kept ≡ self.old.kept }
         ensures handed { OnOk result (Does M.view handed self.old self.new) }
     {
         self.tick()?;

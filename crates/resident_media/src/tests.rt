@@ -1,4 +1,4 @@
-//! A medium in memory below: what is read, moments, and a write that fails.
+//! A medium in memory below: what is read, moments, a write that fails, and what lies beyond the limit.
 use crate::ResidentMedia;
 use anyhow::{Result, bail, ensure};
 use pcm_media::{FusedMedia, Media, MemoryMedia};
@@ -22,20 +22,14 @@ fn get<M: Media>(media: &mut M, at: u64) -> Result<u8> {
     Ok(buf[0])
 }
 
-// Three blocks: so many reads are handed on, and after one more there is room.
-fn fills<M: Media>(media: &mut M) -> Result<()> {
-    for at in 0..4 {
-        ensure!(get(media, at)? == 7, "handed on");
-    }
-    ensure!(get(media, 4095)? == 7, "as it was");
-    Ok(())
-}
-
+// Of three blocks the last is read first, and two are read: three calls below, with the write between them.
 fn serves<M: Media>(media: &mut M) -> Result<()> {
-    put(media, 4095, 9)?;
-    ensure!(get(media, 4095)? == 9, "what was written");
     ensure!(get(media, 9_999)? == 7, "the last block");
     ensure!(get(media, 9_000)? == 7, "from memory");
+    ensure!(get(media, 4095)? == 7, "the first block");
+    put(media, 4095, 9)?;
+    ensure!(get(media, 4095)? == 9, "what was written");
+    ensure!(get(media, 0)? == 7, "from memory");
     Ok(())
 }
 
@@ -43,31 +37,7 @@ fn forgets<M: Media>(media: &mut M) -> Result<()> {
     ensure!(put(media, 9_000, 1).is_err(), "the fuse has blown");
     ensure!(get(media, 9_000).is_err(), "its block is unknown");
     ensure!(get(media, 0)? == 7, "the first is not");
-    ensure!(media.moment() == 12, "twelve calls");
-    Ok(())
-}
-
-// Five calls below so far. The write of a whole block is one more, and the read of it none.
-fn covers<M: Media>(media: &mut M) -> Result<()> {
-    ensure!(media.len() >= 8192, "it lies within");
-    if media.write(4096, &[5; 4096]).is_err() {
-        bail!("the write failed");
-    }
-    ensure!(get(media, 5000)? == 5, "what was written");
-    Ok(())
-}
-
-#[test]
-fn knows_what_was_written(rt: HostRuntime) -> Result<()> {
-    let sevens = vec![in rt.alloc(); 7; 10_000]?;
-    let below = MemoryMedia::new(rt.alloc(), &sevens, 100, 10_000)?;
-    let Ok(mut media) = ResidentMedia::over(rt.alloc(), below, 10_000) else {
-        bail!("no memory");
-    };
-    fills(&mut media)?;
-    covers(&mut media)?;
-    ensure!(media.moment() == 7, "seven calls");
-    ensure!(media.into_inner().moment() == 6, "six below");
+    ensure!(media.moment() == 9, "nine calls");
     Ok(())
 }
 
@@ -75,12 +45,47 @@ fn knows_what_was_written(rt: HostRuntime) -> Result<()> {
 fn reads_from_memory(rt: HostRuntime) -> Result<()> {
     let sevens = vec![in rt.alloc(); 7; 10_000]?;
     let below = MemoryMedia::new(rt.alloc(), &sevens, 100, 1000)?;
-    let Ok(mut media) = ResidentMedia::over(rt.alloc(), FusedMedia::wrap(below, 7), 10_000) else {
+    let Ok(mut media) = ResidentMedia::over(rt.alloc(), FusedMedia::wrap(below, 3), 10_000) else {
         bail!("no memory");
     };
-    fills(&mut media)?;
     serves(&mut media)?;
     forgets(&mut media)?;
-    ensure!(media.into_inner().into_inner().moment() == 7, "seven below");
+    ensure!(media.into_inner().into_inner().moment() == 3, "three below");
+    Ok(())
+}
+
+// A write over three blocks covers the one in the middle, which is known then. A read of all three makes one call for the others.
+fn covers<M: Media>(media: &mut M) -> Result<()> {
+    let fives = [5; 9_000];
+    ensure!(media.len() == 20_000, "its length");
+    if media.write(500, &fives).is_err() {
+        bail!("the write failed");
+    }
+    ensure!(get(media, 5000)? == 5, "what was written");
+    ensure!(media.moment() == 2, "two calls");
+    let mut buf = [0; 10_000];
+    if media.read(0, &mut buf).is_err() {
+        bail!("the read failed");
+    }
+    ensure!(buf[499] == 7 && buf[500] == 5, "where it begins");
+    ensure!(buf[4095] == 5 && buf[4096] == 5, "in the middle");
+    ensure!(buf[9_499] == 5 && buf[9_500] == 7, "where it ends");
+    Ok(())
+}
+
+#[test]
+fn knows_what_was_written(rt: HostRuntime) -> Result<()> {
+    let sevens = vec![in rt.alloc(); 7; 20_000]?;
+    let below = MemoryMedia::new(rt.alloc(), &sevens, 100, 100_000)?;
+    let Ok(mut media) = ResidentMedia::over(rt.alloc(), below, 10_000) else {
+        bail!("no memory");
+    };
+    covers(&mut media)?;
+    put(&mut media, 10_000, 3)?;
+    ensure!(get(&mut media, 10_000)? == 3, "beyond the limit");
+    ensure!(get(&mut media, 10_000)? == 3, "and again");
+    ensure!(get(&mut media, 9_999)? == 7, "from memory");
+    ensure!(media.moment() == 7, "seven calls");
+    ensure!(media.into_inner().moment() == 5, "five below");
     Ok(())
 }

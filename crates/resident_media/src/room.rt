@@ -1,0 +1,32 @@
+// Bytes of blocks, which stand in a room in the order in which the blocks were first kept.
+ghost use Rattle.std.specs.Prelude.{◌≡◌, ◌+◌, ◌-◌, ◌*◌, ◌/◌, ◌%◌, ◌<◌, ◌≤◌, ◌^◌, ℕ, length, slice_index, get_or};
+ghost use Rattle.resident_media.specs.Blocks.{spot};
+
+use crate::flags::BLOCK;
+
+// Where in the room a byte stands.
+fn spot(places: &[usize], at: usize) -> usize
+    requires there { at / 4096 < length places.now }
+    requires placed { 0 < get_or places.now (at / 4096) 0 }
+    requires fits { get_or places.now (at / 4096) 0 * 4096 < 2 ^ 63 }
+    ensures { result ≡ spot places.now at }
+{
+    (places[at / BLOCK] - 1) * BLOCK + at % BLOCK
+}
+
+/// Copies bytes from the room. Their blocks have places.
+pub fn copy_out(room: &[u8], places: &[usize], at: usize, buf: &mut [u8])
+    requires within { at + length buf.old ≤ length places.now * 4096 }
+    requires small { at + length buf.old < 2 ^ 64 }
+    requires placed { (i : ℕ) → at ≤ i → i < at + length buf.old → 0 < get_or places.now (i / 4096) 0 }
+    requires room { (b : ℕ) → get_or places.now b 0 * 4096 ≤ length room.now }
+    ensures bytes { (i : ℕ) → i < length buf.old → slice_index buf.new i ≡ slice_index room.now (spot places.now (at + i)) }
+{
+    let mut done = 0;
+    while done < buf.len() {
+        let from = spot(places, at + done);
+        let part = (BLOCK - (at + done) % BLOCK).min(buf.len() - done);
+        buf[done..done + part].copy_from_slice(&room[from..from + part]);
+        done += part;
+    }
+}
