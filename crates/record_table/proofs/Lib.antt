@@ -27,7 +27,6 @@ pub mod Versions
 pub mod Following
 pub mod Lost
 pub mod Removed
-pub mod SuperPages
 pub mod Extended
 pub mod Made
 pub mod KeptNames
