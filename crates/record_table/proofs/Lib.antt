@@ -33,3 +33,4 @@ pub mod KeptNames
 pub mod Hearing
 mod Erasing
 pub mod Blaming
+pub mod Counting

@@ -1,18 +1,18 @@
 // Records over pages, under an index.
-ghost use Rattle.std.specs.Prelude.{List, ◌≡◌, ◌<◌, ◌≤◌, ℕ, [], codes, Some, None, IfOk, IfErr, IfSome, IfNone, OnOk, OnErr, IsErrOf, IsTrue, if◌then◌else◌, filter, length, slice_get, slice_index_or};
+ghost use Rattle.std.specs.Prelude.{List, ◌≡◌, ◌+◌, ◌<◌, ◌≤◌, ℕ, [], codes, Some, None, IfOk, IfErr, IfSome, IfNone, OnOk, OnErr, IsErrOf, IsTrue, if◌then◌else◌, filter, length, slice_get, slice_index_or};
 ghost use Rattle.std.specs.FinMap.{entries};
 ghost use Rattle.array_shape.specs.NumberSet.{members};
 ghost use Rattle.eaw_face.specs.Causes.{IsAlive};
 ghost use Rattle.eaw_face.specs.State.{listed};
 ghost use Rattle.eaw_face.specs.Mirroring.{GivesUp};
-ghost use Rattle.page_store.specs.Index.{IsTable};
+ghost use Rattle.page_store.specs.Index.{IsTable, slots_of};
 ghost use Rattle.page_store.specs.Looks.{Looks};
 ghost use Rattle.page_store.specs.Shown.{counts_in, top_in, pages_of};
 ghost use Rattle.history.specs.Rows.{records_in};
 ghost use Rattle.history.specs.Table.{found};
 ghost use Rattle.history.specs.declared.call.Call.TheVariants.{Get, Put, Del, Scan, Save, Back, Commit, Abort};
 ghost use Rattle.history.specs.declared.call.Reply.TheVariants.{Fine, Absent, Listed, Saved, Committed};
-ghost use Rattle.record_table.specs.Attached.{Attached, AttachCause, is_refused_by_media};
+ghost use Rattle.record_table.specs.Attached.{Attached, AttachCause, BlamesTested, is_refused_by_media};
 ghost use Rattle.record_slots.specs.Places.{version_of};
 ghost use Rattle.record_table.specs.Removing.{IsAbsent, IsUnwritten, IsNextAbsent, SearchCause, Removes};
 ghost use Rattle.record_table.specs.Groups.{CommitsGroup, group_writes};
@@ -25,7 +25,7 @@ ghost use Rattle.record_table.specs.Sought.{LooksAs};
 ghost use Rattle.record_table.specs.Upgrading.{Upgrades};
 ghost use Rattle.record_table.specs.Making.{Makes};
 ghost use Rattle.record_table.specs.Works.{RemovesFrom};
-ghost use Rattle.record_table.specs.Names.{IsNew, IsCalled, names_of, name_at, key_in};
+ghost use Rattle.record_table.specs.Names.{BeginsWithMain, IsNew, IsCalled, names_of, name_at, key_in};
 
 use crate::fault::{AttachRecords, TableFault};
 use crate::hearings::Hearings;
@@ -85,6 +85,7 @@ impl<S: EawStore, K: KeyIndex> Records<S, K> {
             (pages_of (S.view pages.store) pages) (pages_of (S.view attached.0.store) attached.0)) }
         ensures rows { IsTrue S.tells → IfOk result (λ attached. records_in attached.1.items ≡ entries (table_of K.index (S.view pages.store).state.bytes)) }
         ensures cause { IfErr result (λ failed. AttachCause S.tells K.index (S.view pages.store) failed.0) }
+        ensures blames { IfErr result (λ failed. BlamesTested S.tells (S.calls pages.store) K.index (S.view pages.store) failed.0) }
         ensures looks { IfErr result (λ failed. Looks S.tells (S.opens (S.view pages.store).shape) (is_refused_by_media failed.0)
             (pages_of (S.view pages.store) pages) (pages_of (S.view failed.1.store) failed.1)) }
         ensures dead { IfErr result (λ failed. failed.0 ≡ AttachRecords.Dead → failed.1 ≡ pages) }
@@ -159,7 +160,8 @@ impl<S: EawStore, K: KeyIndex> Records<S, K> {
 
     /// The names of the tables, by their numbers.
     pub fn names(&self) -> Names
-        ensures { IsTrue S.tells → IsAlive (S.view self.now.store) → result ≡ names_of (S.view self.now.store).state.bytes }
+        ensures names { IsTrue S.tells → IsAlive (S.view self.now.store) → result ≡ names_of (S.view self.now.store).state.bytes }
+        ensures main { BeginsWithMain result }
     {
         self.names.copy()
     }
@@ -322,7 +324,7 @@ impl<S: EawStore, K: KeyIndex> Records<S, K> {
         ensures does { (name : List ℕ) → (IsTrue S.tells → IsAlive (S.view self.old.store) → IsCalled (S.view self.old.store).state.bytes table name)
             → Does S.tells (S.opens (S.view self.old.store).shape) K.index table tid (Scan name low high)
             (pages_of (S.view self.old.store) self.old) (pages_of (S.view self.new.store) self.new) (replied Listed result) }
-        ensures hears { (hearings : List Hearing) × HearsRows (S.view self.old.store).shape hearings (λ rows. rows) result }
+        ensures hears { (hearings : List Hearing) × HearsRows (S.view self.old.store).shape hearings (λ rows. rows) result × (length hearings ≤ slots_of (S.view self.old.store).shape + 30) }
         ensures looks { LooksAs S.tells (S.opens (S.view self.old.store).shape) tid (is_failed result)
             (pages_of (S.view self.old.store) self.old) (pages_of (S.view self.new.store) self.new) }
         ensures dead { IsErrOf result TableFault.Dead → self.new ≡ self.old }
@@ -415,7 +417,7 @@ impl<S: EawStore, K: KeyIndex> Records<S, K> {
         ensures cause { SearchCause S.tells (pages_of (S.view self.old.store) self.old) result }
         ensures next { IsTrue S.tells → IfOk result (IsNextAbsent K.index (S.view self.old.store).state.bytes (name_at (S.view self.old.store).state.bytes table) from) }
         ensures inside { IfOk result (λ key. IfSome key (λ key. from ≤ key)) }
-        ensures hears { (hearings : List Hearing) × HearsAbsent (S.view self.old.store).shape hearings result }
+        ensures hears { (hearings : List Hearing) × HearsAbsent (S.view self.old.store).shape hearings result × (length hearings ≤ slots_of (S.view self.old.store).shape + 1) }
         ensures dead { IsErrOf result TableFault.Dead → self.new ≡ self.old }
     {
         if self.pages.is_dead() {

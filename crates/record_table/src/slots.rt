@@ -45,6 +45,15 @@ pub fn page_of<S: EawStore>(pages: &Pages<S>, slot: u32) -> u32
     half + slot / SLOTS_IN_PAGE
 }
 
+// How many slots there are: four for each page of the array. No sound index has more keys.
+pub fn slot_count<S: EawStore>(pages: &Pages<S>) -> u64
+    ensures { result ≡ slots_of (S.view pages.now.store).shape }
+{
+    let shape = pages.shape();
+    let pages = u64::from(shape.loggers) * u64::from(shape.pages);
+    4 * pages
+}
+
 // Reads what the number sees in a slot.
 pub fn read_as<S: EawStore>(
     pages: &mut Pages<S>,

@@ -1,4 +1,5 @@
-use Rattle.std.proofs.Common.{false}
+use Rattle.std.proofs.Common.{false, length}
+use Rattle.record_table.specs.Hearing.{Hearing}
 use Rattle.index_pages.proofs.Looking.{looks_next}
 use Rattle.page_store.specs.Shown.{pages_of}
 use Rattle.page_store.specs.Looks.{Looks, is_failed}
@@ -100,3 +101,20 @@ returns-in-Err-heard-clause-hears g c =
     one_silent (V c.args.pages.now.store).shape c.args.hearings.now.said (V c.next_pairs.new.pages.store).shape c.heard.new.hearings.said pair.0 pair.1 c.in-Ok-read_said.said c.in-Err-heard.fault c.page_of-page.result c.in-Ok.ensures.looks.shape
     (first_inside c.as_slice-some.result.now c.args.from (slots_of (V c.args.pages.now.store).shape) (omega (arith, eqb-false _ 0 (sym c.if-is_empty.ensures))) (subst (λ (l : List Pair). AreInside c.args.from (slots_of (V c.args.pages.now.store).shape) l) (sym c.as_slice-some.ensures.value) c.in-Ok.ensures.inside))
     c.in-Err-heard.ensures.none.0 c.in-Err-heard.ensures.none.1 c.in-Err-heard.ensures.hears c.page_of-page.ensures.page
+
+pub returns-in-Ok-heard-clause-next : goal.returns-in-Ok-heard-clause-next
+returns-in-Ok-heard-clause-next g c = λ told.
+    let are = subst (λ (l : List Pair). AreNext (g.K.KeyIndex.index.pairs (g.S.EawStore.view c.args.pages.now.store).state.bytes c.args.root) c.args.from l) (sym c.as_slice-some.ensures.value) (c.in-Ok.ensures.next told) in
+    (turn_at (g.K.KeyIndex.index.pairs (g.S.EawStore.view c.args.pages.now.store).state.bytes c.args.root) c.args.from 0 c.as_slice-some.result.now 0 (omega (arith, eqb-false _ 0 (sym c.if-is_empty.ensures)))
+    (next_first (g.K.KeyIndex.index.pairs (g.S.EawStore.view c.args.pages.now.store).state.bytes c.args.root) c.args.from c.as_slice-some.result.now (omega (arith, eqb-false _ 0 (sym c.if-is_empty.ensures))) are)).0
+
+pub returns-in-Ok-heard-clause-slot : goal.returns-in-Ok-heard-clause-slot
+returns-in-Ok-heard-clause-slot g c =
+    first_inside c.as_slice-some.result.now c.args.from (slots_of (g.S.EawStore.view c.args.pages.now.store).shape) (omega (arith, eqb-false _ 0 (sym c.if-is_empty.ensures)))
+    (subst (λ (l : List Pair). AreInside c.args.from (slots_of (g.S.EawStore.view c.args.pages.now.store).shape) l) (sym c.as_slice-some.ensures.value) c.in-Ok.ensures.inside)
+
+pub returns-in-Ok-heard-clause-few : goal.returns-in-Ok-heard-clause-few
+returns-in-Ok-heard-clause-few g c = let n = ap (λ (hs : List Hearing). length hs) c.in-Ok-heard.ensures.hears in omega (arith, n)
+
+pub returns-in-Err-heard-clause-few : goal.returns-in-Err-heard-clause-few
+returns-in-Err-heard-clause-few g c = let n = ap (λ (hs : List Hearing). length hs) c.in-Err-heard.ensures.hears in omega (arith, n)

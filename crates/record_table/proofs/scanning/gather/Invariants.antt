@@ -1,13 +1,17 @@
-use Rattle.std.proofs.Common.{◌≡◌, ◌-◌, ◌^◌, ◌++◌, ℕ, List, false, IsTrue}
+use Rattle.std.proofs.Common.{◌≡◌, ◌+◌, ◌-◌, ◌≤◌, ◌^◌, ◌++◌, ℕ, List, length, false, IsTrue}
+use Rattle.page_store.specs.Index.{slots_of}
 use Rattle.page_store.specs.Shown.{pages_of}
 use Rattle.record_table.specs.Scanned.{rows_seen}
 use Rattle.record_table.specs.Names.{IsCalled}
 use Rattle.record_table.specs.Sought.{LooksAs}
 use Rattle.record_table.specs.Hearing.{AllSpoke, rows_heard}
+use Rattle.record_table.proofs.Counting.{many}
 use Rattle.record_table.proofs.scanning.gather.Given as goal
 
 abbrev pub invariant-loop-from : goal.invariant-loop-from
 invariant-loop-from g l = record {
+  left : length l.hearings.said + l.left ≡ slots_of (g.S.EawStore.view l.initial.pages.store).shape;
+  keys : IsTrue g.S.EawStore.tells → many l.from (g.K.KeyIndex.index.pairs (g.S.EawStore.view l.initial.pages.store).state.bytes l.root) ≤ l.left;
   spoke : AllSpoke l.hearings.said;
   heard : l.rows ≡ rows_heard l.hearings.said;
   looks : LooksAs g.S.EawStore.tells (g.S.EawStore.opens (g.S.EawStore.view l.initial.pages.store).shape) l.tid false (pages_of (g.S.EawStore.view l.initial.pages.store) l.initial.pages) (pages_of (g.S.EawStore.view l.pages.store) l.pages);

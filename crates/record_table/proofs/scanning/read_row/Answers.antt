@@ -49,7 +49,7 @@ pub returns-in-Err-clause-hears : goal.returns-in-Err-clause-hears
 returns-in-Err-clause-hears g c = next_failed (g.S.EawStore.view c.args.pages.now.store).shape c.args.pair c.args.hearings.now.said c.in-Err.fault c.in-Err.ensures.faults
 
 pub returns-in-Ok-heard-clause-hears : goal.returns-in-Ok-heard-clause-hears
-returns-in-Ok-heard-clause-hears g c = next_heard (g.S.EawStore.view c.args.pages.now.store).shape c.args.pair c.args.hearings.now.said c.heard.new.hearings.said c.in-Ok.said c.in-Ok-heard.said _ c.in-Ok-heard.ensures.slot c.in-Ok-heard.ensures.hears refl c.value_in.ensures
+returns-in-Ok-heard-clause-hears g c = next_heard (g.S.EawStore.view c.args.pages.now.store).shape c.args.pair c.args.hearings.now.said c.heard.new.hearings.said c.in-Ok.said c.in-Ok-heard.said (record { key = c.args.pair.0; slot = c.args.pair.1; value = c.value_in.result }) c.in-Ok-heard.ensures.slot c.in-Ok-heard.ensures.hears refl c.value_in.ensures
 
 pub returns-in-Err-heard-clause-hears : goal.returns-in-Err-heard-clause-hears
 returns-in-Err-heard-clause-hears g c =

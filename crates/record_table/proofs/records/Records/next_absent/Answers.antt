@@ -1,5 +1,6 @@
 use Rattle.index_pages.proofs.Looking.{looks_none}
-use Rattle.std.proofs.Common.{List, [], ℕ, Option, Result, subst, sym}
+use Rattle.std.proofs.Common.{List, [], ℕ, ◌+◌, ◌≤◌, length, Option, Result, subst, sym, arith}
+use Rattle.page_store.specs.Index.{slots_of}
 use Rattle.record_table.specs.Names.{name_at}
 use Rattle.record_table.proofs.Sharing.{called_below}
 use Rattle.record_table.proofs.Rooted.{rooted_as, inside_as, called_inside}
@@ -44,7 +45,8 @@ returns-clause-hears g c =
     let V = g.S.EawStore.view in (
       c.next_absent.new.hearings.said,
       rw c.told.ensures (subst (λ (p : Shown g.row.S.Denot). HearsAbsent (V p.store).shape c.next_absent.new.hearings.said (told_as c.next_absent.result)) c.self.view_is c.next_absent.ensures.hears),
+      subst (λ (p : Shown g.row.S.Denot). length c.next_absent.new.hearings.said ≤ slots_of (V p.store).shape + 1) c.self.view_is c.next_absent.ensures.few,
     )
 
 pub returns-then-is_dead-clause-hears : goal.returns-then-is_dead-clause-hears
-returns-then-is_dead-clause-hears g c = let none : List Hearing = [] in (none, tt)
+returns-then-is_dead-clause-hears g c = let none : List Hearing = [] in (none, tt, omega arith)

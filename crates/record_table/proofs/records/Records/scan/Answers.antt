@@ -2,7 +2,8 @@ use Rattle.std.proofs.Common.{List, [], true, refl, subst}
 use Rattle.page_store.specs.Shown.{Shown}
 use Rattle.record_table.proofs.Doing.{does_dead}
 use Rattle.record_table.proofs.Looking.{looks_none}
-use Rattle.std.proofs.Common.{◌≡◌, sym, ◌∙◌, ap}
+use Rattle.std.proofs.Common.{◌≡◌, ◌+◌, ◌≤◌, length, sym, ◌∙◌, ap, arith}
+use Rattle.page_store.specs.Index.{slots_of}
 use Rattle.record_table.specs.Names.{name_at}
 use Rattle.record_table.proofs.Sharing.{called_below}
 use Rattle.record_table.proofs.Rooted.{rooted_as, inside_as, called_inside}
@@ -79,7 +80,8 @@ returns-clause-hears g c =
       c.gather.new.hearings.said,
       subst (λ (p : Shown g.row.S.Denot). HearsRows (V p.store).shape c.gather.new.hearings.said (λ (rows : List Row). rows) (scanned_as c.gather.new.rows c.gather.result)) c.self.view_is
           (rows_given (V c.self.inside.pages.store).shape c.gather.new.hearings.said c.gather.new.rows c.gather.result c.gather.ensures.hears),
+      subst (λ (p : Shown g.row.S.Denot). length c.gather.new.hearings.said ≤ slots_of (V p.store).shape + 30) c.self.view_is c.gather.ensures.few,
     )
 
 pub returns-then-is_dead-clause-hears : goal.returns-then-is_dead-clause-hears
-returns-then-is_dead-clause-hears g c = let none : List Hearing = [] in (none, tt)
+returns-then-is_dead-clause-hears g c = let none : List Hearing = [] in (none, tt, omega arith)
