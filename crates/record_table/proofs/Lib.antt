@@ -34,3 +34,4 @@ pub mod Hearing
 mod Erasing
 pub mod Blaming
 pub mod Counting
+pub mod Walking

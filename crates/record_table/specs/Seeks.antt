@@ -27,6 +27,10 @@ abbrev pub slot_cost : (Command → ℕ) → ℕ → StoreView → Option ℕ �
 slot_cost calls t store None = 0
 slot_cost calls t store (Some slot) = seen_cost calls t (64 * (slots_of store.shape + slot)) 64 (listed (store.ranges t))
 
+-- so of one slot
+abbrev pub row_cost : (Command → ℕ) → ℕ → StoreView → ℕ → ℕ
+row_cost calls t store slot = slot_cost calls t store (Some slot)
+
 -- the page that was read last: that of the slot, or else the last one of the index
 abbrev pub IsRead : Shape → List Reading → Option ℕ → ℕ → Type 0
 IsRead shape read None page = IsLast read page

@@ -1,11 +1,11 @@
 // Records over pages, under an index.
-ghost use Rattle.std.specs.Prelude.{List, ◌≡◌, ◌+◌, ◌<◌, ◌≤◌, ℕ, [], codes, Some, None, IfOk, IfErr, IfSome, IfNone, OnOk, OnErr, IsErrOf, IsTrue, if◌then◌else◌, filter, length, slice_get, slice_index_or};
+ghost use Rattle.std.specs.Prelude.{List, ◌≡◌, ◌<◌, ◌≤◌, ℕ, [], codes, Some, None, IfOk, IfErr, IfSome, IfNone, OnOk, OnErr, IsErrOf, IsTrue, if◌then◌else◌, filter, length, slice_get, slice_index_or};
 ghost use Rattle.std.specs.FinMap.{entries};
 ghost use Rattle.array_shape.specs.NumberSet.{members};
 ghost use Rattle.eaw_face.specs.Causes.{IsAlive};
 ghost use Rattle.eaw_face.specs.State.{listed};
 ghost use Rattle.eaw_face.specs.Mirroring.{GivesUp};
-ghost use Rattle.page_store.specs.Index.{IsTable, slots_of};
+ghost use Rattle.page_store.specs.Index.{IsTable};
 ghost use Rattle.page_store.specs.Looks.{Looks};
 ghost use Rattle.page_store.specs.Shown.{counts_in, top_in, pages_of};
 ghost use Rattle.history.specs.Rows.{records_in};
@@ -19,11 +19,12 @@ ghost use Rattle.record_table.specs.Groups.{CommitsGroup, group_writes};
 ghost use Rattle.record_table.specs.Does.{Does, replied, is_failed};
 ghost use Rattle.record_table.specs.Blames.{BlamesOne, BlamesFrontHere, BlamesFrontMade};
 ghost use Rattle.record_table.specs.Hearing.{Hearing, HearsAbsent, HearsRows};
-ghost use Rattle.record_table.specs.Seeks.{Erases, Gets};
+ghost use Rattle.record_table.specs.Seeks.{Erases, Gets, row_cost};
 ghost use Rattle.record_table.specs.Shown.{state_of, table_of, pairs_of, held_on, is_write_on, AreNamed};
 ghost use Rattle.record_table.specs.Sought.{LooksAs};
 ghost use Rattle.record_table.specs.Upgrading.{Upgrades};
 ghost use Rattle.record_table.specs.Making.{Makes};
+ghost use Rattle.record_table.specs.Walked.{Walked, data_cost};
 ghost use Rattle.record_table.specs.Works.{RemovesFrom};
 ghost use Rattle.record_table.specs.Names.{BeginsWithMain, IsNew, IsCalled, names_of, name_at, key_in};
 
@@ -309,7 +310,8 @@ impl<S: EawStore, K: KeyIndex> Records<S, K> {
         }
     }
 
-    /// The records from one key to another, both included, as the number sees them. The memory for them is taken here.
+    /// The records from one key to another, both included, as the number sees them. The memory for them is taken here. It looks for keys at
+    /// most once more than there are slots, whatever the store says (`Walked`).
     pub fn scan(
         &mut self,
         alloc: Global,
@@ -324,7 +326,9 @@ impl<S: EawStore, K: KeyIndex> Records<S, K> {
         ensures does { (name : List ℕ) → (IsTrue S.tells → IsAlive (S.view self.old.store) → IsCalled (S.view self.old.store).state.bytes table name)
             → Does S.tells (S.opens (S.view self.old.store).shape) K.index table tid (Scan name low high)
             (pages_of (S.view self.old.store) self.old) (pages_of (S.view self.new.store) self.new) (replied Listed result) }
-        ensures hears { (hearings : List Hearing) × HearsRows (S.view self.old.store).shape hearings (λ rows. rows) result × (length hearings ≤ slots_of (S.view self.old.store).shape + 30) }
+        ensures hears { (hearings : List Hearing) × HearsRows (S.view self.old.store).shape hearings (λ rows. rows) result × (root : ℕ)
+            × Walked K.index root (S.calls self.old.store) (row_cost (S.calls self.old.store) tid (S.view self.old.store)) (S.view self.old.store).shape
+            (is_failed result) (S.view self.old.store).moment (S.view self.new.store).moment hearings }
         ensures looks { LooksAs S.tells (S.opens (S.view self.old.store).shape) tid (is_failed result)
             (pages_of (S.view self.old.store) self.old) (pages_of (S.view self.new.store) self.new) }
         ensures dead { IsErrOf result TableFault.Dead → self.new ≡ self.old }
@@ -408,7 +412,7 @@ impl<S: EawStore, K: KeyIndex> Records<S, K> {
     }
 
     /// The least key of a table from `from` on that has no record in the data, while the index of the table still has the key. Nothing is
-    /// changed.
+    /// changed. It looks for keys at most once more than there are slots (`Walked`).
     pub fn next_absent(&mut self, table: u8, from: u64) -> Result<Option<u64>, TableFault>
         requires table { table < 8 }
         requires there { IsTrue S.tells → IsAlive (S.view self.old.store) → table < length (names_of (S.view self.old.store).state.bytes) }
@@ -417,7 +421,9 @@ impl<S: EawStore, K: KeyIndex> Records<S, K> {
         ensures cause { SearchCause S.tells (pages_of (S.view self.old.store) self.old) result }
         ensures next { IsTrue S.tells → IfOk result (IsNextAbsent K.index (S.view self.old.store).state.bytes (name_at (S.view self.old.store).state.bytes table) from) }
         ensures inside { IfOk result (λ key. IfSome key (λ key. from ≤ key)) }
-        ensures hears { (hearings : List Hearing) × HearsAbsent (S.view self.old.store).shape hearings result × (length hearings ≤ slots_of (S.view self.old.store).shape + 1) }
+        ensures hears { (hearings : List Hearing) × HearsAbsent (S.view self.old.store).shape hearings result × (root : ℕ)
+            × Walked K.index root (S.calls self.old.store) (data_cost (S.calls self.old.store) (S.view self.old.store).shape) (S.view self.old.store).shape
+            (is_failed result) (S.view self.old.store).moment (S.view self.new.store).moment hearings }
         ensures dead { IsErrOf result TableFault.Dead → self.new ≡ self.old }
     {
         if self.pages.is_dead() {

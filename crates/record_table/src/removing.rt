@@ -1,7 +1,9 @@
 // Keys of a table that have no record any more: the next of them, and the removal of one from the index.
-ghost use Rattle.std.specs.Prelude.{[], ◌≡◌, ◌+◌, ◌^◌, ◌≤◌, ◌<◌, ◌⊎◌, Some, IfOk, IfErr, IfSome, IsErrOf, IsTrue, length};
+ghost use Rattle.std.specs.Prelude.{[], ◌≡◌, ◌+◌, ◌^◌, ◌≤◌, ◌<◌, ◌⊎◌, true, Some, IfOk, IfErr, IfSome, OnOk, IsErrOf, IsTrue, length};
 ghost use Rattle.array_shape.specs.Places.{page_count};
+ghost use Rattle.mars_base.specs.Costs.{Costs};
 ghost use Rattle.eaw_face.specs.Causes.{IsAlive};
+ghost use Rattle.eaw_face.specs.Command.{Command};
 ghost use Rattle.record_slots.specs.Slots.{slot_said};
 ghost use Rattle.record_slots.specs.Places.{slot_of, version_of};
 ghost use Rattle.page_store.specs.Index.{IsTable, slots_of};
@@ -15,6 +17,7 @@ ghost use Rattle.record_table.specs.Hearing.{HearsOne, HearsAbsent};
 ghost use Rattle.record_table.specs.Invariant.{Holds};
 ghost use Rattle.record_table.specs.Removing.{IsAbsent, IsUnwritten, IsNextAbsent, ComesNext, Removes};
 ghost use Rattle.record_table.specs.Names.{name_at, key_in};
+ghost use Rattle.record_table.specs.Walked.{AreSteady, LooksOnce, Walked, data_cost};
 
 use crate::hearings::Hearings;
 use crate::scanning::Next;
@@ -30,6 +33,8 @@ fn read_said<S: EawStore>(pages: &mut Pages<S>, slot: u32) -> Result<Option<Slot
         (pages_of (S.view pages.old.store) pages.old) (pages_of (S.view pages.new.store) pages.new) }
     ensures cause { LookCause S.tells (S.view pages.old.store) result }
     ensures said { IsTrue S.tells → IfOk result (λ said. said ≡ slot_said (slot_of (S.view pages.old.store).state.bytes slot)) }
+    ensures costs { Costs true (data_cost (S.calls pages.old.store) (S.view pages.old.store).shape slot) (S.view pages.old.store).moment (S.view pages.new.store).moment result }
+    ensures steady { OnOk result ((command : Command) → S.calls pages.new.store command ≡ S.calls pages.old.store command) }
     ensures faults { IfErr result (λ fault. (fault ≡ PageFault.Media) ⊎ (fault ≡ PageFault.Dead)) }
     ensures dead { IsErrOf result PageFault.Dead → pages.new ≡ pages.old }
 {
@@ -59,6 +64,9 @@ fn next_in_data<S: EawStore, K: KeyIndex>(
     ensures next { IsTrue S.tells → IfOk result (λ found. IfSome found (λ found. next (K.index.pairs (S.view pages.old.store).state.bytes root) from ≡ Some (found.key, found.slot))) }
     ensures slot { IfOk result (λ found. IfSome found (λ found. found.slot < slots_of (S.view pages.old.store).shape)) }
     ensures few { length hearings.new.said ≤ length hearings.old.said + 1 }
+    ensures looked { LooksOnce (K.index.nexting root from) (S.calls pages.old.store) (data_cost (S.calls pages.old.store) (S.view pages.old.store).shape) (S.view pages.old.store).shape
+        (is_failed result) (S.view pages.old.store).moment (S.view pages.new.store).moment hearings.old.said hearings.new.said }
+    ensures steady { AreSteady (is_failed result) (S.calls pages.old.store) (S.calls pages.new.store) }
     ensures hears { HearsOne (S.view pages.old.store).shape hearings.old.said hearings.new.said result }
     ensures dead { IsErrOf result PageFault.Dead → pages.new ≡ pages.old }
 {
@@ -106,7 +114,8 @@ pub fn next_absent<S: EawStore, K: KeyIndex>(
     ensures next { IsTrue S.tells → IfOk result (IsNextAbsent K.index (S.view pages.old.store).state.bytes (name_at (S.view pages.old.store).state.bytes table) from) }
     ensures inside { IfOk result (λ key. IfSome key (λ key. from ≤ key)) }
     ensures hears { HearsAbsent (S.view pages.old.store).shape hearings.new.said (told_as result) }
-    ensures few { length hearings.new.said ≤ slots_of (S.view pages.old.store).shape + 1 }
+    ensures walks { Walked K.index root (S.calls pages.old.store) (data_cost (S.calls pages.old.store) (S.view pages.old.store).shape) (S.view pages.old.store).shape
+        (is_failed result) (S.view pages.old.store).moment (S.view pages.new.store).moment hearings.new.said }
 {
     let mut low = from;
     let mut left = slot_count(pages);

@@ -13,7 +13,8 @@ ghost use Rattle.record_table.specs.Invariant.{Holds};
 ghost use Rattle.record_table.specs.Scanned.{rows_seen, rows_left, Follows, ScanCause};
 ghost use Rattle.record_table.specs.Names.{IsCalled};
 ghost use Rattle.record_table.specs.Sought.{LooksAs};
-ghost use Rattle.record_table.specs.Walked.{behind};
+ghost use Rattle.record_table.specs.Seeks.{row_cost};
+ghost use Rattle.record_table.specs.Walked.{ArePaid, AreSteady, Walked, behind};
 
 use crate::fault::TableFault;
 use crate::hearings::Hearings;
@@ -63,6 +64,8 @@ fn read_row<S: EawStore, K: KeyIndex>(
     ensures follows { IsTrue S.tells → (name : List ℕ) → IsCalled (S.view pages.old.store).state.bytes span.table name → IfOk result (λ row. Follows K.index tid name span.low span.high (pages_of (S.view pages.old.store) pages.old) (Some row)) }
     ensures key { IfOk result (λ row. row.key ≡ pair.0) }
     ensures hears { HearsNext (S.view pages.old.store).shape pair hearings.old.said hearings.new.said result }
+    ensures costs { ArePaid (is_failed result) (row_cost (S.calls pages.old.store) tid (S.view pages.old.store)) (S.view pages.old.store).moment (S.view pages.new.store).moment hearings.old.said hearings.new.said }
+    ensures steady { AreSteady (is_failed result) (S.calls pages.old.store) (S.calls pages.new.store) }
 {
     let (key, slot) = pair;
     let page = page_of(pages, slot);
@@ -119,6 +122,8 @@ fn push_rows<S: EawStore, K: KeyIndex>(
     ensures further { IfOk result (λ from. IfSome from (λ from. (span.low < from) × (from ≤ span.high))) }
     ensures all { IfOk result (λ from. IfSome from (λ from. (from ≡ behind span.low pairs.now) × (length hearings.new.said ≡ length hearings.old.said + length pairs.now))) }
     ensures few { length hearings.new.said ≤ length hearings.old.said + length pairs.now }
+    ensures costs { ArePaid (answers.is_failed result) (row_cost (S.calls pages.old.store) tid (S.view pages.old.store)) (S.view pages.old.store).moment (S.view pages.new.store).moment hearings.old.said hearings.new.said }
+    ensures steady { AreSteady (answers.is_failed result) (S.calls pages.old.store) (S.calls pages.new.store) }
     ensures hears { HearsRows (S.view pages.old.store).shape hearings.new.said (λ done. rows.new) result }
 {
     let mut from = span.low;
@@ -166,7 +171,8 @@ pub fn gather<S: EawStore, K: KeyIndex>(
     ensures cause { ScanCause S.tells result }
     ensures rows { IsTrue S.tells → (name : List ℕ) → IsCalled (S.view pages.old.store).state.bytes table name → OnOk result (rows.new ≡ rows_seen K.index tid name (pages_of (S.view pages.old.store) pages.old) low high) }
     ensures hears { HearsRows (S.view pages.old.store).shape hearings.new.said (λ done. rows.new) result }
-    ensures few { length hearings.new.said ≤ slots_of (S.view pages.old.store).shape + 30 }
+    ensures walks { Walked K.index root (S.calls pages.old.store) (row_cost (S.calls pages.old.store) tid (S.view pages.old.store)) (S.view pages.old.store).shape
+        (answers.is_failed result) (S.view pages.old.store).moment (S.view pages.new.store).moment hearings.new.said }
 {
     let mut from = low;
     let mut left = slot_count(pages);

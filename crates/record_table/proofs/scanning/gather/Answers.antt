@@ -4,7 +4,7 @@ use Rattle.record_table.specs.Does as answers
 use Rattle.record_table.specs.declared.fault.TableFault.{TableFault}
 use Rattle.record_table.proofs.Looking.{failed_told}
 use Rattle.std.proofs.lemmas.Bool.{eqb-true, eqb-false}
-use Rattle.std.proofs.Common.{false, inr, ℕ, ◌-◌, ◌<◌, List, ◌++◌, length, refl, sym, ◌∙◌, ap, subst, arith}
+use Rattle.std.proofs.Common.{false, inr, ℕ, ◌+◌, ◌-◌, ◌<◌, List, ◌++◌, length, refl, sym, ◌∙◌, ap, subst, arith}
 use Rattle.array_shape.specs.Places.{page_count}
 use Rattle.std.proofs.lemmas.List.{append-nil}
 use Rattle.eaw_face.specs.State.{State}
@@ -23,7 +23,10 @@ use Rattle.record_table.proofs.Moving.{moved_by_look, rests_moved}
 use Rattle.record_table.proofs.Sharing.{Laws}
 use Rattle.array_shape.specs.declared.shape.Shape.{Shape}
 use Rattle.record_table.specs.Hearing.{Hearing, HearsRows}
+use Rattle.record_table.specs.Seeks.{row_cost}
+use Rattle.record_table.specs.Walked.{Walked}
 use Rattle.record_table.proofs.Counting.{many, keys_few, many_behind, slot_inside}
+use Rattle.record_table.proofs.Walking.{paid_same, row_same, walk_begins, walk_looks, walk_hears, walk_more, walk_ends}
 use Rattle.record_table.proofs.Hearing.{all_spoke_yet, no_rows_yet, index_refused, rows_refused}
 use Rattle.record_table.proofs.scanning.gather.Goals as goal
 
@@ -134,6 +137,9 @@ loop-from-init g c =
     let shape = (V c.args.pages.now.store).shape in
     record {
       left = omega (arith, ap (λ (hs : List Hearing). length hs) c.requires.unheard, c.slot_count-left.ensures);
+      walking = walk_more g.K.KeyIndex.index c.args.root (g.S.EawStore.calls c.args.pages.now.store) (row_cost (g.S.EawStore.calls c.args.pages.now.store) c.args.tid (V c.args.pages.now.store)) (V c.args.pages.now.store).shape false 0 (length c.args.hearings.now.said) (V c.args.pages.now.store).moment (V c.args.pages.now.store).moment c.args.hearings.now.said (omega arith)
+          (walk_begins g.K.KeyIndex.index c.args.root (g.S.EawStore.calls c.args.pages.now.store) (row_cost (g.S.EawStore.calls c.args.pages.now.store) c.args.tid (V c.args.pages.now.store)) (V c.args.pages.now.store).shape (V c.args.pages.now.store).moment c.args.hearings.now.said c.requires.unheard);
+      steady = λ command. refl;
       keys = λ told. omega (
         arith,
         keys_few g.K.KeyIndex.index laws (V c.args.pages.now.store).state.bytes shape c.args.table c.args.root c.args.low (g.met.S.EawStore.long c.args.pages.now.store told)
@@ -185,6 +191,11 @@ loop-from-preserved g c =
     let all = rw c.in-Ok-Some.field-0-is at c.in-Ok-Some.ensures.all in
     record {
       left = omega (arith, all.1, c.if-met-left.false, c.loop-from.invariant.left);
+      walking = walk_more g.K.KeyIndex.index c.args.root (g.S.EawStore.calls c.args.pages.now.store) (row_cost (g.S.EawStore.calls c.args.pages.now.store) c.args.tid (V c.args.pages.now.store)) (V c.args.pages.now.store).shape false (length c.loop-from.hearings.said + 1) (length c.push_rows.new.hearings.said) (V c.args.pages.now.store).moment (V c.push_rows.new.pages.store).moment c.push_rows.new.hearings.said (omega (arith, all.1, eqb-false _ 0 (sym c.if-is_empty.ensures), ap (λ (ps : List Pair). length ps) c.as_slice-pairs.ensures.value))
+          (walk_hears g.K.KeyIndex.index c.args.root (g.S.EawStore.calls c.args.pages.now.store) (row_cost (g.S.EawStore.calls c.args.pages.now.store) c.args.tid (V c.args.pages.now.store)) (V c.args.pages.now.store).shape false (length c.loop-from.hearings.said + 1) (V c.args.pages.now.store).moment (V c.next_pairs.new.pages.store).moment (V c.push_rows.new.pages.store).moment c.loop-from.hearings.said c.push_rows.new.hearings.said
+          (walk_looks g.K.KeyIndex.index c.args.root (g.S.EawStore.calls c.args.pages.now.store) (row_cost (g.S.EawStore.calls c.args.pages.now.store) c.args.tid (V c.args.pages.now.store)) (V c.args.pages.now.store).shape g.S.EawStore.tells (g.S.EawStore.calls c.loop-from.pages.store) (g.S.EawStore.calls c.next_pairs.new.pages.store) (length c.loop-from.hearings.said) (V c.args.pages.now.store).moment c.loop-from.from c.loop-from.hearings.said _ (V c.loop-from.pages.store) (V c.next_pairs.new.pages.store) _ c.loop-from.invariant.walking c.loop-from.invariant.steady c.loop-from.invariant.looks.shape c.in-Ok.ensures.follows)
+          (paid_same _ (row_cost (g.S.EawStore.calls c.next_pairs.new.pages.store) c.args.tid (V c.next_pairs.new.pages.store)) (row_cost (g.S.EawStore.calls c.args.pages.now.store) c.args.tid (V c.args.pages.now.store)) _ _ c.loop-from.hearings.said c.push_rows.new.hearings.said (row_same (g.S.EawStore.calls c.next_pairs.new.pages.store) (g.S.EawStore.calls c.args.pages.now.store) c.args.tid (V c.next_pairs.new.pages.store) (V c.args.pages.now.store) (λ command. c.in-Ok.ensures.follows.reads.steady refl command ∙ c.loop-from.invariant.steady command) (c.in-Ok.ensures.looks.shape ∙ c.loop-from.invariant.looks.shape) (c.in-Ok.ensures.looks.ranges ∙ (c.loop-from.invariant.looks.same refl).ranges)) c.in-Ok-Some.ensures.costs));
+      steady = λ command. c.in-Ok-Some.ensures.steady refl command ∙ c.in-Ok.ensures.follows.reads.steady refl command ∙ c.loop-from.invariant.steady command;
       keys = λ told.
           let fewer = many_behind (g.K.KeyIndex.index.pairs (V c.args.pages.now.store).state.bytes c.args.root) c.loop-from.from c.as_slice-pairs.result.now
           (subst (λ (l : List Pair). InTurn (g.K.KeyIndex.index.pairs (V c.args.pages.now.store).state.bytes c.args.root) c.loop-from.from l) (sym c.as_slice-pairs.ensures.value)
@@ -231,21 +242,6 @@ returns-in-Err-push_rows-clause-hears g c =
     subst (λ (s : Shape). HearsRows s c.push_rows.new.hearings.said (λ (done : Unit {0}). c.push_rows.new.rows) (Err c.in-Err-push_rows.fault)) (c.in-Ok.ensures.looks.shape ∙ c.loop-from.invariant.looks.shape)
     (rows_refused (g.S.EawStore.view c.next_pairs.new.pages.store).shape c.push_rows.new.hearings.said (λ (from : Option ℕ). c.push_rows.new.rows) (λ (done : Unit {0}). c.push_rows.new.rows) c.in-Err-push_rows.fault c.in-Err-push_rows.ensures.hears)
 
-pub returns-clause-few : goal.returns-clause-few
-returns-clause-few g c = omega (arith, c.loop-from.invariant.left)
-
-pub returns-then-is_empty-clause-few : goal.returns-then-is_empty-clause-few
-returns-then-is_empty-clause-few g c = omega (arith, c.loop-from.invariant.left)
-
-pub returns-in-Err-clause-few : goal.returns-in-Err-clause-few
-returns-in-Err-clause-few g c = omega (arith, c.loop-from.invariant.left)
-
-pub returns-in-Ok-None-clause-few : goal.returns-in-Ok-None-clause-few
-returns-in-Ok-None-clause-few g c = omega (arith, c.in-Ok-None.ensures.few, c.loop-from.invariant.left)
-
-pub returns-in-Err-push_rows-clause-few : goal.returns-in-Err-push_rows-clause-few
-returns-in-Err-push_rows-clause-few g c = omega (arith, c.in-Err-push_rows.ensures.few, c.loop-from.invariant.left)
-
 -- more keys than slots
 pub page_of-page-requires : goal.page_of-page-requires
 page_of-page-requires g c =
@@ -275,6 +271,46 @@ returns-then-met-left-clause-hears g c =
     let shape = c.in-Ok-Some.ensures.looks.shape ∙ c.in-Ok.ensures.looks.shape ∙ c.loop-from.invariant.looks.shape in
     (subst (λ (s : Shape). c.page_of-page.result < page_count s) shape c.page_of-page.ensures.inside, inr c.in-Ok-Some.ensures.hears.0)
 
-pub returns-then-met-left-clause-few : goal.returns-then-met-left-clause-few
-returns-then-met-left-clause-few g c =
-    omega (arith, c.in-Ok-Some.ensures.few, c.loop-from.invariant.left)
+pub returns-clause-walks : goal.returns-clause-walks
+returns-clause-walks g c =
+    let V = g.S.EawStore.view in
+    walk_ends g.K.KeyIndex.index c.args.root (g.S.EawStore.calls c.args.pages.now.store) (row_cost (g.S.EawStore.calls c.args.pages.now.store) c.args.tid (V c.args.pages.now.store)) (V c.args.pages.now.store).shape false (length c.loop-from.hearings.said) (V c.args.pages.now.store).moment (V c.loop-from.pages.store).moment c.loop-from.hearings.said (omega (arith, c.loop-from.invariant.left)) (omega (arith, c.loop-from.invariant.left))
+    (c.loop-from.invariant.walking)
+
+pub returns-then-is_empty-clause-walks : goal.returns-then-is_empty-clause-walks
+returns-then-is_empty-clause-walks g c =
+    let V = g.S.EawStore.view in
+    walk_ends g.K.KeyIndex.index c.args.root (g.S.EawStore.calls c.args.pages.now.store) (row_cost (g.S.EawStore.calls c.args.pages.now.store) c.args.tid (V c.args.pages.now.store)) (V c.args.pages.now.store).shape false (length c.loop-from.hearings.said + 1) (V c.args.pages.now.store).moment (V c.next_pairs.new.pages.store).moment c.loop-from.hearings.said (omega (arith, c.loop-from.invariant.left)) (omega (arith, c.loop-from.invariant.left))
+    (walk_looks g.K.KeyIndex.index c.args.root (g.S.EawStore.calls c.args.pages.now.store) (row_cost (g.S.EawStore.calls c.args.pages.now.store) c.args.tid (V c.args.pages.now.store)) (V c.args.pages.now.store).shape g.S.EawStore.tells (g.S.EawStore.calls c.loop-from.pages.store) (g.S.EawStore.calls c.next_pairs.new.pages.store) (length c.loop-from.hearings.said) (V c.args.pages.now.store).moment c.loop-from.from c.loop-from.hearings.said _ (V c.loop-from.pages.store) (V c.next_pairs.new.pages.store) _ c.loop-from.invariant.walking c.loop-from.invariant.steady c.loop-from.invariant.looks.shape c.in-Ok.ensures.follows)
+
+pub returns-in-Err-clause-walks : goal.returns-in-Err-clause-walks
+returns-in-Err-clause-walks g c =
+    let V = g.S.EawStore.view in
+    let A = λ (b : Bool). Walked g.K.KeyIndex.index c.args.root (g.S.EawStore.calls c.args.pages.now.store) (row_cost (g.S.EawStore.calls c.args.pages.now.store) c.args.tid (V c.args.pages.now.store)) (V c.args.pages.now.store).shape b (V c.args.pages.now.store).moment (V c.next_pairs.new.pages.store).moment c.loop-from.hearings.said in
+    subst (λ (e : TableFault). A (let r : Result (Unit {0}) TableFault = Err e in answers.is_failed r)) (sym c.from.ensures)
+    (subst A (sym (failed_told c.in-Err.fault)) (walk_ends g.K.KeyIndex.index c.args.root (g.S.EawStore.calls c.args.pages.now.store) (row_cost (g.S.EawStore.calls c.args.pages.now.store) c.args.tid (V c.args.pages.now.store)) (V c.args.pages.now.store).shape _ (length c.loop-from.hearings.said + 1) (V c.args.pages.now.store).moment (V c.next_pairs.new.pages.store).moment c.loop-from.hearings.said (omega (arith, c.loop-from.invariant.left)) (omega (arith, c.loop-from.invariant.left))
+    (walk_looks g.K.KeyIndex.index c.args.root (g.S.EawStore.calls c.args.pages.now.store) (row_cost (g.S.EawStore.calls c.args.pages.now.store) c.args.tid (V c.args.pages.now.store)) (V c.args.pages.now.store).shape g.S.EawStore.tells (g.S.EawStore.calls c.loop-from.pages.store) (g.S.EawStore.calls c.next_pairs.new.pages.store) (length c.loop-from.hearings.said) (V c.args.pages.now.store).moment c.loop-from.from c.loop-from.hearings.said _ (V c.loop-from.pages.store) (V c.next_pairs.new.pages.store) _ c.loop-from.invariant.walking c.loop-from.invariant.steady c.loop-from.invariant.looks.shape c.in-Err.ensures.follows)))
+
+pub returns-in-Ok-None-clause-walks : goal.returns-in-Ok-None-clause-walks
+returns-in-Ok-None-clause-walks g c =
+    let V = g.S.EawStore.view in
+    walk_ends g.K.KeyIndex.index c.args.root (g.S.EawStore.calls c.args.pages.now.store) (row_cost (g.S.EawStore.calls c.args.pages.now.store) c.args.tid (V c.args.pages.now.store)) (V c.args.pages.now.store).shape false (length c.loop-from.hearings.said + 1) (V c.args.pages.now.store).moment (V c.push_rows.new.pages.store).moment c.push_rows.new.hearings.said (omega (arith, c.loop-from.invariant.left)) (omega (arith, c.in-Ok-None.ensures.few, c.loop-from.invariant.left))
+    (walk_hears g.K.KeyIndex.index c.args.root (g.S.EawStore.calls c.args.pages.now.store) (row_cost (g.S.EawStore.calls c.args.pages.now.store) c.args.tid (V c.args.pages.now.store)) (V c.args.pages.now.store).shape false (length c.loop-from.hearings.said + 1) (V c.args.pages.now.store).moment (V c.next_pairs.new.pages.store).moment (V c.push_rows.new.pages.store).moment c.loop-from.hearings.said c.push_rows.new.hearings.said
+    (walk_looks g.K.KeyIndex.index c.args.root (g.S.EawStore.calls c.args.pages.now.store) (row_cost (g.S.EawStore.calls c.args.pages.now.store) c.args.tid (V c.args.pages.now.store)) (V c.args.pages.now.store).shape g.S.EawStore.tells (g.S.EawStore.calls c.loop-from.pages.store) (g.S.EawStore.calls c.next_pairs.new.pages.store) (length c.loop-from.hearings.said) (V c.args.pages.now.store).moment c.loop-from.from c.loop-from.hearings.said _ (V c.loop-from.pages.store) (V c.next_pairs.new.pages.store) _ c.loop-from.invariant.walking c.loop-from.invariant.steady c.loop-from.invariant.looks.shape c.in-Ok.ensures.follows)
+    (paid_same _ (row_cost (g.S.EawStore.calls c.next_pairs.new.pages.store) c.args.tid (V c.next_pairs.new.pages.store)) (row_cost (g.S.EawStore.calls c.args.pages.now.store) c.args.tid (V c.args.pages.now.store)) _ _ c.loop-from.hearings.said c.push_rows.new.hearings.said (row_same (g.S.EawStore.calls c.next_pairs.new.pages.store) (g.S.EawStore.calls c.args.pages.now.store) c.args.tid (V c.next_pairs.new.pages.store) (V c.args.pages.now.store) (λ command. c.in-Ok.ensures.follows.reads.steady refl command ∙ c.loop-from.invariant.steady command) (c.in-Ok.ensures.looks.shape ∙ c.loop-from.invariant.looks.shape) (c.in-Ok.ensures.looks.ranges ∙ (c.loop-from.invariant.looks.same refl).ranges)) c.in-Ok-None.ensures.costs))
+
+pub returns-in-Err-push_rows-clause-walks : goal.returns-in-Err-push_rows-clause-walks
+returns-in-Err-push_rows-clause-walks g c =
+    let V = g.S.EawStore.view in
+    walk_ends g.K.KeyIndex.index c.args.root (g.S.EawStore.calls c.args.pages.now.store) (row_cost (g.S.EawStore.calls c.args.pages.now.store) c.args.tid (V c.args.pages.now.store)) (V c.args.pages.now.store).shape _ (length c.loop-from.hearings.said + 1) (V c.args.pages.now.store).moment (V c.push_rows.new.pages.store).moment c.push_rows.new.hearings.said (omega (arith, c.loop-from.invariant.left)) (omega (arith, c.in-Err-push_rows.ensures.few, c.loop-from.invariant.left))
+    (walk_hears g.K.KeyIndex.index c.args.root (g.S.EawStore.calls c.args.pages.now.store) (row_cost (g.S.EawStore.calls c.args.pages.now.store) c.args.tid (V c.args.pages.now.store)) (V c.args.pages.now.store).shape _ (length c.loop-from.hearings.said + 1) (V c.args.pages.now.store).moment (V c.next_pairs.new.pages.store).moment (V c.push_rows.new.pages.store).moment c.loop-from.hearings.said c.push_rows.new.hearings.said
+    (walk_looks g.K.KeyIndex.index c.args.root (g.S.EawStore.calls c.args.pages.now.store) (row_cost (g.S.EawStore.calls c.args.pages.now.store) c.args.tid (V c.args.pages.now.store)) (V c.args.pages.now.store).shape g.S.EawStore.tells (g.S.EawStore.calls c.loop-from.pages.store) (g.S.EawStore.calls c.next_pairs.new.pages.store) (length c.loop-from.hearings.said) (V c.args.pages.now.store).moment c.loop-from.from c.loop-from.hearings.said _ (V c.loop-from.pages.store) (V c.next_pairs.new.pages.store) _ c.loop-from.invariant.walking c.loop-from.invariant.steady c.loop-from.invariant.looks.shape c.in-Ok.ensures.follows)
+    (paid_same _ (row_cost (g.S.EawStore.calls c.next_pairs.new.pages.store) c.args.tid (V c.next_pairs.new.pages.store)) (row_cost (g.S.EawStore.calls c.args.pages.now.store) c.args.tid (V c.args.pages.now.store)) _ _ c.loop-from.hearings.said c.push_rows.new.hearings.said (row_same (g.S.EawStore.calls c.next_pairs.new.pages.store) (g.S.EawStore.calls c.args.pages.now.store) c.args.tid (V c.next_pairs.new.pages.store) (V c.args.pages.now.store) (λ command. c.in-Ok.ensures.follows.reads.steady refl command ∙ c.loop-from.invariant.steady command) (c.in-Ok.ensures.looks.shape ∙ c.loop-from.invariant.looks.shape) (c.in-Ok.ensures.looks.ranges ∙ (c.loop-from.invariant.looks.same refl).ranges)) c.in-Err-push_rows.ensures.costs))
+
+pub returns-then-met-left-clause-walks : goal.returns-then-met-left-clause-walks
+returns-then-met-left-clause-walks g c =
+    let V = g.S.EawStore.view in
+    walk_ends g.K.KeyIndex.index c.args.root (g.S.EawStore.calls c.args.pages.now.store) (row_cost (g.S.EawStore.calls c.args.pages.now.store) c.args.tid (V c.args.pages.now.store)) (V c.args.pages.now.store).shape false (length c.loop-from.hearings.said + 1) (V c.args.pages.now.store).moment (V c.push_rows.new.pages.store).moment c.push_rows.new.hearings.said (omega (arith, c.loop-from.invariant.left)) (omega (arith, c.in-Ok-Some.ensures.few, c.loop-from.invariant.left))
+    (walk_hears g.K.KeyIndex.index c.args.root (g.S.EawStore.calls c.args.pages.now.store) (row_cost (g.S.EawStore.calls c.args.pages.now.store) c.args.tid (V c.args.pages.now.store)) (V c.args.pages.now.store).shape false (length c.loop-from.hearings.said + 1) (V c.args.pages.now.store).moment (V c.next_pairs.new.pages.store).moment (V c.push_rows.new.pages.store).moment c.loop-from.hearings.said c.push_rows.new.hearings.said
+    (walk_looks g.K.KeyIndex.index c.args.root (g.S.EawStore.calls c.args.pages.now.store) (row_cost (g.S.EawStore.calls c.args.pages.now.store) c.args.tid (V c.args.pages.now.store)) (V c.args.pages.now.store).shape g.S.EawStore.tells (g.S.EawStore.calls c.loop-from.pages.store) (g.S.EawStore.calls c.next_pairs.new.pages.store) (length c.loop-from.hearings.said) (V c.args.pages.now.store).moment c.loop-from.from c.loop-from.hearings.said _ (V c.loop-from.pages.store) (V c.next_pairs.new.pages.store) _ c.loop-from.invariant.walking c.loop-from.invariant.steady c.loop-from.invariant.looks.shape c.in-Ok.ensures.follows)
+    (paid_same _ (row_cost (g.S.EawStore.calls c.next_pairs.new.pages.store) c.args.tid (V c.next_pairs.new.pages.store)) (row_cost (g.S.EawStore.calls c.args.pages.now.store) c.args.tid (V c.args.pages.now.store)) _ _ c.loop-from.hearings.said c.push_rows.new.hearings.said (row_same (g.S.EawStore.calls c.next_pairs.new.pages.store) (g.S.EawStore.calls c.args.pages.now.store) c.args.tid (V c.next_pairs.new.pages.store) (V c.args.pages.now.store) (λ command. c.in-Ok.ensures.follows.reads.steady refl command ∙ c.loop-from.invariant.steady command) (c.in-Ok.ensures.looks.shape ∙ c.loop-from.invariant.looks.shape) (c.in-Ok.ensures.looks.ranges ∙ (c.loop-from.invariant.looks.same refl).ranges)) c.in-Ok-Some.ensures.costs))
