@@ -18,7 +18,8 @@ use Rattle.index_pages.specs.Page.{pairs_said, kind_said, level_said, link_said,
 use Rattle.index_pages.specs.Ways.{above, Keeps}
 use Rattle.index_pages.proofs.Added.{IsAdded, added_is}
 use Rattle.index_pages.proofs.Carrying.{carries_on, carries_absent}
-use Rattle.index_pages.proofs.Fronts.{IsWritable, super_written, super_kept, version_kept}
+use Rattle.record_slots.proofs.ReadingBack.{IsWritable}
+use Rattle.index_pages.proofs.Fronts.{super_written, super_kept, version_kept}
 use Rattle.index_pages.proofs.Given.{above_zero}
 use Rattle.index_pages.proofs.PageFacts.{length-page_pairs}
 use Rattle.index_pages.proofs.Rising.{length-inserted}
@@ -106,7 +107,7 @@ module _ (shape : Shape) (old : List ℕ) (half : ℕ) (long : length old ≡ da
 
   is : IsAdded old added half after slot leaf 0 pairs root.table key
   unfolding added
-  is = added_is old half size after writable.0.entries slot leaf 0 pairs root.table key table_few fits eight own_leaf.0 (omega (arith, own_leaf, given_most)) (omega arith) room
+  is = added_is old half size after writable.0.whole.entries slot leaf 0 pairs root.table key table_few fits eight own_leaf.0 (omega (arith, own_leaf, given_most)) (omega arith) room
 
   says_now : SaysSuper (page_bytes added 0) after
   says_now = super_written old added front after is.mark is.part says writable.1 writable.2 writable.0

@@ -20,7 +20,8 @@ use Rattle.index_pages.specs.Keys.{key_at, key_end}
 use Rattle.index_pages.specs.Page.{page_pairs, pairs_said, kind_said, level_said, link_said, kind_of, level_of}
 use Rattle.index_pages.specs.Ways.{above, Keeps}
 use Rattle.index_pages.specs.Written.{AreSmall, kind_for, written_page}
-use Rattle.index_pages.proofs.Fronts.{length-part_bytes, super_written, super_kept, version_kept}
+use Rattle.record_slots.proofs.ReadingBack.{length-part_bytes}
+use Rattle.index_pages.proofs.Fronts.{super_written, super_kept, version_kept}
 use Rattle.index_pages.proofs.Carrying.{carries_on}
 use Rattle.index_pages.proofs.PageFacts.{length-page_pairs}
 use Rattle.index_pages.proofs.Puts.{AllApart, Stand, applied_long, applied_away, applied_stand}

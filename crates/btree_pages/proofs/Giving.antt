@@ -8,7 +8,8 @@ use Rattle.record_slots.specs.declared.free.Free.{Free}
 use Rattle.record_slots.specs.declared.super_page.Super.{Super}
 use Rattle.page_store.specs.Removes.{FreesSlot, FreesPage, KeepsFreePages}
 use Rattle.index_pages.specs.Giving.{GivesSlot, GivesPage}
-use Rattle.index_pages.proofs.Fronts.{IsWritable, super_written, super_kept, version_kept}
+use Rattle.record_slots.proofs.ReadingBack.{IsWritable}
+use Rattle.index_pages.proofs.Fronts.{super_written, super_kept, version_kept}
 use Rattle.index_pages.proofs.Released.{carries_not_free, read_writable, slot_given_writable, page_given_writable, slot_given_said, page_given_said, slot_given_rest, page_given_rest, slot_frees, page_frees, slots_back, pages_back}
 use Rattle.index_pages.proofs.Tabled.{IsWhole}
 use Rattle.index_pages.proofs.Taken.{free_pages_stay}

@@ -22,7 +22,7 @@ use Rattle.index_pages.specs.Written.{AreSmall, written_page}
 use Rattle.index_pages.proofs.Added.{IsRemoved, removed_is}
 use Rattle.index_pages.proofs.Claims.{entries_long}
 use Rattle.index_pages.proofs.Even.{halves, halves_few}
-use Rattle.index_pages.proofs.Fronts.{length-part_bytes}
+use Rattle.record_slots.proofs.ReadingBack.{length-part_bytes}
 use Rattle.index_pages.proofs.Given.{above_zero}
 use Rattle.index_pages.proofs.PageFacts.{length-page_pairs}
 use Rattle.index_pages.proofs.Puts.{AllApart, Stand}

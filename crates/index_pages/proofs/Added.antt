@@ -17,7 +17,7 @@ use Rattle.page_store.specs.Shown.{address}
 use Rattle.index_pages.specs.Adding.{adding_parts}
 use Rattle.index_pages.specs.Giving.{removing_parts}
 use Rattle.index_pages.specs.Written.{written_page}
-use Rattle.index_pages.proofs.Fronts.{length-part_bytes}
+use Rattle.record_slots.proofs.ReadingBack.{length-part_bytes}
 use Rattle.index_pages.proofs.Puts.{AllApart, Stand, applied_long, applied_away, applied_stand}
 use Rattle.index_pages.proofs.Ranges.{Apart}
 use Rattle.index_pages.proofs.Removing.{length-removed}

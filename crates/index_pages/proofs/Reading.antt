@@ -5,23 +5,16 @@ use Rattle.std.proofs.lemmas.Bool.Decides.{nat_tests}
 use Rattle.std.proofs.lemmas.List.{get_or-drop}
 use Rattle.byteorder.specs.Endian.{little_from}
 use Rattle.byteorder.specs.Numbers.{little_from-take}
+use Rattle.record_slots.proofs.SlotLemmas.{little_shift}
 use Rattle.page_store.specs.Pairs.{Pair, next}
 use Rattle.index_pages.specs.Page.{kind_said, level_said, count_said, link_said, pair_said, pairs_from, pairs_said}
 use Rattle.index_pages.specs.Written.{IsKind, IsPage, SaysHead}
-
--- a number behind k bytes
-pub little_from-drop : (i k n : ℕ) (xs : List ℕ) → little_from i n (drop k xs) ≡ little_from (k + i) n xs
-little_from-drop i k zero xs = refl
-little_from-drop i k (suc n) xs =
-    let here = get_or-drop k xs i 0 in
-    let rest : little_from (suc i) n (drop k xs) ≡ little_from (suc (k + i)) n xs = little_from-drop (suc i) k n xs ∙ ap (λ (j : ℕ). little_from j n xs) (omega arith) in
-    cc
 
 -- a number of n bytes at the front of a piece
 pub piece : (i n m : ℕ) (xs : List ℕ) → n ≤ m → little_from 0 n (take m (drop i xs)) ≡ little_from i n xs
 piece i n m xs le =
     let e : i + 0 ≡ i = omega arith in
-    little_from-take 0 n m (drop i xs) (omega arith) ∙ little_from-drop 0 i n xs ∙ ap (λ (j : ℕ). little_from j n xs) e
+    little_from-take 0 n m (drop i xs) (omega arith) ∙ little_shift 0 i n xs ∙ ap (λ (j : ℕ). little_from j n xs) e
 
 pub count_is : (page : List ℕ) (n : ℕ) → n ≡ little_from 2 2 page → n ≡ count_said page
 unfolding count_said

@@ -13,7 +13,7 @@ use Rattle.page_store.specs.Removes.{FreesSlot, FreesPage}
 use Rattle.index_pages.specs.Giving.{MayGive, GivesSlot, GivesPage}
 use Rattle.index_pages.specs.Page.{kind_of, kind_said}
 use Rattle.index_pages.proofs.Carrying.{free_carries}
-use Rattle.index_pages.proofs.Fronts.{IsWritable}
+use Rattle.record_slots.proofs.ReadingBack.{IsWritable}
 use Rattle.index_pages.proofs.Stacks.{IsList, list_pushed, list_room}
 use Rattle.index_pages.proofs.Taken.{FreeSlots, FreePages, due_free, due_next, taken_none, taken_writable}
 
@@ -70,39 +70,43 @@ read_writable bytes front slots pages says long small some small' = taken_writab
 module _ (front after : Super) (number : ℕ) (free : Free) (is : IsWritable front) where
   pub slot_given_writable : GivesSlot front number free after → IsWritable after
   slot_given_writable gives = subst (λ (f : Super). IsWritable f) (sym gives.after_is) (record {
-    entries = is.entries;
-    next_slot = is.next_slot;
-    next_page = is.next_page;
-    free_slot = omega (arith, gives.may.given, is.next_slot);
-    free_page = is.free_page;
-    free_slots = omega (arith, gives.may.some, is.next_slot);
-    free_pages = is.free_pages;
+    whole = record {
+      entries = is.whole.entries;
+      next_slot = is.whole.next_slot;
+      next_page = is.whole.next_page;
+      free_slot = omega (arith, gives.may.given, is.whole.next_slot);
+      free_page = is.whole.free_page;
+      free_slots = omega (arith, gives.may.some, is.whole.next_slot);
+      free_pages = is.whole.free_pages;
+    };
     none = λ one. absurd (omega (arith, one, gives.may.lists));
   })
 
   pub page_given_writable : GivesPage front number free after → IsWritable after
   page_given_writable gives = subst (λ (f : Super). IsWritable f) (sym gives.after_is) (record {
-    entries = is.entries;
-    next_slot = is.next_slot;
-    next_page = is.next_page;
-    free_slot = is.free_slot;
-    free_page = omega (arith, gives.may.given, is.next_page);
-    free_slots = is.free_slots;
-    free_pages = omega (arith, gives.may.some, is.next_page);
+    whole = record {
+      entries = is.whole.entries;
+      next_slot = is.whole.next_slot;
+      next_page = is.whole.next_page;
+      free_slot = is.whole.free_slot;
+      free_page = omega (arith, gives.may.given, is.whole.next_page);
+      free_slots = is.whole.free_slots;
+      free_pages = omega (arith, gives.may.some, is.whole.next_page);
+    };
     none = λ one. absurd (omega (arith, one, gives.may.lists));
   })
 
   -- what is written there is read back
   pub slot_given_said : (bytes : List ℕ) → GivesSlot front number free after → slot_of bytes number ≡ free_slot_bytes free → free_slot_of bytes number ≡ Some free
   slot_given_said bytes gives written =
-      let next : free.next < 2 ^ 32 = subst (λ (f : Free). f.next < 2 ^ 32) (sym gives.free_is) is.free_slot in
-      let rank : free.rank < 2 ^ 32 = subst (λ (f : Free). f.rank < 2 ^ 32) (sym gives.free_is) (let low = gives.may.some in let high = is.next_slot in omega (arith, low, high)) in
+      let next : free.next < 2 ^ 32 = subst (λ (f : Free). f.next < 2 ^ 32) (sym gives.free_is) is.whole.free_slot in
+      let rank : free.rank < 2 ^ 32 = subst (λ (f : Free). f.rank < 2 ^ 32) (sym gives.free_is) (let low = gives.may.some in let high = is.whole.next_slot in omega (arith, low, high)) in
       ap free_slot_said written ∙ free_slot_back free next rank
 
   pub page_given_said : (bytes : List ℕ) → GivesPage front number free after → page_bytes bytes number ≡ free_page_bytes free → free_page_of bytes number ≡ Some free
   page_given_said bytes gives written =
-      let next : free.next < 2 ^ 32 = subst (λ (f : Free). f.next < 2 ^ 32) (sym gives.free_is) is.free_page in
-      let rank : free.rank < 2 ^ 32 = subst (λ (f : Free). f.rank < 2 ^ 32) (sym gives.free_is) (let low = gives.may.some in let high = is.next_page in omega (arith, low, high)) in
+      let next : free.next < 2 ^ 32 = subst (λ (f : Free). f.next < 2 ^ 32) (sym gives.free_is) is.whole.free_page in
+      let rank : free.rank < 2 ^ 32 = subst (λ (f : Free). f.rank < 2 ^ 32) (sym gives.free_is) (let low = gives.may.some in let high = is.whole.next_page in omega (arith, low, high)) in
       ap free_page_said written ∙ free_page_back free next rank
 
 -- the super page is as before but for the list

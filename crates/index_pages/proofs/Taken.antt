@@ -14,7 +14,7 @@ use Rattle.index_pages.proofs.Carrying.{free_carries}
 use Rattle.index_pages.specs.Adding.{with_slot_taken, with_page_taken, page_for, first_page, slot_for, first_slot}
 use Rattle.index_pages.specs.Slots.{HasRank}
 use Rattle.index_pages.proofs.Stacks.{IsList, list_after, list_kept, members_kept, members_differ, member_is, member_after, member_last, rank_some, list_few}
-use Rattle.index_pages.proofs.Fronts.{IsWritable}
+use Rattle.record_slots.proofs.ReadingBack.{IsWritable}
 
 -- the free pages of data
 abbrev pub FreePages : List ℕ → Type 0
@@ -488,13 +488,15 @@ taken_writable bytes n front slots pages took long small some small' =
     let first = list_first (free_slot_of bytes) 0 (next_slot bytes) (free_slots bytes) (free_slot bytes) slots in
     let first' = list_first (free_page_of bytes) 2 front.next_page front.free_pages front.free_page (list_left bytes n front pages took) in
     record {
-      entries = long;
-      next_slot = omega (arith, took.slot_next, small);
-      next_page = omega (arith, took.page_next, small');
-      free_slot = omega (arith, took.slot_first, first, small);
-      free_page = omega (arith, first', took.page_next, small');
-      free_slots = omega (arith, took.slots_free, few, small);
-      free_pages = omega (arith, took.pages_free, few', small');
+      whole = record {
+        entries = long;
+        next_slot = omega (arith, took.slot_next, small);
+        next_page = omega (arith, took.page_next, small');
+        free_slot = omega (arith, took.slot_first, first, small);
+        free_page = omega (arith, first', took.page_next, small');
+        free_slots = omega (arith, took.slots_free, few, small);
+        free_pages = omega (arith, took.pages_free, few', small');
+      };
       none = λ one.
           let none = nothing_free bytes (sym took.version_is ∙ one) in (
             took.slot_first ∙ none.0,
@@ -515,13 +517,15 @@ slot_writable bytes front after slots pages says is long small some small' = eli
       let after_is : after ≡ with_slot_taken None front = is ∙ ap (λ (o : Option Free). with_slot_taken o front) taken in
       subst (λ (f : Super). IsWritable f × (f.version ≡ front.version) × (f.form ≡ front.form) × (f.entries ≡ front.entries) × (f.next_page ≡ front.next_page)) (sym after_is) (
         record {
-          entries = long;
-          next_slot = omega (arith, says.next_slot, small);
-          next_page = was.next_page;
-          free_slot = was.free_slot;
-          free_page = was.free_page;
-          free_slots = was.free_slots;
-          free_pages = was.free_pages;
+          whole = record {
+            entries = long;
+            next_slot = omega (arith, says.next_slot, small);
+            next_page = was.whole.next_page;
+            free_slot = was.whole.free_slot;
+            free_page = was.whole.free_page;
+            free_slots = was.whole.free_slots;
+            free_pages = was.whole.free_pages;
+          };
           none = was.none;
         },
         refl,
@@ -552,13 +556,15 @@ slot_writable bytes front after slots pages says is long small some small' = eli
         × ((with_slot_taken o front).next_page ≡ front.next_page)
     popped None e more = (
       record {
-        entries = long;
-        next_slot = omega (arith, says.next_slot, small);
-        next_page = was.next_page;
-        free_slot = was.free_slot;
-        free_page = was.free_page;
-        free_slots = was.free_slots;
-        free_pages = was.free_pages;
+        whole = record {
+          entries = long;
+          next_slot = omega (arith, says.next_slot, small);
+          next_page = was.whole.next_page;
+          free_slot = was.whole.free_slot;
+          free_page = was.whole.free_page;
+          free_slots = was.whole.free_slots;
+          free_pages = was.whole.free_pages;
+        };
         none = was.none;
       },
       refl,
@@ -569,13 +575,15 @@ slot_writable bytes front after slots pages says is long small some small' = eli
     popped (Some f) e more =
         let small_next : f.next < 2 ^ 31 = (let at : next_of (free_slot_of bytes (front.free_slot - 1)) ≡ f.next = ap next_of e in omega (arith, at, next_small more)) in (
           record {
-            entries = long;
-            next_slot = was.next_slot;
-            next_page = was.next_page;
-            free_slot = omega (arith, small_next);
-            free_page = was.free_page;
-            free_slots = omega (arith, was.free_slots);
-            free_pages = was.free_pages;
+            whole = record {
+              entries = long;
+              next_slot = was.whole.next_slot;
+              next_page = was.whole.next_page;
+              free_slot = omega (arith, small_next);
+              free_page = was.whole.free_page;
+              free_slots = omega (arith, was.whole.free_slots);
+              free_pages = was.whole.free_pages;
+            };
             none = λ one. absurd (more (let none = was.none one in omega (arith, none.2, says.free_slots)));
           },
           refl,

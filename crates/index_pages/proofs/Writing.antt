@@ -9,7 +9,7 @@ use Rattle.page_store.specs.Pairs.{Pair, inserted}
 use Rattle.std.proofs.lemmas.Bool.Decides.{leb_tells}
 use Rattle.index_pages.specs.Page.{kind_said, level_said, count_said, link_said, pair_said, pairs_from, pairs_said}
 use Rattle.index_pages.specs.Written.{pair_bytes, pairs_bytes, kind_for, front_bytes, written_page, AreSmall}
-use Rattle.index_pages.proofs.Reading.{little_from-drop}
+use Rattle.record_slots.proofs.SlotLemmas.{little_shift}
 
 pub kind_leaf : (level : ℕ) → level ≡ 0 → 1 ≡ kind_for level
 kind_leaf zero none = refl
@@ -70,10 +70,10 @@ pair_back page rest i p small small' is =
     ap (λ (n : ℕ). drop n page) (let e : 16 + 16 * i ≡ 8 + 16 * i + 8 = omega arith in e) ∙ sym (drop-drop 8 (8 + 16 * i) page) ∙ ap (drop 8) here
     ∙ drop_at (little_bytes 8 p.0) (little_bytes 8 p.1 ++ rest) 8 (length-bytes_low_first 0 8 p.0) in
     let first : little_from (8 + 16 * i) 8 page ≡ p.0 =
-    ap (λ (n : ℕ). little_from n 8 page) (let e : 8 + 16 * i ≡ 8 + 16 * i + 0 = omega arith in e) ∙ sym (little_from-drop 0 (8 + 16 * i) 8 page) ∙ ap (little_from 0 8) here
+    ap (λ (n : ℕ). little_from n 8 page) (let e : 8 + 16 * i ≡ 8 + 16 * i + 0 = omega arith in e) ∙ sym (little_shift 0 (8 + 16 * i) 8 page) ∙ ap (little_from 0 8) here
     ∙ little_number-reads_back 8 p.0 (little_bytes 8 p.1 ++ rest) small in
     let second : little_from (16 + 16 * i) 8 page ≡ p.1 =
-    ap (λ (n : ℕ). little_from n 8 page) (let e : 16 + 16 * i ≡ 16 + 16 * i + 0 = omega arith in e) ∙ sym (little_from-drop 0 (16 + 16 * i) 8 page) ∙ ap (little_from 0 8) there
+    ap (λ (n : ℕ). little_from n 8 page) (let e : 16 + 16 * i ≡ 16 + 16 * i + 0 = omega arith in e) ∙ sym (little_shift 0 (16 + 16 * i) 8 page) ∙ ap (little_from 0 8) there
     ∙ little_number-reads_back 8 p.1 rest small' in
     λ j. (first j, second j)
 
@@ -109,14 +109,14 @@ module _ (level link : ℕ) (ps : List Pair) (few : length ps ≤ 30) (fits : li
   pub written_count : count_said (written_page level link ps) ≡ length ps
   unfolding count_said written_page front_bytes tail
   written_count =
-      sym (little_from-drop 0 2 2 (front_bytes level (length ps) link ++ tail))
+      sym (little_shift 0 2 2 (front_bytes level (length ps) link ++ tail))
       ∙ ap (little_from 0 2) (append_assoc (little_bytes 2 (length ps)) (little_bytes 4 link) (tail))
       ∙ little_number-reads_back 2 (length ps) (little_bytes 4 link ++ tail) (omega arith)
 
   pub written_link : link_said (written_page level link ps) ≡ link
   unfolding link_said written_page front_bytes tail
   written_link =
-      sym (little_from-drop 0 4 4 (front_bytes level (length ps) link ++ tail))
+      sym (little_shift 0 4 4 (front_bytes level (length ps) link ++ tail))
       ∙ ap (λ (l : List ℕ). little_from 0 4 (drop 2 l)) (append_assoc (little_bytes 2 (length ps)) (little_bytes 4 link) (tail))
       ∙ ap (little_from 0 4) (drop_at (little_bytes 2 (length ps)) (little_bytes 4 link ++ tail) 2 (length-bytes_low_first 0 2 (length ps)))
       ∙ little_number-reads_back 4 link tail fits

@@ -30,7 +30,8 @@ use Rattle.index_pages.specs.Written.{written_page}
 use Rattle.index_pages.proofs.Added.{IsAdded, IsRemoved, added_is, removed_is}
 use Rattle.index_pages.proofs.Carrying.{carries_on, carries_absent}
 use Rattle.index_pages.proofs.Claims.{entries_long}
-use Rattle.index_pages.proofs.Fronts.{IsWritable, length-part_bytes, super_written, super_kept, version_kept}
+use Rattle.record_slots.proofs.ReadingBack.{IsWritable, length-part_bytes}
+use Rattle.index_pages.proofs.Fronts.{super_written, super_kept, version_kept}
 use Rattle.index_pages.proofs.Freeing.{found_given, given_elsewhere}
 use Rattle.index_pages.proofs.PageFacts.{length-page_pairs}
 use Rattle.index_pages.proofs.Puts.{AllApart, Stand, applied_long, applied_away, applied_stand}
@@ -126,7 +127,7 @@ module _ (shape : Shape) (old : List ℕ) (half : ℕ) (long : length old ≡ da
 
     is : IsAdded old added half after slot page link pairs table key
     unfolding added
-    is = added_is old half size after writable.0.entries slot page link pairs table key table_few fits eight own_page.0 (omega (arith, own_page, given_most)) link_fits room
+    is = added_is old half size after writable.0.whole.entries slot page link pairs table key table_few fits eight own_page.0 (omega (arith, own_page, given_most)) link_fits room
 
     says_now : SaysSuper (page_bytes added 0) after
     says_now = super_written old added front after is.mark is.part says.front_says writable.1 writable.2 writable.0
@@ -560,7 +561,7 @@ module _ (shape : Shape) (old : List ℕ) (half : ℕ) (long : length old ≡ da
 
     lost_is : IsRemoved old lost half after slot free page link pairs key
     unfolding lost
-    lost_is = removed_is old half size after now_writable.entries slot free page link pairs key eight_slot own_page.0 (omega (arith, own_page.1, given_most)) link_fits loc.most
+    lost_is = removed_is old half size after now_writable.whole.entries slot free page link pairs key eight_slot own_page.0 (omega (arith, own_page.1, given_most)) link_fits loc.most
 
     says_lost : SaysSuper (page_bytes lost 0) after
     says_lost = super_written old lost front after lost_is.mark lost_is.part says.front_says rest.0 rest.1 now_writable

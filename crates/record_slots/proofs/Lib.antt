@@ -6,4 +6,4 @@ pub mod Used
 pub mod MainAlone
 pub mod Naming
 pub mod Numbering
-mod ReadingBack
+pub mod ReadingBack

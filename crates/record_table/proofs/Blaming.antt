@@ -1,5 +1,5 @@
 -- Which page the calls below name as damaged.
-use Rattle.std.proofs.Common.{◌≡◌, ℕ, ◌<◌, Bool, List, Result, Ok, Err}
+use Rattle.std.proofs.Common.{◌≡◌, ℕ, ◌<◌, Bool, inl, inr, List, Result, Ok, Err, refl}
 use Rattle.std.specs.Prelude.{Option, IfSome}
 use Rattle.array_shape.specs.Places.{page_count}
 use Rattle.array_shape.specs.declared.shape.Shape.{Shape}
@@ -16,8 +16,14 @@ use Rattle.page_store.specs.declared.fault.PageFault.{PageFault}
 use Rattle.page_store.specs.declared.fault.PageFault.TheVariants.{LogFull, SavesFull, Media, Dead, Damaged}
 use Rattle.page_store.specs.declared.index_fault.IndexFault.{IndexFault}
 use Rattle.page_store.specs.declared.index_fault.IndexFault.TheVariants as insert
+use Rattle.page_store.specs.Index.{Index}
+use Rattle.page_store.specs.Tested.{Tests}
+use Rattle.page_store.specs.declared.index_fault.CheckFault.{CheckFault}
+use Rattle.page_store.specs.declared.index_fault.CheckFault.TheVariants as check
+use Rattle.record_table.specs.AllTables.{as_unread}
+use Rattle.record_table.specs.Attached.{BlamesTested}
 use Rattle.record_table.specs.Blames.{BlamesOne, BlamesFront, BlamesFrontHere, BlamesFrontMade}
-use Rattle.record_table.specs.Faults.{as_table, inserted_as, told_as}
+use Rattle.record_table.specs.Faults.{as_attach, as_table, inserted_as, told_as}
 use Rattle.record_table.specs.Making.{as_make}
 use Rattle.record_table.specs.declared.fault.TableFault.{TableFault}
 use Rattle.record_table.proofs.Hearing.{last_there}
@@ -84,3 +90,29 @@ front_made T Dead blames = tt
 front_made T SavesFull blames = tt
 front_made T (LogFull g h n) blames = tt
 front_made T (Damaged bad) blames = blames
+
+-- the test of the index at an attaching, and the read of the super page behind it
+module _ (tells : Bool) (calls calls_now : Command → ℕ) (index : Index) (old new : StoreView) where
+  pub tested_blames : (fault : CheckFault) → (let r : Result (Unit {0}) CheckFault = Err fault in Tests tells calls calls_now (index.testing old.shape) old new r) → BlamesTested tells calls index old (as_unread fault)
+  tested_blames (check.Damaged page) tests = inr (
+    calls_now,
+    new.moment,
+    Err (check.Damaged page),
+    refl,
+    record {
+      read = tests.read;
+      reads = record { there = tests.reads.there; said = tests.reads.said; most = tests.reads.most; exact = tests.reads.exact; steady = tests.reads.steady };
+      brings = tests.brings;
+      blames = tests.blames;
+    },
+  )
+  tested_blames check.Media tests = tt
+  tested_blames check.Dead tests = tt
+  tested_blames check.NoMemory tests = tt
+
+pub front_tested : (T : Type 0) (tells : Bool) (calls : Command → ℕ) (index : Index) (old : StoreView) (fault : PageFault) → (let r : Result T PageFault = Err fault in BlamesFront r) → BlamesTested tells calls index old (as_attach fault)
+front_tested T tells calls index old Media blames = tt
+front_tested T tells calls index old Dead blames = tt
+front_tested T tells calls index old SavesFull blames = tt
+front_tested T tells calls index old (LogFull g h n) blames = tt
+front_tested T tells calls index old (Damaged page) blames = inl blames

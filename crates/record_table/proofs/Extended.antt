@@ -9,18 +9,17 @@ use Rattle.array_shape.specs.Logged.{applied}
 use Rattle.record_slots.specs.Fresh.{fresh_page, fresh_root}
 use Rattle.record_slots.specs.IndexHead.{index_head_said}
 use Rattle.record_slots.specs.Names.{with_last, with_entries}
-use Rattle.record_slots.specs.Super.{SaysSuper, HasTables, super_bytes, tables_in, tables_used, tables_said}
+use Rattle.record_slots.specs.Super.{IsWhole, SaysSuper, HasTables, super_bytes, tables_in, tables_used, tables_said}
 use Rattle.record_slots.specs.Places.{page_bytes, slot_of, next_slot, next_page, tables_of, root_of, version_of, first_slot_page, free_slot, free_page, free_slots, free_pages}
 use Rattle.record_slots.specs.declared.super_page.Super.{Super}
 use Rattle.record_slots.specs.declared.super_page.TableEntry.{TableEntry}
+use Rattle.record_slots.proofs.ReadingBack.{length-super_bytes, page_says}
 use Rattle.page_store.specs.Index.{Index, IsTable, IsEmptyRoot, HasCounts, Extends}
 use Rattle.page_store.proofs.Reading.{part_missed}
-use Rattle.index_pages.proofs.Fronts.{IsWritable}
 use Rattle.record_table.specs.Making.{IsFit, with_page}
 use Rattle.record_table.specs.Shown.{found_key, in_table, pairs_from, level_under, table_in, table_of, pairs_of, keys_of}
 use Rattle.record_table.specs.State.{Keys}
 use Rattle.record_table.proofs.Sharing.{Laws}
-use Rattle.record_table.proofs.SuperPages.{length-super_bytes, says_written}
 use Rattle.record_table.proofs.Upgraded.{same_slots}
 
 -- the root of a table among others, and of one that is added
@@ -66,7 +65,7 @@ pub record Extended (index : Index) (name : List ℕ) (d e : List ℕ) : Type 0 
   pub keys : keys_of index e ≡ with_page (keys_of index d)
 
 module _ (index : Index) (laws : Laws index) (d : List ℕ) (front after : Super) (name : List ℕ) (sound : index.sound d) (says : SaysSuper (page_bytes d 0) front) (fit : IsFit front) (below : front.next_page < first_slot_page d)
-    (said : after ≡ with_entries front after.entries) (tables : tables_used after.entries ≡ with_last (tables_used front.entries) name front.next_page) (has : HasTables 2 after.next_page after.entries) (writable : IsWritable after) where
+    (said : after ≡ with_entries front after.entries) (tables : tables_used after.entries ≡ with_last (tables_used front.entries) name front.next_page) (has : HasTables 2 after.next_page after.entries) (whole : IsWhole after) where
   leaf : List ℕ
   leaf = fresh_page 1
 
@@ -84,7 +83,7 @@ module _ (index : Index) (laws : Laws index) (d : List ℕ) (front after : Super
   counts = laws.counts d sound
 
   long-bytes : length bytes ≡ 512
-  long-bytes = length-super_bytes after writable.entries
+  long-bytes = length-super_bytes after whole.entries
 
   leaf_fits : 512 * front.next_page + 0 + length (fresh_page 1) ≤ length d
   leaf_fits = let long : length (fresh_page 1) ≡ 512 = refl in omega (arith, long, below)
@@ -129,7 +128,7 @@ module _ (index : Index) (laws : Laws index) (d : List ℕ) (front after : Super
   two = ap (λ (f : Super). f.version) said ∙ fit.version
 
   now : SaysSuper (page_bytes e 0) after
-  now = subst (λ (b : List ℕ). SaysSuper b after) (sym front_is) (says_written after two writable)
+  now = subst (λ (b : List ℕ). SaysSuper b after) (sym front_is) (page_says after whole two)
 
   tables_now : tables_of e ≡ tables_used after.entries
   unfolding tables_said

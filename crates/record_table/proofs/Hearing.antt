@@ -66,6 +66,17 @@ module _ (shape : Shape) (pair : ℕ × ℕ) (before : List Hearing) where
   next_silent after said fault bad is silent heard at =
       subst (λ (f : PageFault). HearsNext shape pair before after (Err f)) (sym is) (heard ∙ ap (λ (o : Option Slot). (pair.0, pair.1, o) ∷ before) silent, at)
 
+  -- one more is heard, or none
+  pub next_met : (after : List Hearing) (next : Next) → HearsNext shape pair before after (Ok next) → length after ≡ length before + 1
+  next_met after next hears = let n = ap (λ (hs : List Hearing). length hs) hears.1 in omega (arith, n)
+
+  pub refused_met : (after : List Hearing) (fault : PageFault) → HearsNext shape pair before after (Err fault) → length after ≤ length before + 1
+  refused_met after Media hears = let n = ap (λ (hs : List Hearing). length hs) hears in omega (arith, n)
+  refused_met after Dead hears = let n = ap (λ (hs : List Hearing). length hs) hears in omega (arith, n)
+  refused_met after (LogFull g h m) hears = let n = ap (λ (hs : List Hearing). length hs) hears in omega (arith, n)
+  refused_met after SavesFull hears = let n = ap (λ (hs : List Hearing). length hs) hears in omega (arith, n)
+  refused_met after (Damaged bad) hears = let n = ap (λ (hs : List Hearing). length hs) hears.0 in omega (arith, n)
+
   -- all spoke before, and so does this one
   pub next_spoke : (after : List Hearing) (next : Next) → HearsNext shape pair before after (Ok next) → AllSpoke before → AllSpoke after
   next_spoke after next hears spoke = subst AllSpoke (sym hears.1) (refl, spoke)
@@ -122,6 +133,9 @@ module _ (shape : Shape) (before : List Hearing) where
         subst (λ (n : ℕ). n < page_count shape) (sym at_shape) (slot_page_there shape slot lt),
         inl ((key, slot), heard ∙ ap (λ (o : Option Slot). (key, slot, o) ∷ before) silent, at_shape),
       )
+
+  pub one_met : (after : List Hearing) (next : Next) → HearsOne shape before after (Ok (Some next)) → length after ≡ length before + 1
+  one_met after next hears = let n = ap (λ (hs : List Hearing). length hs) hears.2 in omega (arith, n)
 
   -- the slot holds a record
   pub one_held : (after : List Hearing) (next : Next) → HearsOne shape before after (Ok (Some next)) → IsSome next.value → AllHeld before → AllHeld after

@@ -27,10 +27,11 @@ pub mod Versions
 pub mod Following
 pub mod Lost
 pub mod Removed
-pub mod SuperPages
 pub mod Extended
 pub mod Made
 pub mod KeptNames
 pub mod Hearing
 mod Erasing
 pub mod Blaming
+pub mod Counting
+pub mod Walking

@@ -15,12 +15,11 @@ use Rattle.history.specs.declared.call.Call.TheVariants.{Abort}
 use Rattle.history.specs.declared.call.Reply.TheVariants.{Fine}
 use Rattle.record_slots.specs.Fresh.{fresh_page}
 use Rattle.record_slots.specs.Names.{names_in, with_last, with_entries}
-use Rattle.record_slots.specs.Super.{SaysSuper, HasTables, super_bytes, tables_in, tables_used, tables_said}
+use Rattle.record_slots.specs.Super.{IsWhole, SaysSuper, HasTables, super_bytes, tables_in, tables_used, tables_said}
 use Rattle.record_slots.specs.Places.{page_bytes, next_page, version_of, tables_of, first_slot_page}
 use Rattle.record_slots.specs.declared.super_page.Super.{Super}
 use Rattle.record_slots.specs.declared.super_page.TableEntry.{TableEntry}
 use Rattle.index_pages.specs.Acts.{Acts}
-use Rattle.index_pages.proofs.Fronts.{IsWritable}
 use Rattle.page_store.specs.Command as page
 use Rattle.page_store.specs.Does as page_does
 use Rattle.page_store.specs.Fits.{is_page_on}
@@ -319,13 +318,13 @@ module _ (tells : Bool) (Opens : List ℕ → List ℕ → Type 0) (index : Inde
 
     -- it has room, and root and super page are written
     module _ (number : ℕ) (placed : PlaceCause name half front (Ok number)) (after : Super) (said : after ≡ with_entries front after.entries) (tables : tables_used after.entries ≡ with_last (tables_used front.entries) name front.next_page)
-        (has : HasTables 2 after.next_page after.entries) (writable : IsWritable after) (far : PagesView) where
+        (has : HasTables 2 after.next_page after.entries) (whole : IsWhole after) (far : PagesView) where
       abbrev parts : List Part
       parts = (512 * front.next_page + 0, fresh_page 1) ∷ (512 * 0 + 0, super_bytes after) ∷ []
 
       facts : IsTrue tells → Extended index name now.store.state.bytes (applied parts now.store.state.bytes)
       facts told =
-          extended index laws now.store.state.bytes front after name ((ready.holds now_alive).tied told).sound (says told) placed.0 (omega (arith, placed.4, half_there told)) said tables has writable
+          extended index laws now.store.state.bytes front after name ((ready.holds now_alive).tied told).sound (says told) placed.0 (omega (arith, placed.4, half_there told)) said tables has whole
 
       names_more : IsTrue tells → names_of (applied parts now.store.state.bytes) ≡ names_of old.store.state.bytes ++ name ∷ []
       names_more told =

@@ -1,10 +1,14 @@
 -- How records begin on pages.
-use Rattle.std.specs.Prelude.{ℕ, ◌≡◌, Bool, true, false, IsTrue, List, []}
+use Rattle.std.specs.Prelude.{ℕ, ◌≡◌, ◌⊎◌, Bool, true, false, IsTrue, List, [], Result, Err}
+use Rattle.eaw_face.specs.Command.{Command}
 use Rattle.eaw_face.specs.StoreView.{StoreView}
 use Rattle.eaw_face.specs.Causes.{IsAlive}
 use Rattle.page_store.specs.Index.{Index}
 use Rattle.page_store.specs.Looks.{Looks}
 use Rattle.page_store.specs.Shown.{PagesView}
+use Rattle.page_store.specs.Tested.{Tests}
+use Rattle.page_store.specs.declared.index_fault.CheckFault.{CheckFault}
+use Rattle.page_store.specs.declared.index_fault.CheckFault.TheVariants as check
 use Rattle.record_table.specs.Shown.{table_of, state_of}
 use Rattle.record_table.specs.declared.fault.AttachRecords.{AttachRecords}
 use Rattle.record_table.specs.declared.fault.AttachRecords.TheVariants.{Damaged, Media, Dead, NoMemory}
@@ -27,3 +31,13 @@ AttachCause tells index old (Damaged page) = IsAlive old × (IsTrue tells → in
 AttachCause tells index old Media = IsAlive old
 AttachCause tells index old Dead = old.is_dead ≡ true
 AttachCause tells index old NoMemory = IsAlive old
+
+-- a test of the whole index, over any store, read this page and ended there, as the first that fails
+abbrev pub FailsAt : Bool → (Command → ℕ) → Index → StoreView → ℕ → Type 0
+FailsAt tells calls index old page = (calls_now : Command → ℕ) × (moment : ℕ) × (result : Result (Unit {0}) CheckFault) × (result ≡ Err (check.Damaged page))
+    × Tests tells calls calls_now (index.testing old.shape) old (record old { moment = moment }) result
+
+-- Which page is named as damaged: the one at which the test of the index ended, or the super page, which is read again behind it.
+abbrev pub BlamesTested : Bool → (Command → ℕ) → Index → StoreView → AttachRecords → Type 0
+BlamesTested tells calls index old (Damaged page) = (page ≡ 0) ⊎ FailsAt tells calls index old page
+BlamesTested tells calls index old fault = Unit {0}

@@ -35,7 +35,8 @@ abbrev pub IsSilent : Shape → List Hearing → ℕ → Type 0
 IsSilent shape [] page = ⊥
 IsSilent shape (h ∷ hs) page = (h.2 ≡ None) × (page ≡ slot_page shape h.1) × AllSpoke hs
 
--- A page of the array is damaged: that of the slot which was read last and said nothing, or one of the index, where each slot said something.
+-- A page of the array is damaged: that of the slot which was read last and said nothing; or, where each slot said something, one of the index, or
+-- that of the slot which was read last, where there were more keys than slots.
 abbrev pub IsDamage : Shape → List Hearing → ℕ → Type 0
 IsDamage shape hs page = (page < page_count shape) × (IsSilent shape hs page ⊎ AllSpoke hs)
 

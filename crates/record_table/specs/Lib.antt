@@ -20,3 +20,4 @@ pub mod Removing
 pub mod Making
 pub mod Works
 pub mod Placing
+pub mod Walked

@@ -48,7 +48,8 @@ pub record IsFit (front : Super) : Type 0 where
 abbrev pub names_said : Super → List (List ℕ)
 names_said front = names_in (tables_used front.entries)
 
--- where a super page has room for a table of this name, in an array with so many pages for indexes: the name is asked first, then a number, then a page
+-- where a super page has room for a table of this name, in an array with so many pages for indexes: the name is asked first, then a number, then
+-- a page
 abbrev pub PlaceCause : List ℕ → ℕ → Super → Result ℕ MakeFault → Type 0
 PlaceCause name half front (Ok j) = IsFit front × IsNew name (names_said front) × (j ≡ length (names_said front)) × (j < 8) × (front.next_page < half)
 PlaceCause name half front (Err Exists) = IsFit front × (j : ℕ) × (slice_get (names_said front) j ≡ Some name)
@@ -83,9 +84,9 @@ OnlyUpgrades old new result = Unit {0}
 
 -- The making of a table of this name. After an Ok it is the last one, and its index, in the page that was next, has no pairs; the super page
 -- is of version 2. All other tables have their indexes and records, and all numbers what they have written and saved, but for the number 0,
--- which is as after an abort. After a refusal other than Media at most the version has changed; where there is no place for the table, it is 2. Media leaves the store dead. At each moment
--- of a store that was not dead, a loss of power leaves what it might have left before, or an image that opens with the records that there
--- were, under the names that there were, or under those and the new one.
+-- which is as after an abort. After a refusal other than Media at most the version has changed; where there is no place for the table, it is 2.
+-- Media leaves the store dead. At each moment of a store that was not dead, a loss of power leaves what it might have left before, or an image
+-- that opens with the records that there were, under the names that there were, or under those and the new one.
 pub record Makes (tells : Bool) (Opens : List ℕ → List ℕ → Type 0) (index : Index) (name : List ℕ) (old new : PagesView) (result : Result ℕ MakeFault) : Type 0 where
   pub shape : new.store.shape ≡ old.store.shape
   pub cause : MakeCause tells name old.store result

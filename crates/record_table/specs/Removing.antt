@@ -95,8 +95,8 @@ Lost index table key old new (Err Media) = Unit {0}
 Lost index table key old new result = new ≡ old
 
 -- Taking a key of a table out of its index, as number t. The records of all tables, and what every number has written and saved, are as they
--- were, and so are version and tables; the data stays sound. Media leaves the store dead. At each moment of a store that was not dead, a loss of power leaves what
--- it might have left before, or an image that opens with the records.
+-- were, and so are version and tables; the data stays sound. Media leaves the store dead. At each moment of a store that was not dead, a loss of
+-- power leaves what it might have left before, or an image that opens with the records.
 pub record Removes (tells : Bool) (Opens : List ℕ → List ℕ → Type 0) (index : Index) (table t key : ℕ) (old new : PagesView) (result : Result Bool TableFault) : Type 0 where
   pub shape : new.store.shape ≡ old.store.shape
   pub cause : RemoveCause tells index table t key old result

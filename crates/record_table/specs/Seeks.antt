@@ -27,6 +27,10 @@ abbrev pub slot_cost : (Command → ℕ) → ℕ → StoreView → Option ℕ �
 slot_cost calls t store None = 0
 slot_cost calls t store (Some slot) = seen_cost calls t (64 * (slots_of store.shape + slot)) 64 (listed (store.ranges t))
 
+-- so of one slot
+abbrev pub row_cost : (Command → ℕ) → ℕ → StoreView → ℕ → ℕ
+row_cost calls t store slot = slot_cost calls t store (Some slot)
+
 -- the page that was read last: that of the slot, or else the last one of the index
 abbrev pub IsRead : Shape → List Reading → Option ℕ → ℕ → Type 0
 IsRead shape read None page = IsLast read page
@@ -37,8 +41,8 @@ abbrev pub Blames : {T : Type 0} → Shape → List Reading → Option ℕ → R
 Blames shape read slot (Err (Damaged page)) = IsRead shape read slot page
 Blames shape read slot _ = Unit {0}
 
--- What the slot of a key said that was read for a look, behind others, if the index led to one: the answer is the slot with the value that it said, and
--- its page is damaged exactly where it said nothing.
+-- What the slot of a key said that was read for a look, behind others, if the index led to one: the answer is the slot with the value that it
+-- said, and its page is damaged exactly where it said nothing.
 abbrev pub IsHeard : ℕ → Option ℕ → (before after : List Hearing) → Result (Option Place) PageFault → Type 0
 IsHeard key None before after result = (after ≡ before) × IfOk result (λ place. place ≡ None)
 IsHeard key (Some slot) before after (Ok place) = (said : Slot) × (after ≡ (key, slot, Some said) ∷ before) × (place ≡ Some (record { slot = slot; value = value_of (Some said) }))

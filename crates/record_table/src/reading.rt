@@ -1,9 +1,10 @@
 // The records of all tables, read at once.
-ghost use Rattle.std.specs.Prelude.{◌≡◌, ◌≤◌, IfOk, IsErrOf, IsTrue, length};
+ghost use Rattle.std.specs.Prelude.{◌≡◌, ◌≤◌, IfErr, IfOk, IsErrOf, IsTrue, length};
 ghost use Rattle.std.specs.FinMap.{entries};
 ghost use Rattle.std.specs.List.{zip};
 ghost use Rattle.array_shape.specs.Places.{page_count};
 ghost use Rattle.page_store.specs.Looks.{Looks};
+ghost use Rattle.record_table.specs.Attached.{BlamesTested};
 ghost use Rattle.record_table.specs.Names.{names_of, AreRootsOf, ArePages, BeginsWithMain};
 ghost use Rattle.page_store.specs.Shown.{pages_of};
 ghost use Rattle.record_table.specs.AllTables.{place, by_name, ReadCause, is_unread, as_unread};
@@ -40,6 +41,7 @@ pub fn read_whole<S: EawStore, K: KeyIndex>(
     ensures long { IfOk result (λ whole. length whole.roots.at ≡ 8) }
     ensures inside { IfOk result (λ whole. ArePages (page_count (S.view pages.old.store).shape) whole.roots.at) }
     ensures cause { ReadCause S.tells K.index (S.view pages.old.store) result }
+    ensures blames { IfErr result (BlamesTested S.tells (S.calls pages.old.store) K.index (S.view pages.old.store)) }
     ensures looks { Looks S.tells (S.opens (S.view pages.old.store).shape) (is_unread result)
         (pages_of (S.view pages.old.store) pages.old) (pages_of (S.view pages.new.store) pages.new) }
     ensures dead { IsErrOf result AttachRecords.Dead → pages.new ≡ pages.old }
@@ -76,6 +78,7 @@ pub fn read_tables<S: EawStore, K: KeyIndex>(
 ) -> Result<Vec<(Name, Rows)>, AttachRecords>
     ensures records { IsTrue S.tells → IfOk result (λ tables. records_in tables.items ≡ entries (table_of K.index (S.view pages.old.store).state.bytes)) }
     ensures cause { ReadCause S.tells K.index (S.view pages.old.store) result }
+    ensures blames { IfErr result (BlamesTested S.tells (S.calls pages.old.store) K.index (S.view pages.old.store)) }
     ensures looks { Looks S.tells (S.opens (S.view pages.old.store).shape) (is_unread result)
         (pages_of (S.view pages.old.store) pages.old) (pages_of (S.view pages.new.store) pages.new) }
     ensures dead { IsErrOf result AttachRecords.Dead → pages.new ≡ pages.old }

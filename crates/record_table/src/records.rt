@@ -12,20 +12,21 @@ ghost use Rattle.history.specs.Rows.{records_in};
 ghost use Rattle.history.specs.Table.{found};
 ghost use Rattle.history.specs.declared.call.Call.TheVariants.{Get, Put, Del, Scan, Save, Back, Commit, Abort};
 ghost use Rattle.history.specs.declared.call.Reply.TheVariants.{Fine, Absent, Listed, Saved, Committed};
-ghost use Rattle.record_table.specs.Attached.{Attached, AttachCause, is_refused_by_media};
+ghost use Rattle.record_table.specs.Attached.{Attached, AttachCause, BlamesTested, is_refused_by_media};
 ghost use Rattle.record_slots.specs.Places.{version_of};
 ghost use Rattle.record_table.specs.Removing.{IsAbsent, IsUnwritten, IsNextAbsent, SearchCause, Removes};
 ghost use Rattle.record_table.specs.Groups.{CommitsGroup, group_writes};
 ghost use Rattle.record_table.specs.Does.{Does, replied, is_failed};
 ghost use Rattle.record_table.specs.Blames.{BlamesOne, BlamesFrontHere, BlamesFrontMade};
 ghost use Rattle.record_table.specs.Hearing.{Hearing, HearsAbsent, HearsRows};
-ghost use Rattle.record_table.specs.Seeks.{Erases, Gets};
+ghost use Rattle.record_table.specs.Seeks.{Erases, Gets, row_cost};
 ghost use Rattle.record_table.specs.Shown.{state_of, table_of, pairs_of, held_on, is_write_on, AreNamed};
 ghost use Rattle.record_table.specs.Sought.{LooksAs};
 ghost use Rattle.record_table.specs.Upgrading.{Upgrades};
 ghost use Rattle.record_table.specs.Making.{Makes};
+ghost use Rattle.record_table.specs.Walked.{Walked, data_cost};
 ghost use Rattle.record_table.specs.Works.{RemovesFrom};
-ghost use Rattle.record_table.specs.Names.{IsNew, IsCalled, names_of, name_at, key_in};
+ghost use Rattle.record_table.specs.Names.{BeginsWithMain, IsNew, IsCalled, names_of, name_at, key_in};
 
 use crate::fault::{AttachRecords, TableFault};
 use crate::hearings::Hearings;
@@ -85,6 +86,7 @@ impl<S: EawStore, K: KeyIndex> Records<S, K> {
             (pages_of (S.view pages.store) pages) (pages_of (S.view attached.0.store) attached.0)) }
         ensures rows { IsTrue S.tells → IfOk result (λ attached. records_in attached.1.items ≡ entries (table_of K.index (S.view pages.store).state.bytes)) }
         ensures cause { IfErr result (λ failed. AttachCause S.tells K.index (S.view pages.store) failed.0) }
+        ensures blames { IfErr result (λ failed. BlamesTested S.tells (S.calls pages.store) K.index (S.view pages.store) failed.0) }
         ensures looks { IfErr result (λ failed. Looks S.tells (S.opens (S.view pages.store).shape) (is_refused_by_media failed.0)
             (pages_of (S.view pages.store) pages) (pages_of (S.view failed.1.store) failed.1)) }
         ensures dead { IfErr result (λ failed. failed.0 ≡ AttachRecords.Dead → failed.1 ≡ pages) }
@@ -159,7 +161,8 @@ impl<S: EawStore, K: KeyIndex> Records<S, K> {
 
     /// The names of the tables, by their numbers.
     pub fn names(&self) -> Names
-        ensures { IsTrue S.tells → IsAlive (S.view self.now.store) → result ≡ names_of (S.view self.now.store).state.bytes }
+        ensures names { IsTrue S.tells → IsAlive (S.view self.now.store) → result ≡ names_of (S.view self.now.store).state.bytes }
+        ensures main { BeginsWithMain result }
     {
         self.names.copy()
     }
@@ -307,7 +310,8 @@ impl<S: EawStore, K: KeyIndex> Records<S, K> {
         }
     }
 
-    /// The records from one key to another, both included, as the number sees them. The memory for them is taken here.
+    /// The records from one key to another, both included, as the number sees them. The memory for them is taken here. It looks for keys at
+    /// most once more than there are slots, whatever the store says (`Walked`).
     pub fn scan(
         &mut self,
         alloc: Global,
@@ -322,7 +326,9 @@ impl<S: EawStore, K: KeyIndex> Records<S, K> {
         ensures does { (name : List ℕ) → (IsTrue S.tells → IsAlive (S.view self.old.store) → IsCalled (S.view self.old.store).state.bytes table name)
             → Does S.tells (S.opens (S.view self.old.store).shape) K.index table tid (Scan name low high)
             (pages_of (S.view self.old.store) self.old) (pages_of (S.view self.new.store) self.new) (replied Listed result) }
-        ensures hears { (hearings : List Hearing) × HearsRows (S.view self.old.store).shape hearings (λ rows. rows) result }
+        ensures hears { (hearings : List Hearing) × HearsRows (S.view self.old.store).shape hearings (λ rows. rows) result × (root : ℕ)
+            × Walked K.index root (S.calls self.old.store) (row_cost (S.calls self.old.store) tid (S.view self.old.store)) (S.view self.old.store).shape
+            (is_failed result) (S.view self.old.store).moment (S.view self.new.store).moment hearings }
         ensures looks { LooksAs S.tells (S.opens (S.view self.old.store).shape) tid (is_failed result)
             (pages_of (S.view self.old.store) self.old) (pages_of (S.view self.new.store) self.new) }
         ensures dead { IsErrOf result TableFault.Dead → self.new ≡ self.old }
@@ -406,7 +412,7 @@ impl<S: EawStore, K: KeyIndex> Records<S, K> {
     }
 
     /// The least key of a table from `from` on that has no record in the data, while the index of the table still has the key. Nothing is
-    /// changed.
+    /// changed. It looks for keys at most once more than there are slots (`Walked`).
     pub fn next_absent(&mut self, table: u8, from: u64) -> Result<Option<u64>, TableFault>
         requires table { table < 8 }
         requires there { IsTrue S.tells → IsAlive (S.view self.old.store) → table < length (names_of (S.view self.old.store).state.bytes) }
@@ -415,7 +421,9 @@ impl<S: EawStore, K: KeyIndex> Records<S, K> {
         ensures cause { SearchCause S.tells (pages_of (S.view self.old.store) self.old) result }
         ensures next { IsTrue S.tells → IfOk result (IsNextAbsent K.index (S.view self.old.store).state.bytes (name_at (S.view self.old.store).state.bytes table) from) }
         ensures inside { IfOk result (λ key. IfSome key (λ key. from ≤ key)) }
-        ensures hears { (hearings : List Hearing) × HearsAbsent (S.view self.old.store).shape hearings result }
+        ensures hears { (hearings : List Hearing) × HearsAbsent (S.view self.old.store).shape hearings result × (root : ℕ)
+            × Walked K.index root (S.calls self.old.store) (data_cost (S.calls self.old.store) (S.view self.old.store).shape) (S.view self.old.store).shape
+            (is_failed result) (S.view self.old.store).moment (S.view self.new.store).moment hearings }
         ensures dead { IsErrOf result TableFault.Dead → self.new ≡ self.old }
     {
         if self.pages.is_dead() {

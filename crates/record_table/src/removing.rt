@@ -1,11 +1,14 @@
 // Keys of a table that have no record any more: the next of them, and the removal of one from the index.
-ghost use Rattle.std.specs.Prelude.{[], ◌≡◌, ◌^◌, ◌≤◌, ◌<◌, ◌⊎◌, IfOk, IfErr, IfSome, IsErrOf, IsTrue};
+ghost use Rattle.std.specs.Prelude.{[], ◌≡◌, ◌+◌, ◌^◌, ◌≤◌, ◌<◌, ◌⊎◌, true, Some, IfOk, IfErr, IfSome, OnOk, IsErrOf, IsTrue, length};
 ghost use Rattle.array_shape.specs.Places.{page_count};
+ghost use Rattle.mars_base.specs.Costs.{Costs};
 ghost use Rattle.eaw_face.specs.Causes.{IsAlive};
+ghost use Rattle.eaw_face.specs.Command.{Command};
 ghost use Rattle.record_slots.specs.Slots.{slot_said};
 ghost use Rattle.record_slots.specs.Places.{slot_of, version_of};
 ghost use Rattle.page_store.specs.Index.{IsTable, slots_of};
 ghost use Rattle.page_store.specs.Looks.{Looks, LookCause, is_failed};
+ghost use Rattle.page_store.specs.Pairs.{next};
 ghost use Rattle.page_store.specs.Shown.{pages_of};
 ghost use Rattle.record_table.specs.Blames.{BlamesOne};
 ghost use Rattle.record_table.specs.Works.{RemovesFrom};
@@ -14,10 +17,11 @@ ghost use Rattle.record_table.specs.Hearing.{HearsOne, HearsAbsent};
 ghost use Rattle.record_table.specs.Invariant.{Holds};
 ghost use Rattle.record_table.specs.Removing.{IsAbsent, IsUnwritten, IsNextAbsent, ComesNext, Removes};
 ghost use Rattle.record_table.specs.Names.{name_at, key_in};
+ghost use Rattle.record_table.specs.Walked.{AreSteady, LooksOnce, Walked, data_cost};
 
 use crate::hearings::Hearings;
 use crate::scanning::Next;
-use crate::slots::{SLOTS_IN_PAGE, heard, page_of, value_in};
+use crate::slots::{SLOTS_IN_PAGE, heard, page_of, slot_count, value_in};
 use eaw_face::EawStore;
 use page_store::{KeyIndex, PageFault, Pages};
 use record_slots::{SLOT_LEN, Slot, read_slot};
@@ -29,6 +33,8 @@ fn read_said<S: EawStore>(pages: &mut Pages<S>, slot: u32) -> Result<Option<Slot
         (pages_of (S.view pages.old.store) pages.old) (pages_of (S.view pages.new.store) pages.new) }
     ensures cause { LookCause S.tells (S.view pages.old.store) result }
     ensures said { IsTrue S.tells → IfOk result (λ said. said ≡ slot_said (slot_of (S.view pages.old.store).state.bytes slot)) }
+    ensures costs { Costs true (data_cost (S.calls pages.old.store) (S.view pages.old.store).shape slot) (S.view pages.old.store).moment (S.view pages.new.store).moment result }
+    ensures steady { OnOk result ((command : Command) → S.calls pages.new.store command ≡ S.calls pages.old.store command) }
     ensures faults { IfErr result (λ fault. (fault ≡ PageFault.Media) ⊎ (fault ≡ PageFault.Dead)) }
     ensures dead { IsErrOf result PageFault.Dead → pages.new ≡ pages.old }
 {
@@ -55,6 +61,12 @@ fn next_in_data<S: EawStore, K: KeyIndex>(
     ensures cause { LookCause S.tells (S.view pages.old.store) result }
     ensures comes { IsTrue S.tells → IfOk result (ComesNext K.index (S.view pages.old.store).state.bytes (name_at (S.view pages.old.store).state.bytes table) from) }
     ensures inside { IfOk result (λ next. IfSome next (λ next. from ≤ next.key)) }
+    ensures next { IsTrue S.tells → IfOk result (λ found. IfSome found (λ found. next (K.index.pairs (S.view pages.old.store).state.bytes root) from ≡ Some (found.key, found.slot))) }
+    ensures slot { IfOk result (λ found. IfSome found (λ found. found.slot < slots_of (S.view pages.old.store).shape)) }
+    ensures few { length hearings.new.said ≤ length hearings.old.said + 1 }
+    ensures looked { LooksOnce (K.index.nexting root from) (S.calls pages.old.store) (data_cost (S.calls pages.old.store) (S.view pages.old.store).shape) (S.view pages.old.store).shape
+        (is_failed result) (S.view pages.old.store).moment (S.view pages.new.store).moment hearings.old.said hearings.new.said }
+    ensures steady { AreSteady (is_failed result) (S.calls pages.old.store) (S.calls pages.new.store) }
     ensures hears { HearsOne (S.view pages.old.store).shape hearings.old.said hearings.new.said result }
     ensures dead { IsErrOf result PageFault.Dead → pages.new ≡ pages.old }
 {
@@ -75,6 +87,7 @@ fn next_in_data<S: EawStore, K: KeyIndex>(
     match heard(hearings, key, slot, said, page) {
         Ok(said) => Ok(Some(Next {
             key,
+            slot,
             value: value_in(&said),
         })),
         Err(fault) => Err(fault),
@@ -101,8 +114,11 @@ pub fn next_absent<S: EawStore, K: KeyIndex>(
     ensures next { IsTrue S.tells → IfOk result (IsNextAbsent K.index (S.view pages.old.store).state.bytes (name_at (S.view pages.old.store).state.bytes table) from) }
     ensures inside { IfOk result (λ key. IfSome key (λ key. from ≤ key)) }
     ensures hears { HearsAbsent (S.view pages.old.store).shape hearings.new.said (told_as result) }
+    ensures walks { Walked K.index root (S.calls pages.old.store) (data_cost (S.calls pages.old.store) (S.view pages.old.store).shape) (S.view pages.old.store).shape
+        (is_failed result) (S.view pages.old.store).moment (S.view pages.new.store).moment hearings.new.said }
 {
     let mut low = from;
+    let mut left = slot_count(pages);
     loop {
         let next = match next_in_data::<S, K>(pages, table, root, low, hearings) {
             Ok(Some(next)) => next,
@@ -115,6 +131,12 @@ pub fn next_absent<S: EawStore, K: KeyIndex>(
         if next.key == u64::MAX {
             return Ok(None);
         }
+        if left == 0 {
+            // More keys than slots: a file may make up pages without end.
+            let page = page_of(pages, next.slot);
+            return Err(PageFault::Damaged { page });
+        }
+        left -= 1;
         low = next.key + 1;
     }
 }

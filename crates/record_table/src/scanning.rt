@@ -1,5 +1,5 @@
 // Gathers the records from one key to another along the index.
-ghost use Rattle.std.specs.Prelude.{ℕ, List, ◌≡◌, ◌≤◌, ◌<◌, [], ◌++◌, Some, IfOk, IfSome, OnOk, IsTrue, length};
+ghost use Rattle.std.specs.Prelude.{ℕ, List, ◌≡◌, ◌+◌, ◌≤◌, ◌<◌, [], ◌++◌, Some, IfOk, IfSome, OnOk, IsTrue, length};
 ghost use Rattle.array_shape.specs.Places.{page_count};
 ghost use Rattle.eaw_face.specs.Causes.{IsAlive};
 ghost use Rattle.page_store.specs.Index.{IsTable, slots_of};
@@ -13,20 +13,23 @@ ghost use Rattle.record_table.specs.Invariant.{Holds};
 ghost use Rattle.record_table.specs.Scanned.{rows_seen, rows_left, Follows, ScanCause};
 ghost use Rattle.record_table.specs.Names.{IsCalled};
 ghost use Rattle.record_table.specs.Sought.{LooksAs};
+ghost use Rattle.record_table.specs.Seeks.{row_cost};
+ghost use Rattle.record_table.specs.Walked.{ArePaid, AreSteady, Walked, behind};
 
 use crate::fault::TableFault;
 use crate::hearings::Hearings;
-use crate::slots::{heard, page_of, read_as, value_in};
+use crate::slots::{heard, page_of, read_as, slot_count, value_in};
 use eaw_face::EawStore;
 use history::Rows;
 use mars_base::NoMemory;
 use page_store::{KeyIndex, PageFault, Pages};
 use record_slots::Value;
 
-/// A key of the index and the value that is seen for it.
+/// A key of the index, its slot, and the value that is seen for it.
 #[derive(Drop)]
 pub struct Next {
     pub key: u64,
+    pub slot: u32,
     pub value: Option<Value>,
 }
 
@@ -61,6 +64,8 @@ fn read_row<S: EawStore, K: KeyIndex>(
     ensures follows { IsTrue S.tells → (name : List ℕ) → IsCalled (S.view pages.old.store).state.bytes span.table name → IfOk result (λ row. Follows K.index tid name span.low span.high (pages_of (S.view pages.old.store) pages.old) (Some row)) }
     ensures key { IfOk result (λ row. row.key ≡ pair.0) }
     ensures hears { HearsNext (S.view pages.old.store).shape pair hearings.old.said hearings.new.said result }
+    ensures costs { ArePaid (is_failed result) (row_cost (S.calls pages.old.store) tid (S.view pages.old.store)) (S.view pages.old.store).moment (S.view pages.new.store).moment hearings.old.said hearings.new.said }
+    ensures steady { AreSteady (is_failed result) (S.calls pages.old.store) (S.calls pages.new.store) }
 {
     let (key, slot) = pair;
     let page = page_of(pages, slot);
@@ -71,6 +76,7 @@ fn read_row<S: EawStore, K: KeyIndex>(
     match heard(hearings, key, slot, said, page) {
         Ok(said) => Ok(Next {
             key,
+            slot,
             value: value_in(&said),
         }),
         Err(fault) => Err(fault),
@@ -114,6 +120,10 @@ fn push_rows<S: EawStore, K: KeyIndex>(
         rows.new ++ rows_left K.index tid name (pages_of (S.view pages.old.store) pages.old) from span.high
         ≡ rows.old ++ rows_seen K.index tid name (pages_of (S.view pages.old.store) pages.old) span.low span.high) }
     ensures further { IfOk result (λ from. IfSome from (λ from. (span.low < from) × (from ≤ span.high))) }
+    ensures all { IfOk result (λ from. IfSome from (λ from. (from ≡ behind span.low pairs.now) × (length hearings.new.said ≡ length hearings.old.said + length pairs.now))) }
+    ensures few { length hearings.new.said ≤ length hearings.old.said + length pairs.now }
+    ensures costs { ArePaid (answers.is_failed result) (row_cost (S.calls pages.old.store) tid (S.view pages.old.store)) (S.view pages.old.store).moment (S.view pages.new.store).moment hearings.old.said hearings.new.said }
+    ensures steady { AreSteady (answers.is_failed result) (S.calls pages.old.store) (S.calls pages.new.store) }
     ensures hears { HearsRows (S.view pages.old.store).shape hearings.new.said (λ done. rows.new) result }
 {
     let mut from = span.low;
@@ -161,8 +171,11 @@ pub fn gather<S: EawStore, K: KeyIndex>(
     ensures cause { ScanCause S.tells result }
     ensures rows { IsTrue S.tells → (name : List ℕ) → IsCalled (S.view pages.old.store).state.bytes table name → OnOk result (rows.new ≡ rows_seen K.index tid name (pages_of (S.view pages.old.store) pages.old) low high) }
     ensures hears { HearsRows (S.view pages.old.store).shape hearings.new.said (λ done. rows.new) result }
+    ensures walks { Walked K.index root (S.calls pages.old.store) (row_cost (S.calls pages.old.store) tid (S.view pages.old.store)) (S.view pages.old.store).shape
+        (answers.is_failed result) (S.view pages.old.store).moment (S.view pages.new.store).moment hearings.new.said }
 {
     let mut from = low;
+    let mut left = slot_count(pages);
     while from <= high {
         let pairs = match K::next_pairs(pages, root, table, from) {
             Ok(pairs) => pairs,
@@ -177,11 +190,21 @@ pub fn gather<S: EawStore, K: KeyIndex>(
             low: from,
             high,
         };
-        match push_rows::<S, K>(pages, tid, span, pairs.as_slice(), rows, hearings) {
-            Ok(Some(next)) => from = next,
+        let pairs = pairs.as_slice();
+        let next = match push_rows::<S, K>(pages, tid, span, pairs, rows, hearings) {
+            Ok(Some(next)) => next,
             Ok(None) => return Ok(()),
             Err(fault) => return Err(fault),
+        };
+        let met = pairs.len() as u64;
+        if met > left {
+            // More keys than slots: a file may make up pages without end.
+            let (_, slot) = pairs[pairs.len() - 1];
+            let page = page_of(pages, slot);
+            return Err(TableFault::Damaged { page });
         }
+        left -= met;
+        from = next;
     }
     Ok(())
 }

@@ -1,10 +1,11 @@
 // Slots of keys, read and written as a number.
-ghost use Rattle.std.specs.Prelude.{ℕ, List, ◌∷◌, ◌≡◌, ◌≢◌, ◌⊎◌, ◌/◌, true, None, ◌+◌, ◌*◌, ◌%◌, ◌<◌, Some, IfOk, IfErr, IfSome, IsErrOf, IsTrue, length};
+ghost use Rattle.std.specs.Prelude.{ℕ, List, ◌∷◌, ◌≡◌, ◌≢◌, ◌⊎◌, ◌/◌, true, None, ◌+◌, ◌*◌, ◌%◌, ◌<◌, Some, IfOk, IfErr, IfSome, OnOk, IsErrOf, IsTrue, length};
 ghost use Rattle.history.specs.Key.{of_table};
 ghost use Rattle.mars_base.specs.Bytes.{range};
 ghost use Rattle.mars_base.specs.Costs.{Costs};
 ghost use Rattle.array_shape.specs.Places.{page_count};
 ghost use Rattle.eaw_face.specs.Causes.{IsAlive};
+ghost use Rattle.eaw_face.specs.Command.{Command};
 ghost use Rattle.record_slots.specs.Slots.{slot_said, slot_bytes, table_of_slot};
 ghost use Rattle.page_store.specs.Command.{write_as};
 ghost use Rattle.page_store.specs.Does.{Does};
@@ -45,6 +46,15 @@ pub fn page_of<S: EawStore>(pages: &Pages<S>, slot: u32) -> u32
     half + slot / SLOTS_IN_PAGE
 }
 
+// How many slots there are: four for each page of the array. No sound index has more keys.
+pub fn slot_count<S: EawStore>(pages: &Pages<S>) -> u64
+    ensures { result ≡ slots_of (S.view pages.now.store).shape }
+{
+    let shape = pages.shape();
+    let pages = u64::from(shape.loggers) * u64::from(shape.pages);
+    4 * pages
+}
+
 // Reads what the number sees in a slot.
 pub fn read_as<S: EawStore>(
     pages: &mut Pages<S>,
@@ -59,6 +69,7 @@ pub fn read_as<S: EawStore>(
     ensures said { IsTrue S.tells → IfOk result (λ said. said ≡
         slot_said (range (view_of tid (state_of (pages_of (S.view pages.old.store) pages.old))) (64 * (slots_of (S.view pages.old.store).shape + slot)) 64)) }
     ensures costs { Costs true (slot_cost (S.calls pages.old.store) tid (S.view pages.old.store) (Some slot)) (S.view pages.old.store).moment (S.view pages.new.store).moment result }
+    ensures steady { OnOk result ((command : Command) → S.calls pages.new.store command ≡ S.calls pages.old.store command) }
     ensures faults { IfErr result (λ fault. (fault ≡ PageFault.Media) ⊎ (fault ≡ PageFault.Dead)) }
     ensures dead { IsErrOf result PageFault.Dead → pages.new ≡ pages.old }
 {

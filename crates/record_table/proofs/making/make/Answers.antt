@@ -2,7 +2,6 @@ use Rattle.std.proofs.Common.{◌≡◌, refl, ◌∙◌, ◌+◌, ◌*◌, IsTr
 use Rattle.array_shape.specs.declared.shape.Shape.{Shape}
 use Rattle.eaw_face.specs.State.{State}
 use Rattle.index_pages.specs.Acts.{Acts}
-use Rattle.index_pages.proofs.Fronts.{IsWritable}
 use Rattle.page_store.specs.Command as page
 use Rattle.page_store.specs.Does as page_does
 use Rattle.page_store.specs.Looks.{is_failed}
@@ -10,7 +9,7 @@ use Rattle.page_store.specs.Shown.{pages_of}
 use Rattle.page_store.specs.declared.fault.PageFault.{PageFault}
 use Rattle.record_slots.specs.Fresh.{fresh_page}
 use Rattle.record_slots.specs.Places.{page_bytes}
-use Rattle.record_slots.specs.Super.{SaysSuper, super_bytes}
+use Rattle.record_slots.specs.Super.{IsWhole, SaysSuper, super_bytes}
 use Rattle.record_slots.specs.declared.super_page.Super.{Super}
 use Rattle.record_table.specs.Sought.{LooksAs}
 use Rattle.record_table.proofs.Made.{not_upgraded, ready_of, not_read, not_placed, not_written, far_holds, written}
@@ -169,7 +168,7 @@ returns-in-Err-write_table-clause-makes g c =
     let after = c.with_table.result in
     let number = c.in-Ok-place_for.number in
     let half = c.index_page_count.result in
-    let writable : IsWritable after = record {
+    let whole : IsWhole after = record {
       entries = omega arith;
       next_slot = omega arith;
       next_page = omega arith;
@@ -177,10 +176,9 @@ returns-in-Err-write_table-clause-makes g c =
       free_page = omega arith;
       free_slots = omega arith;
       free_pages = omega arith;
-      none = λ one. absurd (let two : after.version ≡ 2 = ap (λ (f : Super). f.version) c.with_table.ensures.said ∙ c.in-Ok-place_for.ensures.cause.0.version in omega (arith, one, two));
     } in
     let acts = subst (λ (s : Shape). (let r : Result (Unit {0}) PageFault = Err c.in-Err-write_table.fault in Acts T (E s) 0 (front.next_page ∷ 0 ∷ []) ((512 * front.next_page + 0, fresh_page 1) ∷ (512 * 0 + 0, super_bytes after) ∷ []) v2 v3 r)) ready.shape c.in-Err-write_table.ensures.acts in
-    rw c.refusal-in-Err-write_table.ensures (not_written T O I name laws v0 v2 ready front half says c.index_page_count.ensures.count long number c.in-Ok-place_for.ensures.cause after c.with_table.ensures.said c.with_table.ensures.tables c.with_table.ensures.has writable v3 (g.met.S.EawStore.shaped now.store).some_entries c.requires.free c.in-Err-write_table.fault acts).0
+    rw c.refusal-in-Err-write_table.ensures (not_written T O I name laws v0 v2 ready front half says c.index_page_count.ensures.count long number c.in-Ok-place_for.ensures.cause after c.with_table.ensures.said c.with_table.ensures.tables c.with_table.ensures.has whole v3 (g.met.S.EawStore.shaped now.store).some_entries c.requires.free c.in-Err-write_table.fault acts).0
 
 pub end-requires-clause-closed : goal.end-requires-clause-closed
 end-requires-clause-closed g c =
@@ -209,7 +207,7 @@ end-requires-clause-closed g c =
     let after = c.with_table.result in
     let number = c.in-Ok-place_for.number in
     let half = c.index_page_count.result in
-    let writable : IsWritable after = record {
+    let whole : IsWhole after = record {
       entries = omega arith;
       next_slot = omega arith;
       next_page = omega arith;
@@ -217,10 +215,9 @@ end-requires-clause-closed g c =
       free_page = omega arith;
       free_slots = omega arith;
       free_pages = omega arith;
-      none = λ one. absurd (let two : after.version ≡ 2 = ap (λ (f : Super). f.version) c.with_table.ensures.said ∙ c.in-Ok-place_for.ensures.cause.0.version in omega (arith, one, two));
     } in
     let acts = subst (λ (s : Shape). (let r : Result (Unit {0}) PageFault = Ok tt in Acts T (E s) 0 (front.next_page ∷ 0 ∷ []) ((512 * front.next_page + 0, fresh_page 1) ∷ (512 * 0 + 0, super_bytes after) ∷ []) v2 v3 r)) ready.shape c.in-Ok-write_table.ensures.acts in
-    λ living. (far_holds T O I name laws v0 v2 ready front half says c.index_page_count.ensures.count long number c.in-Ok-place_for.ensures.cause after c.with_table.ensures.said c.with_table.ensures.tables c.with_table.ensures.has writable v3 acts living).closed 0
+    λ living. (far_holds T O I name laws v0 v2 ready front half says c.index_page_count.ensures.count long number c.in-Ok-place_for.ensures.cause after c.with_table.ensures.said c.with_table.ensures.tables c.with_table.ensures.has whole v3 acts living).closed 0
 
 pub returns-in-Ok-end-clause-makes : goal.returns-in-Ok-end-clause-makes
 returns-in-Ok-end-clause-makes g c =
@@ -249,7 +246,7 @@ returns-in-Ok-end-clause-makes g c =
     let after = c.with_table.result in
     let number = c.in-Ok-place_for.number in
     let half = c.index_page_count.result in
-    let writable : IsWritable after = record {
+    let whole : IsWhole after = record {
       entries = omega arith;
       next_slot = omega arith;
       next_page = omega arith;
@@ -257,13 +254,12 @@ returns-in-Ok-end-clause-makes g c =
       free_page = omega arith;
       free_slots = omega arith;
       free_pages = omega arith;
-      none = λ one. absurd (let two : after.version ≡ 2 = ap (λ (f : Super). f.version) c.with_table.ensures.said ∙ c.in-Ok-place_for.ensures.cause.0.version in omega (arith, one, two));
     } in
     let acts = subst (λ (s : Shape). (let r : Result (Unit {0}) PageFault = Ok tt in Acts T (E s) 0 (front.next_page ∷ 0 ∷ []) ((512 * front.next_page + 0, fresh_page 1) ∷ (512 * 0 + 0, super_bytes after) ∷ []) v2 v3 r)) ready.shape c.in-Ok-write_table.ensures.acts in
     let new = c.end.new.self in
     let v4 = pages_of (V new.store) new in
     let does = subst (λ (s : Shape). (let r : Result (Unit {0}) PageFault = Ok tt in page_does.Does T (E s) (page.end 0 false) v3 v4 r)) (acts.shape ∙ ready.shape) c.in-Ok-end.ensures.does in
-    (written T O I name laws v0 v2 ready front half says c.index_page_count.ensures.count long number c.in-Ok-place_for.ensures.cause after c.with_table.ensures.said c.with_table.ensures.tables c.with_table.ensures.has writable v3 acts v4 does).0
+    (written T O I name laws v0 v2 ready front half says c.index_page_count.ensures.count long number c.in-Ok-place_for.ensures.cause after c.with_table.ensures.said c.with_table.ensures.tables c.with_table.ensures.has whole v3 acts v4 does).0
 
 pub returns-in-Ok-end-clause-holds : goal.returns-in-Ok-end-clause-holds
 returns-in-Ok-end-clause-holds g c =
@@ -292,7 +288,7 @@ returns-in-Ok-end-clause-holds g c =
     let after = c.with_table.result in
     let number = c.in-Ok-place_for.number in
     let half = c.index_page_count.result in
-    let writable : IsWritable after = record {
+    let whole : IsWhole after = record {
       entries = omega arith;
       next_slot = omega arith;
       next_page = omega arith;
@@ -300,13 +296,12 @@ returns-in-Ok-end-clause-holds g c =
       free_page = omega arith;
       free_slots = omega arith;
       free_pages = omega arith;
-      none = λ one. absurd (let two : after.version ≡ 2 = ap (λ (f : Super). f.version) c.with_table.ensures.said ∙ c.in-Ok-place_for.ensures.cause.0.version in omega (arith, one, two));
     } in
     let acts = subst (λ (s : Shape). (let r : Result (Unit {0}) PageFault = Ok tt in Acts T (E s) 0 (front.next_page ∷ 0 ∷ []) ((512 * front.next_page + 0, fresh_page 1) ∷ (512 * 0 + 0, super_bytes after) ∷ []) v2 v3 r)) ready.shape c.in-Ok-write_table.ensures.acts in
     let new = c.end.new.self in
     let v4 = pages_of (V new.store) new in
     let does = subst (λ (s : Shape). (let r : Result (Unit {0}) PageFault = Ok tt in page_does.Does T (E s) (page.end 0 false) v3 v4 r)) (acts.shape ∙ ready.shape) c.in-Ok-end.ensures.does in
-    (written T O I name laws v0 v2 ready front half says c.index_page_count.ensures.count long number c.in-Ok-place_for.ensures.cause after c.with_table.ensures.said c.with_table.ensures.tables c.with_table.ensures.has writable v3 acts v4 does).1
+    (written T O I name laws v0 v2 ready front half says c.index_page_count.ensures.count long number c.in-Ok-place_for.ensures.cause after c.with_table.ensures.said c.with_table.ensures.tables c.with_table.ensures.has whole v3 acts v4 does).1
 
 pub returns-in-Err-clause-blames : goal.returns-in-Err-clause-blames
 returns-in-Err-clause-blames g c = rw c.refusal.ensures (front_made (Unit {0}) c.in-Err.fault c.in-Err.ensures.blames)

@@ -1,4 +1,4 @@
-use Rattle.std.proofs.Common.{◌≡◌, ℕ, Bool, false, List, ◌++◌, refl, sym, ap, subst, ◌∙◌}
+use Rattle.std.proofs.Common.{◌≡◌, ℕ, Bool, false, inl, List, ◌++◌, refl, sym, ap, subst, ◌∙◌}
 use Rattle.std.specs.List.{zip}
 use Rattle.eaw_face.specs.State.{State}
 use Rattle.page_store.specs.Looks.{Looks}
@@ -7,9 +7,10 @@ use Rattle.page_store.specs.Shown.{pages_of}
 use Rattle.index_pages.proofs.Looking.{looks_next}
 use Rattle.record_table.specs.AllTables.{by_name}
 use Rattle.history.specs.Rows.{records_in}
-use Rattle.record_table.specs.Attached.{is_refused_by_media}
+use Rattle.record_table.specs.Attached.{BlamesTested, is_refused_by_media}
 use Rattle.record_table.specs.Names.{names_of}
 use Rattle.record_table.specs.declared.fault.AttachRecords.{AttachRecords}
+use Rattle.record_table.proofs.Blaming.{tested_blames, front_tested}
 use Rattle.record_table.proofs.ByName.{records_are}
 use Rattle.record_table.proofs.Looking.{failed_attach}
 use Rattle.record_table.proofs.Sharing.{Laws}
@@ -54,3 +55,17 @@ returns-in-Err-with_names-clause-looks g c =
     let V = g.S.EawStore.view in
     looks_next g.S.EawStore.tells g.S.EawStore.opens false (pages_of (V c.args.pages.now.store) c.args.pages.now) (pages_of (V c.check.new.pages.store) c.check.new.pages)
     (pages_of (V c.names_and_roots.new.pages.store) c.names_and_roots.new.pages) c.in-Ok.ensures.looks c.in-Ok-names_and_roots.ensures.looks
+
+pub returns-in-Err-clause-blames : goal.returns-in-Err-clause-blames
+returns-in-Err-clause-blames g c =
+    let V = g.S.EawStore.view in
+    subst (BlamesTested g.S.EawStore.tells (g.S.EawStore.calls c.args.pages.now.store) g.K.KeyIndex.index (V c.args.pages.now.store)) (sym c.unread.ensures)
+    (tested_blames g.S.EawStore.tells (g.S.EawStore.calls c.args.pages.now.store) (g.S.EawStore.calls c.check.new.pages.store) g.K.KeyIndex.index (V c.args.pages.now.store) (V c.check.new.pages.store) c.in-Err.fault c.in-Err.ensures.tests)
+
+pub returns-in-Err-names_and_roots-clause-blames : goal.returns-in-Err-names_and_roots-clause-blames
+returns-in-Err-names_and_roots-clause-blames g c =
+    subst (BlamesTested g.S.EawStore.tells (g.S.EawStore.calls c.args.pages.now.store) g.K.KeyIndex.index (g.S.EawStore.view c.args.pages.now.store)) (sym c.unattached.ensures)
+    (front_tested (Unit {0}) g.S.EawStore.tells (g.S.EawStore.calls c.args.pages.now.store) g.K.KeyIndex.index (g.S.EawStore.view c.args.pages.now.store) c.in-Err-names_and_roots.fault c.in-Err-names_and_roots.ensures.blames)
+
+pub returns-then-from-len-clause-blames : goal.returns-then-from-len-clause-blames
+returns-then-from-len-clause-blames g c = inl refl

@@ -1,4 +1,5 @@
-use Rattle.std.proofs.Common.{false}
+use Rattle.std.proofs.Common.{false, length}
+use Rattle.record_table.specs.Hearing.{Hearing}
 use Rattle.index_pages.proofs.Looking.{looks_next}
 use Rattle.page_store.specs.Shown.{pages_of}
 use Rattle.page_store.specs.Looks.{Looks, is_failed}
@@ -20,6 +21,8 @@ use Rattle.page_store.specs.declared.fault.PageFault.{PageFault}
 use Rattle.page_store.specs.declared.fault.PageFault.TheVariants.{Damaged}
 use Rattle.record_table.specs.declared.scanning.Next.{Next}
 use Rattle.record_table.proofs.Hearing.{one_unfound, one_failed, one_silent, first_inside}
+use Rattle.record_table.specs.Walked.{data_cost}
+use Rattle.record_table.proofs.Walking.{looks_alone, looks_on, not_refused, paid_one, paid_same, read_same}
 use Rattle.record_table.proofs.removing.next_in_data.Goals as goal
 
 pub returns-then-is_empty-clause-comes : goal.returns-then-is_empty-clause-comes
@@ -100,3 +103,69 @@ returns-in-Err-heard-clause-hears g c =
     one_silent (V c.args.pages.now.store).shape c.args.hearings.now.said (V c.next_pairs.new.pages.store).shape c.heard.new.hearings.said pair.0 pair.1 c.in-Ok-read_said.said c.in-Err-heard.fault c.page_of-page.result c.in-Ok.ensures.looks.shape
     (first_inside c.as_slice-some.result.now c.args.from (slots_of (V c.args.pages.now.store).shape) (omega (arith, eqb-false _ 0 (sym c.if-is_empty.ensures))) (subst (λ (l : List Pair). AreInside c.args.from (slots_of (V c.args.pages.now.store).shape) l) (sym c.as_slice-some.ensures.value) c.in-Ok.ensures.inside))
     c.in-Err-heard.ensures.none.0 c.in-Err-heard.ensures.none.1 c.in-Err-heard.ensures.hears c.page_of-page.ensures.page
+
+pub returns-in-Ok-heard-clause-next : goal.returns-in-Ok-heard-clause-next
+returns-in-Ok-heard-clause-next g c = λ told.
+    let are = subst (λ (l : List Pair). AreNext (g.K.KeyIndex.index.pairs (g.S.EawStore.view c.args.pages.now.store).state.bytes c.args.root) c.args.from l) (sym c.as_slice-some.ensures.value) (c.in-Ok.ensures.next told) in
+    (turn_at (g.K.KeyIndex.index.pairs (g.S.EawStore.view c.args.pages.now.store).state.bytes c.args.root) c.args.from 0 c.as_slice-some.result.now 0 (omega (arith, eqb-false _ 0 (sym c.if-is_empty.ensures)))
+    (next_first (g.K.KeyIndex.index.pairs (g.S.EawStore.view c.args.pages.now.store).state.bytes c.args.root) c.args.from c.as_slice-some.result.now (omega (arith, eqb-false _ 0 (sym c.if-is_empty.ensures))) are)).0
+
+pub returns-in-Ok-heard-clause-slot : goal.returns-in-Ok-heard-clause-slot
+returns-in-Ok-heard-clause-slot g c =
+    first_inside c.as_slice-some.result.now c.args.from (slots_of (g.S.EawStore.view c.args.pages.now.store).shape) (omega (arith, eqb-false _ 0 (sym c.if-is_empty.ensures)))
+    (subst (λ (l : List Pair). AreInside c.args.from (slots_of (g.S.EawStore.view c.args.pages.now.store).shape) l) (sym c.as_slice-some.ensures.value) c.in-Ok.ensures.inside)
+
+pub returns-in-Ok-heard-clause-few : goal.returns-in-Ok-heard-clause-few
+returns-in-Ok-heard-clause-few g c = let n = ap (λ (hs : List Hearing). length hs) c.in-Ok-heard.ensures.hears in omega (arith, n)
+
+pub returns-in-Err-heard-clause-few : goal.returns-in-Err-heard-clause-few
+returns-in-Err-heard-clause-few g c = let n = ap (λ (hs : List Hearing). length hs) c.in-Err-heard.ensures.hears in omega (arith, n)
+
+pub returns-then-is_empty-clause-looked : goal.returns-then-is_empty-clause-looked
+returns-then-is_empty-clause-looked g c =
+    let V = g.S.EawStore.view in
+    looks_alone g.S.EawStore.tells (g.S.EawStore.calls c.args.pages.now.store) (g.S.EawStore.calls c.next_pairs.new.pages.store) (data_cost (g.S.EawStore.calls c.args.pages.now.store) (V c.args.pages.now.store).shape) (g.K.KeyIndex.index.nexting c.args.root c.args.from) _ (V c.args.pages.now.store) (V c.next_pairs.new.pages.store) c.args.hearings.now.said _ c.in-Ok.ensures.follows
+
+pub returns-in-Err-clause-looked : goal.returns-in-Err-clause-looked
+returns-in-Err-clause-looked g c =
+    let V = g.S.EawStore.view in
+    looks_alone g.S.EawStore.tells (g.S.EawStore.calls c.args.pages.now.store) (g.S.EawStore.calls c.next_pairs.new.pages.store) (data_cost (g.S.EawStore.calls c.args.pages.now.store) (V c.args.pages.now.store).shape) (g.K.KeyIndex.index.nexting c.args.root c.args.from) _ (V c.args.pages.now.store) (V c.next_pairs.new.pages.store) c.args.hearings.now.said _ c.in-Err.ensures.follows
+
+pub returns-in-Ok-heard-clause-looked : goal.returns-in-Ok-heard-clause-looked
+returns-in-Ok-heard-clause-looked g c =
+    let V = g.S.EawStore.view in
+    looks_on g.S.EawStore.tells (g.S.EawStore.calls c.args.pages.now.store) (g.S.EawStore.calls c.next_pairs.new.pages.store) (data_cost (g.S.EawStore.calls c.args.pages.now.store) (V c.args.pages.now.store).shape) (g.K.KeyIndex.index.nexting c.args.root c.args.from) _ (V c.args.pages.now.store) (V c.next_pairs.new.pages.store) c.args.hearings.now.said false (V c.read_said.new.pages.store).moment c.heard.new.hearings.said _ c.in-Ok.ensures.follows
+    (paid_same false (data_cost (g.S.EawStore.calls c.next_pairs.new.pages.store) (V c.next_pairs.new.pages.store).shape) (data_cost (g.S.EawStore.calls c.args.pages.now.store) (V c.args.pages.now.store).shape) _ _ c.args.hearings.now.said c.heard.new.hearings.said
+    (read_same (g.S.EawStore.calls c.next_pairs.new.pages.store) (g.S.EawStore.calls c.args.pages.now.store) (V c.next_pairs.new.pages.store).shape (V c.args.pages.now.store).shape (c.in-Ok.ensures.follows.reads.steady refl) c.in-Ok.ensures.looks.shape)
+    (λ well. paid_one (data_cost (g.S.EawStore.calls c.next_pairs.new.pages.store) (V c.next_pairs.new.pages.store).shape) _ _ (get_or c.as_slice-some.result.now 0 (0, 0)).1 c.args.hearings.now.said c.heard.new.hearings.said _ (c.in-Ok-read_said.ensures.costs.done refl) c.in-Ok-heard.ensures.hears refl))
+
+pub returns-in-Err-heard-clause-looked : goal.returns-in-Err-heard-clause-looked
+returns-in-Err-heard-clause-looked g c =
+    let V = g.S.EawStore.view in
+    looks_on g.S.EawStore.tells (g.S.EawStore.calls c.args.pages.now.store) (g.S.EawStore.calls c.next_pairs.new.pages.store) (data_cost (g.S.EawStore.calls c.args.pages.now.store) (V c.args.pages.now.store).shape) (g.K.KeyIndex.index.nexting c.args.root c.args.from) _ (V c.args.pages.now.store) (V c.next_pairs.new.pages.store) c.args.hearings.now.said _ (V c.read_said.new.pages.store).moment c.heard.new.hearings.said _ c.in-Ok.ensures.follows
+    (λ well. (paid_same false (data_cost (g.S.EawStore.calls c.next_pairs.new.pages.store) (V c.next_pairs.new.pages.store).shape) (data_cost (g.S.EawStore.calls c.args.pages.now.store) (V c.args.pages.now.store).shape) _ _ c.args.hearings.now.said c.heard.new.hearings.said
+    (read_same (g.S.EawStore.calls c.next_pairs.new.pages.store) (g.S.EawStore.calls c.args.pages.now.store) (V c.next_pairs.new.pages.store).shape (V c.args.pages.now.store).shape (c.in-Ok.ensures.follows.reads.steady refl) c.in-Ok.ensures.looks.shape)
+    (λ well. paid_one (data_cost (g.S.EawStore.calls c.next_pairs.new.pages.store) (V c.next_pairs.new.pages.store).shape) _ _ (get_or c.as_slice-some.result.now 0 (0, 0)).1 c.args.hearings.now.said c.heard.new.hearings.said _ (c.in-Ok-read_said.ensures.costs.done refl) c.in-Err-heard.ensures.hears refl)) refl)
+
+pub returns-in-Err-read_said-clause-looked : goal.returns-in-Err-read_said-clause-looked
+returns-in-Err-read_said-clause-looked g c =
+    let V = g.S.EawStore.view in
+    looks_on g.S.EawStore.tells (g.S.EawStore.calls c.args.pages.now.store) (g.S.EawStore.calls c.next_pairs.new.pages.store) (data_cost (g.S.EawStore.calls c.args.pages.now.store) (V c.args.pages.now.store).shape) (g.K.KeyIndex.index.nexting c.args.root c.args.from) _ (V c.args.pages.now.store) (V c.next_pairs.new.pages.store) c.args.hearings.now.said _ (V c.read_said.new.pages.store).moment c.args.hearings.now.said _ c.in-Ok.ensures.follows
+    (λ well. absurd (not_refused g.S.EawStore.tells (V c.next_pairs.new.pages.store) c.in-Err-read_said.fault c.in-Err-read_said.ensures.faults c.in-Err-read_said.ensures.cause ((c.in-Ok.ensures.looks.still refl).dead ∙ c.in-Ok.ensures.cause) well))
+
+pub returns-then-is_empty-clause-steady : goal.returns-then-is_empty-clause-steady
+returns-then-is_empty-clause-steady g c = c.in-Ok.ensures.follows.reads.steady
+
+pub returns-in-Err-clause-steady : goal.returns-in-Err-clause-steady
+returns-in-Err-clause-steady g c = c.in-Err.ensures.follows.reads.steady
+
+pub returns-in-Ok-heard-clause-steady : goal.returns-in-Ok-heard-clause-steady
+returns-in-Ok-heard-clause-steady g c = λ well command. c.in-Ok-read_said.ensures.steady command ∙ c.in-Ok.ensures.follows.reads.steady refl command
+
+pub returns-in-Err-heard-clause-steady : goal.returns-in-Err-heard-clause-steady
+returns-in-Err-heard-clause-steady g c = λ well command. c.in-Ok-read_said.ensures.steady command ∙ c.in-Ok.ensures.follows.reads.steady refl command
+
+pub returns-in-Err-read_said-clause-steady : goal.returns-in-Err-read_said-clause-steady
+returns-in-Err-read_said-clause-steady g c = λ well.
+    let V = g.S.EawStore.view in
+    absurd (not_refused g.S.EawStore.tells (V c.next_pairs.new.pages.store) c.in-Err-read_said.fault c.in-Err-read_said.ensures.faults c.in-Err-read_said.ensures.cause ((c.in-Ok.ensures.looks.still refl).dead ∙ c.in-Ok.ensures.cause) well)

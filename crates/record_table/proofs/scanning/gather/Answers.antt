@@ -4,7 +4,8 @@ use Rattle.record_table.specs.Does as answers
 use Rattle.record_table.specs.declared.fault.TableFault.{TableFault}
 use Rattle.record_table.proofs.Looking.{failed_told}
 use Rattle.std.proofs.lemmas.Bool.{eqb-true, eqb-false}
-use Rattle.std.proofs.Common.{false, ℕ, List, ◌++◌, refl, sym, ◌∙◌, ap, subst, arith}
+use Rattle.std.proofs.Common.{false, inr, ℕ, ◌+◌, ◌-◌, ◌<◌, List, ◌++◌, length, refl, sym, ◌∙◌, ap, subst, arith}
+use Rattle.array_shape.specs.Places.{page_count}
 use Rattle.std.proofs.lemmas.List.{append-nil}
 use Rattle.eaw_face.specs.State.{State}
 use Rattle.page_store.specs.Index.{slots_of}
@@ -21,7 +22,11 @@ use Rattle.record_table.proofs.Gathering.{follows_end, follows_past, no_row}
 use Rattle.record_table.proofs.Moving.{moved_by_look, rests_moved}
 use Rattle.record_table.proofs.Sharing.{Laws}
 use Rattle.array_shape.specs.declared.shape.Shape.{Shape}
-use Rattle.record_table.specs.Hearing.{HearsRows}
+use Rattle.record_table.specs.Hearing.{Hearing, HearsRows}
+use Rattle.record_table.specs.Seeks.{row_cost}
+use Rattle.record_table.specs.Walked.{Walked}
+use Rattle.record_table.proofs.Counting.{many, keys_few, many_behind, slot_inside}
+use Rattle.record_table.proofs.Walking.{paid_same, row_same, walk_begins, walk_looks, walk_hears, walk_more, walk_ends}
 use Rattle.record_table.proofs.Hearing.{all_spoke_yet, no_rows_yet, index_refused, rows_refused}
 use Rattle.record_table.proofs.scanning.gather.Goals as goal
 
@@ -58,13 +63,13 @@ push_rows-requires-clause-holds g c = λ living.
 
 pub push_rows-requires-clause-turn : goal.push_rows-requires-clause-turn
 push_rows-requires-clause-turn g c = λ told.
-    subst (λ (l : List Pair). InTurn (g.K.KeyIndex.index.pairs (g.S.EawStore.view c.next_pairs.new.pages.store).state.bytes c.args.root) c.loop-from.from l) (sym c.as_slice.ensures.value)
+    subst (λ (l : List Pair). InTurn (g.K.KeyIndex.index.pairs (g.S.EawStore.view c.next_pairs.new.pages.store).state.bytes c.args.root) c.loop-from.from l) (sym c.as_slice-pairs.ensures.value)
     (subst (λ (s : State). InTurn (g.K.KeyIndex.index.pairs s.bytes c.args.root) c.loop-from.from c.in-Ok.pairs.items) (sym ((c.in-Ok.ensures.looks.still refl).state told))
     (next_first (g.K.KeyIndex.index.pairs (g.S.EawStore.view c.loop-from.pages.store).state.bytes c.args.root) c.loop-from.from c.in-Ok.pairs.items (omega (arith, eqb-false _ 0 (sym c.if-is_empty.ensures))) (c.in-Ok.ensures.next told)))
 
 pub push_rows-requires-clause-inside : goal.push_rows-requires-clause-inside
 push_rows-requires-clause-inside g c =
-    subst (λ (l : List Pair). AreInside c.loop-from.from (slots_of (g.S.EawStore.view c.next_pairs.new.pages.store).shape) l) (sym c.as_slice.ensures.value)
+    subst (λ (l : List Pair). AreInside c.loop-from.from (slots_of (g.S.EawStore.view c.next_pairs.new.pages.store).shape) l) (sym c.as_slice-pairs.ensures.value)
     (subst (λ (n : ℕ). AreInside c.loop-from.from n c.in-Ok.pairs.items) (ap slots_of (sym c.in-Ok.ensures.looks.shape)) c.in-Ok.ensures.inside)
 
 pub returns-then-is_empty-clause-rows : goal.returns-then-is_empty-clause-rows
@@ -127,7 +132,20 @@ loop-from-init g c =
     let V = g.S.EawStore.view in
     let T = g.S.EawStore.tells in
     let E = g.S.EawStore.opens in
+    let K = g.met.K.KeyIndex in
+    let laws : Laws g.K.KeyIndex.index = record { rises = K.rises; given = K.given; counts = K.counts; rests = K.rests; extends = K.extends } in
+    let shape = (V c.args.pages.now.store).shape in
     record {
+      left = omega (arith, ap (λ (hs : List Hearing). length hs) c.requires.unheard, c.slot_count-left.ensures);
+      walking = walk_more g.K.KeyIndex.index c.args.root (g.S.EawStore.calls c.args.pages.now.store) (row_cost (g.S.EawStore.calls c.args.pages.now.store) c.args.tid (V c.args.pages.now.store)) (V c.args.pages.now.store).shape false 0 (length c.args.hearings.now.said) (V c.args.pages.now.store).moment (V c.args.pages.now.store).moment c.args.hearings.now.said (omega arith)
+          (walk_begins g.K.KeyIndex.index c.args.root (g.S.EawStore.calls c.args.pages.now.store) (row_cost (g.S.EawStore.calls c.args.pages.now.store) c.args.tid (V c.args.pages.now.store)) (V c.args.pages.now.store).shape (V c.args.pages.now.store).moment c.args.hearings.now.said c.requires.unheard);
+      steady = λ command. refl;
+      keys = λ told. omega (
+        arith,
+        keys_few g.K.KeyIndex.index laws (V c.args.pages.now.store).state.bytes shape c.args.table c.args.root c.args.low (g.met.S.EawStore.long c.args.pages.now.store told)
+            ((c.requires.holds c.requires.alive).tied told).sound (c.requires.named told c.requires.alive),
+        c.slot_count-left.ensures,
+      );
       spoke = all_spoke_yet c.args.hearings.now.said c.requires.unheard;
       heard = no_rows_yet c.args.hearings.now.said c.args.rows.now c.requires.unheard c.requires.empty;
       looks = looks_none T (E (V c.args.pages.now.store).shape) c.args.tid (pages_of (V c.args.pages.now.store) c.args.pages.now);
@@ -170,7 +188,20 @@ loop-from-preserved g c =
     let T = g.S.EawStore.tells in
     let E = g.S.EawStore.opens in
     let looked = looks_next T E c.args.tid false (pages_of (V c.args.pages.now.store) c.args.pages.now) (pages_of (V c.loop-from.pages.store) c.loop-from.pages) (pages_of (V c.next_pairs.new.pages.store) c.next_pairs.new.pages) c.loop-from.invariant.looks (looks_as T (E (V c.loop-from.pages.store).shape) c.args.tid false (pages_of (V c.loop-from.pages.store) c.loop-from.pages) (pages_of (V c.next_pairs.new.pages.store) c.next_pairs.new.pages) c.in-Ok.ensures.looks) in
+    let all = rw c.in-Ok-Some.field-0-is at c.in-Ok-Some.ensures.all in
     record {
+      left = omega (arith, all.1, c.if-met-left.false, c.loop-from.invariant.left);
+      walking = walk_more g.K.KeyIndex.index c.args.root (g.S.EawStore.calls c.args.pages.now.store) (row_cost (g.S.EawStore.calls c.args.pages.now.store) c.args.tid (V c.args.pages.now.store)) (V c.args.pages.now.store).shape false (length c.loop-from.hearings.said + 1) (length c.push_rows.new.hearings.said) (V c.args.pages.now.store).moment (V c.push_rows.new.pages.store).moment c.push_rows.new.hearings.said (omega (arith, all.1, eqb-false _ 0 (sym c.if-is_empty.ensures), ap (λ (ps : List Pair). length ps) c.as_slice-pairs.ensures.value))
+          (walk_hears g.K.KeyIndex.index c.args.root (g.S.EawStore.calls c.args.pages.now.store) (row_cost (g.S.EawStore.calls c.args.pages.now.store) c.args.tid (V c.args.pages.now.store)) (V c.args.pages.now.store).shape false (length c.loop-from.hearings.said + 1) (V c.args.pages.now.store).moment (V c.next_pairs.new.pages.store).moment (V c.push_rows.new.pages.store).moment c.loop-from.hearings.said c.push_rows.new.hearings.said
+          (walk_looks g.K.KeyIndex.index c.args.root (g.S.EawStore.calls c.args.pages.now.store) (row_cost (g.S.EawStore.calls c.args.pages.now.store) c.args.tid (V c.args.pages.now.store)) (V c.args.pages.now.store).shape g.S.EawStore.tells (g.S.EawStore.calls c.loop-from.pages.store) (g.S.EawStore.calls c.next_pairs.new.pages.store) (length c.loop-from.hearings.said) (V c.args.pages.now.store).moment c.loop-from.from c.loop-from.hearings.said _ (V c.loop-from.pages.store) (V c.next_pairs.new.pages.store) _ c.loop-from.invariant.walking c.loop-from.invariant.steady c.loop-from.invariant.looks.shape c.in-Ok.ensures.follows)
+          (paid_same _ (row_cost (g.S.EawStore.calls c.next_pairs.new.pages.store) c.args.tid (V c.next_pairs.new.pages.store)) (row_cost (g.S.EawStore.calls c.args.pages.now.store) c.args.tid (V c.args.pages.now.store)) _ _ c.loop-from.hearings.said c.push_rows.new.hearings.said (row_same (g.S.EawStore.calls c.next_pairs.new.pages.store) (g.S.EawStore.calls c.args.pages.now.store) c.args.tid (V c.next_pairs.new.pages.store) (V c.args.pages.now.store) (λ command. c.in-Ok.ensures.follows.reads.steady refl command ∙ c.loop-from.invariant.steady command) (c.in-Ok.ensures.looks.shape ∙ c.loop-from.invariant.looks.shape) (c.in-Ok.ensures.looks.ranges ∙ (c.loop-from.invariant.looks.same refl).ranges)) c.in-Ok-Some.ensures.costs));
+      steady = λ command. c.in-Ok-Some.ensures.steady refl command ∙ c.in-Ok.ensures.follows.reads.steady refl command ∙ c.loop-from.invariant.steady command;
+      keys = λ told.
+          let fewer = many_behind (g.K.KeyIndex.index.pairs (V c.args.pages.now.store).state.bytes c.args.root) c.loop-from.from c.as_slice-pairs.result.now
+          (subst (λ (l : List Pair). InTurn (g.K.KeyIndex.index.pairs (V c.args.pages.now.store).state.bytes c.args.root) c.loop-from.from l) (sym c.as_slice-pairs.ensures.value)
+          (subst (λ (s : State). InTurn (g.K.KeyIndex.index.pairs s.bytes c.args.root) c.loop-from.from c.in-Ok.pairs.items) ((c.loop-from.invariant.looks.same refl).still.state told)
+          (next_first (g.K.KeyIndex.index.pairs (V c.loop-from.pages.store).state.bytes c.args.root) c.loop-from.from c.in-Ok.pairs.items (omega (arith, eqb-false _ 0 (sym c.if-is_empty.ensures))) (c.in-Ok.ensures.next told)))) in
+          omega (arith, fewer, ap (λ (n : ℕ). many n (g.K.KeyIndex.index.pairs (V c.args.pages.now.store).state.bytes c.args.root)) all.0, c.loop-from.invariant.keys told, c.if-met-left.false);
       spoke = c.in-Ok-Some.ensures.hears.0;
       heard = c.in-Ok-Some.ensures.hears.1;
       looks = looks_next T E c.args.tid false (pages_of (V c.args.pages.now.store) c.args.pages.now) (pages_of (V c.next_pairs.new.pages.store) c.next_pairs.new.pages) (pages_of (V c.push_rows.new.pages.store) c.push_rows.new.pages) looked c.in-Ok-Some.ensures.looks;
@@ -210,3 +241,76 @@ pub returns-in-Err-push_rows-clause-hears : goal.returns-in-Err-push_rows-clause
 returns-in-Err-push_rows-clause-hears g c =
     subst (λ (s : Shape). HearsRows s c.push_rows.new.hearings.said (λ (done : Unit {0}). c.push_rows.new.rows) (Err c.in-Err-push_rows.fault)) (c.in-Ok.ensures.looks.shape ∙ c.loop-from.invariant.looks.shape)
     (rows_refused (g.S.EawStore.view c.next_pairs.new.pages.store).shape c.push_rows.new.hearings.said (λ (from : Option ℕ). c.push_rows.new.rows) (λ (done : Unit {0}). c.push_rows.new.rows) c.in-Err-push_rows.fault c.in-Err-push_rows.ensures.hears)
+
+-- more keys than slots
+pub page_of-page-requires : goal.page_of-page-requires
+page_of-page-requires g c =
+    let V = g.S.EawStore.view in
+    let inside = subst (λ (l : List Pair). AreInside c.loop-from.from (slots_of (V c.loop-from.pages.store).shape) l) (sym c.as_slice-pairs.ensures.value) c.in-Ok.ensures.inside in
+    let lt = slot_inside c.loop-from.from (slots_of (V c.loop-from.pages.store).shape) c.as_slice-pairs.result.now (length c.as_slice-pairs.result.now - 1) (omega arith) inside in
+    omega (arith, lt, ap slots_of c.in-Ok.ensures.looks.shape, ap slots_of c.in-Ok-Some.ensures.looks.shape)
+
+pub returns-then-met-left-clause-looks : goal.returns-then-met-left-clause-looks
+returns-then-met-left-clause-looks g c =
+    let V = g.S.EawStore.view in
+    let T = g.S.EawStore.tells in
+    let E = g.S.EawStore.opens in
+    looks_next T E c.args.tid false (pages_of (V c.args.pages.now.store) c.args.pages.now) (pages_of (V c.next_pairs.new.pages.store) c.next_pairs.new.pages) (pages_of (V c.push_rows.new.pages.store) c.push_rows.new.pages) (looks_next T E c.args.tid false (pages_of (V c.args.pages.now.store) c.args.pages.now) (pages_of (V c.loop-from.pages.store) c.loop-from.pages) (pages_of (V c.next_pairs.new.pages.store) c.next_pairs.new.pages) c.loop-from.invariant.looks (looks_as T (E (V c.loop-from.pages.store).shape) c.args.tid false (pages_of (V c.loop-from.pages.store) c.loop-from.pages) (pages_of (V c.next_pairs.new.pages.store) c.next_pairs.new.pages) c.in-Ok.ensures.looks)) c.in-Ok-Some.ensures.looks
+
+pub returns-then-met-left-clause-cause : goal.returns-then-met-left-clause-cause
+returns-then-met-left-clause-cause g c = λ told.
+    let V = g.S.EawStore.view in
+    let fewer = many_behind (g.K.KeyIndex.index.pairs (V c.args.pages.now.store).state.bytes c.args.root) c.loop-from.from c.as_slice-pairs.result.now
+    (subst (λ (l : List Pair). InTurn (g.K.KeyIndex.index.pairs (V c.args.pages.now.store).state.bytes c.args.root) c.loop-from.from l) (sym c.as_slice-pairs.ensures.value)
+    (subst (λ (s : State). InTurn (g.K.KeyIndex.index.pairs s.bytes c.args.root) c.loop-from.from c.in-Ok.pairs.items) ((c.loop-from.invariant.looks.same refl).still.state told)
+    (next_first (g.K.KeyIndex.index.pairs (V c.loop-from.pages.store).state.bytes c.args.root) c.loop-from.from c.in-Ok.pairs.items (omega (arith, eqb-false _ 0 (sym c.if-is_empty.ensures))) (c.in-Ok.ensures.next told)))) in
+    omega (arith, fewer, c.loop-from.invariant.keys told, c.if-met-left.true)
+
+pub returns-then-met-left-clause-hears : goal.returns-then-met-left-clause-hears
+returns-then-met-left-clause-hears g c =
+    let shape = c.in-Ok-Some.ensures.looks.shape ∙ c.in-Ok.ensures.looks.shape ∙ c.loop-from.invariant.looks.shape in
+    (subst (λ (s : Shape). c.page_of-page.result < page_count s) shape c.page_of-page.ensures.inside, inr c.in-Ok-Some.ensures.hears.0)
+
+pub returns-clause-walks : goal.returns-clause-walks
+returns-clause-walks g c =
+    let V = g.S.EawStore.view in
+    walk_ends g.K.KeyIndex.index c.args.root (g.S.EawStore.calls c.args.pages.now.store) (row_cost (g.S.EawStore.calls c.args.pages.now.store) c.args.tid (V c.args.pages.now.store)) (V c.args.pages.now.store).shape false (length c.loop-from.hearings.said) (V c.args.pages.now.store).moment (V c.loop-from.pages.store).moment c.loop-from.hearings.said (omega (arith, c.loop-from.invariant.left)) (omega (arith, c.loop-from.invariant.left))
+    (c.loop-from.invariant.walking)
+
+pub returns-then-is_empty-clause-walks : goal.returns-then-is_empty-clause-walks
+returns-then-is_empty-clause-walks g c =
+    let V = g.S.EawStore.view in
+    walk_ends g.K.KeyIndex.index c.args.root (g.S.EawStore.calls c.args.pages.now.store) (row_cost (g.S.EawStore.calls c.args.pages.now.store) c.args.tid (V c.args.pages.now.store)) (V c.args.pages.now.store).shape false (length c.loop-from.hearings.said + 1) (V c.args.pages.now.store).moment (V c.next_pairs.new.pages.store).moment c.loop-from.hearings.said (omega (arith, c.loop-from.invariant.left)) (omega (arith, c.loop-from.invariant.left))
+    (walk_looks g.K.KeyIndex.index c.args.root (g.S.EawStore.calls c.args.pages.now.store) (row_cost (g.S.EawStore.calls c.args.pages.now.store) c.args.tid (V c.args.pages.now.store)) (V c.args.pages.now.store).shape g.S.EawStore.tells (g.S.EawStore.calls c.loop-from.pages.store) (g.S.EawStore.calls c.next_pairs.new.pages.store) (length c.loop-from.hearings.said) (V c.args.pages.now.store).moment c.loop-from.from c.loop-from.hearings.said _ (V c.loop-from.pages.store) (V c.next_pairs.new.pages.store) _ c.loop-from.invariant.walking c.loop-from.invariant.steady c.loop-from.invariant.looks.shape c.in-Ok.ensures.follows)
+
+pub returns-in-Err-clause-walks : goal.returns-in-Err-clause-walks
+returns-in-Err-clause-walks g c =
+    let V = g.S.EawStore.view in
+    let A = λ (b : Bool). Walked g.K.KeyIndex.index c.args.root (g.S.EawStore.calls c.args.pages.now.store) (row_cost (g.S.EawStore.calls c.args.pages.now.store) c.args.tid (V c.args.pages.now.store)) (V c.args.pages.now.store).shape b (V c.args.pages.now.store).moment (V c.next_pairs.new.pages.store).moment c.loop-from.hearings.said in
+    subst (λ (e : TableFault). A (let r : Result (Unit {0}) TableFault = Err e in answers.is_failed r)) (sym c.from.ensures)
+    (subst A (sym (failed_told c.in-Err.fault)) (walk_ends g.K.KeyIndex.index c.args.root (g.S.EawStore.calls c.args.pages.now.store) (row_cost (g.S.EawStore.calls c.args.pages.now.store) c.args.tid (V c.args.pages.now.store)) (V c.args.pages.now.store).shape _ (length c.loop-from.hearings.said + 1) (V c.args.pages.now.store).moment (V c.next_pairs.new.pages.store).moment c.loop-from.hearings.said (omega (arith, c.loop-from.invariant.left)) (omega (arith, c.loop-from.invariant.left))
+    (walk_looks g.K.KeyIndex.index c.args.root (g.S.EawStore.calls c.args.pages.now.store) (row_cost (g.S.EawStore.calls c.args.pages.now.store) c.args.tid (V c.args.pages.now.store)) (V c.args.pages.now.store).shape g.S.EawStore.tells (g.S.EawStore.calls c.loop-from.pages.store) (g.S.EawStore.calls c.next_pairs.new.pages.store) (length c.loop-from.hearings.said) (V c.args.pages.now.store).moment c.loop-from.from c.loop-from.hearings.said _ (V c.loop-from.pages.store) (V c.next_pairs.new.pages.store) _ c.loop-from.invariant.walking c.loop-from.invariant.steady c.loop-from.invariant.looks.shape c.in-Err.ensures.follows)))
+
+pub returns-in-Ok-None-clause-walks : goal.returns-in-Ok-None-clause-walks
+returns-in-Ok-None-clause-walks g c =
+    let V = g.S.EawStore.view in
+    walk_ends g.K.KeyIndex.index c.args.root (g.S.EawStore.calls c.args.pages.now.store) (row_cost (g.S.EawStore.calls c.args.pages.now.store) c.args.tid (V c.args.pages.now.store)) (V c.args.pages.now.store).shape false (length c.loop-from.hearings.said + 1) (V c.args.pages.now.store).moment (V c.push_rows.new.pages.store).moment c.push_rows.new.hearings.said (omega (arith, c.loop-from.invariant.left)) (omega (arith, c.in-Ok-None.ensures.few, c.loop-from.invariant.left))
+    (walk_hears g.K.KeyIndex.index c.args.root (g.S.EawStore.calls c.args.pages.now.store) (row_cost (g.S.EawStore.calls c.args.pages.now.store) c.args.tid (V c.args.pages.now.store)) (V c.args.pages.now.store).shape false (length c.loop-from.hearings.said + 1) (V c.args.pages.now.store).moment (V c.next_pairs.new.pages.store).moment (V c.push_rows.new.pages.store).moment c.loop-from.hearings.said c.push_rows.new.hearings.said
+    (walk_looks g.K.KeyIndex.index c.args.root (g.S.EawStore.calls c.args.pages.now.store) (row_cost (g.S.EawStore.calls c.args.pages.now.store) c.args.tid (V c.args.pages.now.store)) (V c.args.pages.now.store).shape g.S.EawStore.tells (g.S.EawStore.calls c.loop-from.pages.store) (g.S.EawStore.calls c.next_pairs.new.pages.store) (length c.loop-from.hearings.said) (V c.args.pages.now.store).moment c.loop-from.from c.loop-from.hearings.said _ (V c.loop-from.pages.store) (V c.next_pairs.new.pages.store) _ c.loop-from.invariant.walking c.loop-from.invariant.steady c.loop-from.invariant.looks.shape c.in-Ok.ensures.follows)
+    (paid_same _ (row_cost (g.S.EawStore.calls c.next_pairs.new.pages.store) c.args.tid (V c.next_pairs.new.pages.store)) (row_cost (g.S.EawStore.calls c.args.pages.now.store) c.args.tid (V c.args.pages.now.store)) _ _ c.loop-from.hearings.said c.push_rows.new.hearings.said (row_same (g.S.EawStore.calls c.next_pairs.new.pages.store) (g.S.EawStore.calls c.args.pages.now.store) c.args.tid (V c.next_pairs.new.pages.store) (V c.args.pages.now.store) (λ command. c.in-Ok.ensures.follows.reads.steady refl command ∙ c.loop-from.invariant.steady command) (c.in-Ok.ensures.looks.shape ∙ c.loop-from.invariant.looks.shape) (c.in-Ok.ensures.looks.ranges ∙ (c.loop-from.invariant.looks.same refl).ranges)) c.in-Ok-None.ensures.costs))
+
+pub returns-in-Err-push_rows-clause-walks : goal.returns-in-Err-push_rows-clause-walks
+returns-in-Err-push_rows-clause-walks g c =
+    let V = g.S.EawStore.view in
+    walk_ends g.K.KeyIndex.index c.args.root (g.S.EawStore.calls c.args.pages.now.store) (row_cost (g.S.EawStore.calls c.args.pages.now.store) c.args.tid (V c.args.pages.now.store)) (V c.args.pages.now.store).shape _ (length c.loop-from.hearings.said + 1) (V c.args.pages.now.store).moment (V c.push_rows.new.pages.store).moment c.push_rows.new.hearings.said (omega (arith, c.loop-from.invariant.left)) (omega (arith, c.in-Err-push_rows.ensures.few, c.loop-from.invariant.left))
+    (walk_hears g.K.KeyIndex.index c.args.root (g.S.EawStore.calls c.args.pages.now.store) (row_cost (g.S.EawStore.calls c.args.pages.now.store) c.args.tid (V c.args.pages.now.store)) (V c.args.pages.now.store).shape _ (length c.loop-from.hearings.said + 1) (V c.args.pages.now.store).moment (V c.next_pairs.new.pages.store).moment (V c.push_rows.new.pages.store).moment c.loop-from.hearings.said c.push_rows.new.hearings.said
+    (walk_looks g.K.KeyIndex.index c.args.root (g.S.EawStore.calls c.args.pages.now.store) (row_cost (g.S.EawStore.calls c.args.pages.now.store) c.args.tid (V c.args.pages.now.store)) (V c.args.pages.now.store).shape g.S.EawStore.tells (g.S.EawStore.calls c.loop-from.pages.store) (g.S.EawStore.calls c.next_pairs.new.pages.store) (length c.loop-from.hearings.said) (V c.args.pages.now.store).moment c.loop-from.from c.loop-from.hearings.said _ (V c.loop-from.pages.store) (V c.next_pairs.new.pages.store) _ c.loop-from.invariant.walking c.loop-from.invariant.steady c.loop-from.invariant.looks.shape c.in-Ok.ensures.follows)
+    (paid_same _ (row_cost (g.S.EawStore.calls c.next_pairs.new.pages.store) c.args.tid (V c.next_pairs.new.pages.store)) (row_cost (g.S.EawStore.calls c.args.pages.now.store) c.args.tid (V c.args.pages.now.store)) _ _ c.loop-from.hearings.said c.push_rows.new.hearings.said (row_same (g.S.EawStore.calls c.next_pairs.new.pages.store) (g.S.EawStore.calls c.args.pages.now.store) c.args.tid (V c.next_pairs.new.pages.store) (V c.args.pages.now.store) (λ command. c.in-Ok.ensures.follows.reads.steady refl command ∙ c.loop-from.invariant.steady command) (c.in-Ok.ensures.looks.shape ∙ c.loop-from.invariant.looks.shape) (c.in-Ok.ensures.looks.ranges ∙ (c.loop-from.invariant.looks.same refl).ranges)) c.in-Err-push_rows.ensures.costs))
+
+pub returns-then-met-left-clause-walks : goal.returns-then-met-left-clause-walks
+returns-then-met-left-clause-walks g c =
+    let V = g.S.EawStore.view in
+    walk_ends g.K.KeyIndex.index c.args.root (g.S.EawStore.calls c.args.pages.now.store) (row_cost (g.S.EawStore.calls c.args.pages.now.store) c.args.tid (V c.args.pages.now.store)) (V c.args.pages.now.store).shape false (length c.loop-from.hearings.said + 1) (V c.args.pages.now.store).moment (V c.push_rows.new.pages.store).moment c.push_rows.new.hearings.said (omega (arith, c.loop-from.invariant.left)) (omega (arith, c.in-Ok-Some.ensures.few, c.loop-from.invariant.left))
+    (walk_hears g.K.KeyIndex.index c.args.root (g.S.EawStore.calls c.args.pages.now.store) (row_cost (g.S.EawStore.calls c.args.pages.now.store) c.args.tid (V c.args.pages.now.store)) (V c.args.pages.now.store).shape false (length c.loop-from.hearings.said + 1) (V c.args.pages.now.store).moment (V c.next_pairs.new.pages.store).moment (V c.push_rows.new.pages.store).moment c.loop-from.hearings.said c.push_rows.new.hearings.said
+    (walk_looks g.K.KeyIndex.index c.args.root (g.S.EawStore.calls c.args.pages.now.store) (row_cost (g.S.EawStore.calls c.args.pages.now.store) c.args.tid (V c.args.pages.now.store)) (V c.args.pages.now.store).shape g.S.EawStore.tells (g.S.EawStore.calls c.loop-from.pages.store) (g.S.EawStore.calls c.next_pairs.new.pages.store) (length c.loop-from.hearings.said) (V c.args.pages.now.store).moment c.loop-from.from c.loop-from.hearings.said _ (V c.loop-from.pages.store) (V c.next_pairs.new.pages.store) _ c.loop-from.invariant.walking c.loop-from.invariant.steady c.loop-from.invariant.looks.shape c.in-Ok.ensures.follows)
+    (paid_same _ (row_cost (g.S.EawStore.calls c.next_pairs.new.pages.store) c.args.tid (V c.next_pairs.new.pages.store)) (row_cost (g.S.EawStore.calls c.args.pages.now.store) c.args.tid (V c.args.pages.now.store)) _ _ c.loop-from.hearings.said c.push_rows.new.hearings.said (row_same (g.S.EawStore.calls c.next_pairs.new.pages.store) (g.S.EawStore.calls c.args.pages.now.store) c.args.tid (V c.next_pairs.new.pages.store) (V c.args.pages.now.store) (λ command. c.in-Ok.ensures.follows.reads.steady refl command ∙ c.loop-from.invariant.steady command) (c.in-Ok.ensures.looks.shape ∙ c.loop-from.invariant.looks.shape) (c.in-Ok.ensures.looks.ranges ∙ (c.loop-from.invariant.looks.same refl).ranges)) c.in-Ok-Some.ensures.costs))

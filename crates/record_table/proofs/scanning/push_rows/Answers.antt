@@ -22,7 +22,12 @@ use Rattle.record_table.proofs.Gathering.{follows_above, follows_past, last_row,
 use Rattle.record_table.proofs.Moving.{moved_by_look, rests_moved}
 use Rattle.record_table.proofs.Sharing.{Laws}
 use Rattle.record_table.specs.Hearing.{HearsRows}
-use Rattle.record_table.proofs.Hearing.{next_spoke, next_rows, next_refused}
+use Rattle.record_table.specs.Walked.{behind}
+use Rattle.record_table.specs.Walked.{ArePaid, AreSteady}
+use Rattle.record_table.specs.Seeks.{row_cost}
+use Rattle.record_table.proofs.Counting.{behind_at, behind_all}
+use Rattle.record_table.proofs.Walking.{paid_then, row_same}
+use Rattle.record_table.proofs.Hearing.{next_met, refused_met, next_spoke, next_rows, next_refused}
 use Rattle.record_table.proofs.scanning.push_rows.Goals as goal
 
 pub loop-pair-init : goal.loop-pair-init
@@ -33,6 +38,11 @@ loop-pair-init g c = record {
   low = omega arith;
   later = λ some. absurd (omega arith);
   high = c.requires.order;
+  index = omega arith;
+  met = omega arith;
+  ends = refl;
+  paid = refl;
+  steady = λ command. refl;
   spoke = c.requires.spoke;
   heard = c.requires.heard;
   rows = λ told name called. refl;
@@ -91,6 +101,17 @@ loop-pair-preserved g c =
       low = omega (arith, c.loop-pair.invariant.low, here.0, key);
       later = λ some. omega (arith, c.loop-pair.invariant.low, here.0, key);
       high = omega (arith, c.in-Ok.ensures.key, c.if-row-span.false, c.if-pair-span.false);
+      index = omega (arith, c.loop-pair-test.true);
+      met = omega (arith, next_met v1.store.shape (get_or c.args.pairs.now i (0, 0)) c.loop-pair.hearings.said c.read_row.new.hearings.said c.in-Ok.row c.in-Ok.ensures.hears, c.loop-pair.invariant.met);
+      ends =
+          subst (λ (n : ℕ). behind n (drop (c.loop-pair.pair-index + 1) c.args.pairs.now) ≡ behind c.args.span.low c.args.pairs.now) key
+          (subst (λ (j : ℕ). behind (suc (get_or c.args.pairs.now c.loop-pair.pair-index (0, 0)).0) (drop j c.args.pairs.now) ≡ behind c.args.span.low c.args.pairs.now) on
+          (sym (behind_at c.loop-pair.from c.args.pairs.now c.loop-pair.pair-index c.loop-pair-test.true) ∙ c.loop-pair.invariant.ends));
+      paid = paid_then false (row_cost (g.S.EawStore.calls c.loop-pair.pages.store) c.args.tid (V c.loop-pair.pages.store)) (row_cost (g.S.EawStore.calls c.args.pages.now.store) c.args.tid (V c.args.pages.now.store))
+          (V c.args.pages.now.store).moment (V c.loop-pair.pages.store).moment (V c.read_row.new.pages.store).moment c.args.hearings.now.said c.loop-pair.hearings.said c.read_row.new.hearings.said c.loop-pair.invariant.paid
+          (row_same (g.S.EawStore.calls c.loop-pair.pages.store) (g.S.EawStore.calls c.args.pages.now.store) c.args.tid (V c.loop-pair.pages.store) (V c.args.pages.now.store) c.loop-pair.invariant.steady c.loop-pair.invariant.looks.shape (c.loop-pair.invariant.looks.same refl).ranges)
+          c.in-Ok.ensures.costs refl;
+      steady = λ command. c.in-Ok.ensures.steady refl command ∙ c.loop-pair.invariant.steady command;
       spoke = next_spoke v1.store.shape (get_or c.args.pairs.now i (0, 0)) c.loop-pair.hearings.said c.read_row.new.hearings.said c.in-Ok.row c.in-Ok.ensures.hears c.loop-pair.invariant.spoke;
       heard = next_rows v1.store.shape (get_or c.args.pairs.now i (0, 0)) c.loop-pair.hearings.said c.read_row.new.hearings.said c.in-Ok.row c.loop-pair.rows c.push_row.new.rows c.in-Ok.ensures.hears c.loop-pair.invariant.heard c.in-Ok-push_row.ensures;
       rows = λ told name called.
@@ -195,3 +216,76 @@ returns-then-row-span-clause-hears g c =
 
 pub returns-clause-hears : goal.returns-clause-hears
 returns-clause-hears g c = (c.loop-pair.invariant.spoke, c.loop-pair.invariant.heard)
+
+pub returns-clause-all : goal.returns-clause-all
+returns-clause-all g c =
+    let ends = sym (behind_all c.loop-pair.from c.args.pairs.now c.loop-pair.pair-index (omega (arith, c.loop-pair-test.false))) ∙ c.loop-pair.invariant.ends in
+    (ends, omega (arith, c.loop-pair.invariant.met, c.loop-pair.invariant.index, c.loop-pair-test.false))
+
+pub returns-clause-few : goal.returns-clause-few
+returns-clause-few g c = omega (arith, c.loop-pair.invariant.met, c.loop-pair.invariant.index)
+
+pub returns-then-pair-span-clause-few : goal.returns-then-pair-span-clause-few
+returns-then-pair-span-clause-few g c = omega (arith, c.loop-pair.invariant.met, c.loop-pair.invariant.index)
+
+pub returns-then-row-span-clause-few : goal.returns-then-row-span-clause-few
+returns-then-row-span-clause-few g c =
+    omega (arith, next_met (g.S.EawStore.view c.loop-pair.pages.store).shape (get_or c.args.pairs.now c.loop-pair.pair-index (0, 0)) c.loop-pair.hearings.said c.read_row.new.hearings.said c.in-Ok.row c.in-Ok.ensures.hears, c.loop-pair.invariant.met, c.loop-pair-test.true)
+
+pub returns-in-Err-push_row-clause-few : goal.returns-in-Err-push_row-clause-few
+returns-in-Err-push_row-clause-few g c =
+    omega (arith, next_met (g.S.EawStore.view c.loop-pair.pages.store).shape (get_or c.args.pairs.now c.loop-pair.pair-index (0, 0)) c.loop-pair.hearings.said c.read_row.new.hearings.said c.in-Ok.row c.in-Ok.ensures.hears, c.loop-pair.invariant.met, c.loop-pair-test.true)
+
+pub returns-in-Err-clause-few : goal.returns-in-Err-clause-few
+returns-in-Err-clause-few g c =
+    omega (arith, refused_met (g.S.EawStore.view c.loop-pair.pages.store).shape (get_or c.args.pairs.now c.loop-pair.pair-index (0, 0)) c.loop-pair.hearings.said c.read_row.new.hearings.said c.in-Err.fault c.in-Err.ensures.hears, c.loop-pair.invariant.met, c.loop-pair-test.true)
+
+pub returns-clause-costs : goal.returns-clause-costs
+returns-clause-costs g c = λ well. c.loop-pair.invariant.paid
+
+pub returns-then-pair-span-clause-costs : goal.returns-then-pair-span-clause-costs
+returns-then-pair-span-clause-costs g c = λ well. c.loop-pair.invariant.paid
+
+pub returns-then-row-span-clause-costs : goal.returns-then-row-span-clause-costs
+returns-then-row-span-clause-costs g c =
+    let V = g.S.EawStore.view in
+    paid_then false (row_cost (g.S.EawStore.calls c.loop-pair.pages.store) c.args.tid (V c.loop-pair.pages.store)) (row_cost (g.S.EawStore.calls c.args.pages.now.store) c.args.tid (V c.args.pages.now.store))
+    (V c.args.pages.now.store).moment (V c.loop-pair.pages.store).moment (V c.read_row.new.pages.store).moment c.args.hearings.now.said c.loop-pair.hearings.said c.read_row.new.hearings.said c.loop-pair.invariant.paid
+    (row_same (g.S.EawStore.calls c.loop-pair.pages.store) (g.S.EawStore.calls c.args.pages.now.store) c.args.tid (V c.loop-pair.pages.store) (V c.args.pages.now.store) c.loop-pair.invariant.steady c.loop-pair.invariant.looks.shape (c.loop-pair.invariant.looks.same refl).ranges)
+    c.in-Ok.ensures.costs
+
+pub returns-in-Err-push_row-clause-costs : goal.returns-in-Err-push_row-clause-costs
+returns-in-Err-push_row-clause-costs g c =
+    let V = g.S.EawStore.view in
+    paid_then false (row_cost (g.S.EawStore.calls c.loop-pair.pages.store) c.args.tid (V c.loop-pair.pages.store)) (row_cost (g.S.EawStore.calls c.args.pages.now.store) c.args.tid (V c.args.pages.now.store))
+    (V c.args.pages.now.store).moment (V c.loop-pair.pages.store).moment (V c.read_row.new.pages.store).moment c.args.hearings.now.said c.loop-pair.hearings.said c.read_row.new.hearings.said c.loop-pair.invariant.paid
+    (row_same (g.S.EawStore.calls c.loop-pair.pages.store) (g.S.EawStore.calls c.args.pages.now.store) c.args.tid (V c.loop-pair.pages.store) (V c.args.pages.now.store) c.loop-pair.invariant.steady c.loop-pair.invariant.looks.shape (c.loop-pair.invariant.looks.same refl).ranges)
+    c.in-Ok.ensures.costs
+
+pub returns-in-Err-clause-costs : goal.returns-in-Err-clause-costs
+returns-in-Err-clause-costs g c =
+    let V = g.S.EawStore.view in
+    let A = λ (b : Bool). ArePaid b (row_cost (g.S.EawStore.calls c.args.pages.now.store) c.args.tid (V c.args.pages.now.store)) (V c.args.pages.now.store).moment (V c.read_row.new.pages.store).moment c.args.hearings.now.said c.read_row.new.hearings.said in
+    subst (λ (e : TableFault). A (let r : Result (Option ℕ) TableFault = Err e in answers.is_failed r)) (sym c.from.ensures)
+    (subst A (sym (failed_told c.in-Err.fault)) (paid_then _ (row_cost (g.S.EawStore.calls c.loop-pair.pages.store) c.args.tid (V c.loop-pair.pages.store)) (row_cost (g.S.EawStore.calls c.args.pages.now.store) c.args.tid (V c.args.pages.now.store))
+    (V c.args.pages.now.store).moment (V c.loop-pair.pages.store).moment (V c.read_row.new.pages.store).moment c.args.hearings.now.said c.loop-pair.hearings.said c.read_row.new.hearings.said c.loop-pair.invariant.paid
+    (row_same (g.S.EawStore.calls c.loop-pair.pages.store) (g.S.EawStore.calls c.args.pages.now.store) c.args.tid (V c.loop-pair.pages.store) (V c.args.pages.now.store) c.loop-pair.invariant.steady c.loop-pair.invariant.looks.shape (c.loop-pair.invariant.looks.same refl).ranges)
+    c.in-Err.ensures.costs))
+
+pub returns-clause-steady : goal.returns-clause-steady
+returns-clause-steady g c = λ well. c.loop-pair.invariant.steady
+
+pub returns-then-pair-span-clause-steady : goal.returns-then-pair-span-clause-steady
+returns-then-pair-span-clause-steady g c = λ well. c.loop-pair.invariant.steady
+
+pub returns-then-row-span-clause-steady : goal.returns-then-row-span-clause-steady
+returns-then-row-span-clause-steady g c = λ well command. c.in-Ok.ensures.steady refl command ∙ c.loop-pair.invariant.steady command
+
+pub returns-in-Err-push_row-clause-steady : goal.returns-in-Err-push_row-clause-steady
+returns-in-Err-push_row-clause-steady g c = λ well command. c.in-Ok.ensures.steady refl command ∙ c.loop-pair.invariant.steady command
+
+pub returns-in-Err-clause-steady : goal.returns-in-Err-clause-steady
+returns-in-Err-clause-steady g c =
+    let A = λ (b : Bool). AreSteady b (g.S.EawStore.calls c.args.pages.now.store) (g.S.EawStore.calls c.read_row.new.pages.store) in
+    subst (λ (e : TableFault). A (let r : Result (Option ℕ) TableFault = Err e in answers.is_failed r)) (sym c.from.ensures)
+    (subst A (sym (failed_told c.in-Err.fault)) (λ well command. c.in-Err.ensures.steady well command ∙ c.loop-pair.invariant.steady command))

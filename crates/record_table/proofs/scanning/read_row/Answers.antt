@@ -11,6 +11,8 @@ use Rattle.page_store.specs.declared.fault.PageFault.{PageFault}
 use Rattle.page_store.specs.declared.fault.PageFault.TheVariants.{Damaged}
 use Rattle.record_table.specs.declared.scanning.Next.{Next}
 use Rattle.record_table.proofs.Hearing.{next_failed, next_heard, next_silent}
+use Rattle.record_table.specs.Seeks.{row_cost}
+use Rattle.record_table.proofs.Walking.{not_refused, paid_one}
 use Rattle.record_table.proofs.scanning.read_row.Goals as goal
 
 pub returns-in-Ok-heard-clause-follows : goal.returns-in-Ok-heard-clause-follows
@@ -49,8 +51,32 @@ pub returns-in-Err-clause-hears : goal.returns-in-Err-clause-hears
 returns-in-Err-clause-hears g c = next_failed (g.S.EawStore.view c.args.pages.now.store).shape c.args.pair c.args.hearings.now.said c.in-Err.fault c.in-Err.ensures.faults
 
 pub returns-in-Ok-heard-clause-hears : goal.returns-in-Ok-heard-clause-hears
-returns-in-Ok-heard-clause-hears g c = next_heard (g.S.EawStore.view c.args.pages.now.store).shape c.args.pair c.args.hearings.now.said c.heard.new.hearings.said c.in-Ok.said c.in-Ok-heard.said _ c.in-Ok-heard.ensures.slot c.in-Ok-heard.ensures.hears refl c.value_in.ensures
+returns-in-Ok-heard-clause-hears g c = next_heard (g.S.EawStore.view c.args.pages.now.store).shape c.args.pair c.args.hearings.now.said c.heard.new.hearings.said c.in-Ok.said c.in-Ok-heard.said (record { key = c.args.pair.0; slot = c.args.pair.1; value = c.value_in.result }) c.in-Ok-heard.ensures.slot c.in-Ok-heard.ensures.hears refl c.value_in.ensures
 
 pub returns-in-Err-heard-clause-hears : goal.returns-in-Err-heard-clause-hears
 returns-in-Err-heard-clause-hears g c =
     next_silent (g.S.EawStore.view c.args.pages.now.store).shape c.args.pair c.args.hearings.now.said c.heard.new.hearings.said c.in-Ok.said c.in-Err-heard.fault c.page_of-page.result c.in-Err-heard.ensures.none.0 c.in-Err-heard.ensures.none.1 c.in-Err-heard.ensures.hears c.page_of-page.ensures.page
+
+pub returns-in-Ok-heard-clause-costs : goal.returns-in-Ok-heard-clause-costs
+returns-in-Ok-heard-clause-costs g c = λ well.
+    let V = g.S.EawStore.view in
+    paid_one (row_cost (g.S.EawStore.calls c.args.pages.now.store) c.args.tid (V c.args.pages.now.store)) _ _ c.args.pair.1 c.args.hearings.now.said c.heard.new.hearings.said _ (c.in-Ok.ensures.costs.done refl) c.in-Ok-heard.ensures.hears refl
+
+pub returns-in-Err-heard-clause-costs : goal.returns-in-Err-heard-clause-costs
+returns-in-Err-heard-clause-costs g c = λ well.
+    let V = g.S.EawStore.view in
+    paid_one (row_cost (g.S.EawStore.calls c.args.pages.now.store) c.args.tid (V c.args.pages.now.store)) _ _ c.args.pair.1 c.args.hearings.now.said c.heard.new.hearings.said _ (c.in-Ok.ensures.costs.done refl) c.in-Err-heard.ensures.hears refl
+
+pub returns-in-Err-clause-costs : goal.returns-in-Err-clause-costs
+returns-in-Err-clause-costs g c = λ well.
+    absurd (not_refused g.S.EawStore.tells (g.S.EawStore.view c.args.pages.now.store) c.in-Err.fault c.in-Err.ensures.faults c.in-Err.ensures.cause c.requires.alive well)
+
+pub returns-in-Ok-heard-clause-steady : goal.returns-in-Ok-heard-clause-steady
+returns-in-Ok-heard-clause-steady g c = λ well. c.in-Ok.ensures.steady
+
+pub returns-in-Err-heard-clause-steady : goal.returns-in-Err-heard-clause-steady
+returns-in-Err-heard-clause-steady g c = λ well. c.in-Ok.ensures.steady
+
+pub returns-in-Err-clause-steady : goal.returns-in-Err-clause-steady
+returns-in-Err-clause-steady g c = λ well.
+    absurd (not_refused g.S.EawStore.tells (g.S.EawStore.view c.args.pages.now.store) c.in-Err.fault c.in-Err.ensures.faults c.in-Err.ensures.cause c.requires.alive well)

@@ -1,5 +1,8 @@
 use Rattle.index_pages.proofs.Looking.{looks_none}
-use Rattle.std.proofs.Common.{List, [], ℕ, Option, Result, subst, sym}
+use Rattle.std.proofs.Common.{List, [], ℕ, Bool, Option, Result, subst, sym, arith}
+use Rattle.record_table.specs.Does as answers
+use Rattle.record_table.specs.Walked.{Walked, data_cost}
+use Rattle.record_table.proofs.Walking.{told_failed}
 use Rattle.record_table.specs.Names.{name_at}
 use Rattle.record_table.proofs.Sharing.{called_below}
 use Rattle.record_table.proofs.Rooted.{rooted_as, inside_as, called_inside}
@@ -44,7 +47,12 @@ returns-clause-hears g c =
     let V = g.S.EawStore.view in (
       c.next_absent.new.hearings.said,
       rw c.told.ensures (subst (λ (p : Shown g.row.S.Denot). HearsAbsent (V p.store).shape c.next_absent.new.hearings.said (told_as c.next_absent.result)) c.self.view_is c.next_absent.ensures.hears),
+      c.of_table-root.result,
+      rw c.told.ensures (
+          subst (λ (p : Shown g.row.S.Denot). Walked g.K.KeyIndex.index c.of_table-root.result (g.S.EawStore.calls p.store) (data_cost (g.S.EawStore.calls p.store) (V p.store).shape) (V p.store).shape (answers.is_failed (told_as c.next_absent.result)) (V p.store).moment (V c.next_absent.new.pages.store).moment c.next_absent.new.hearings.said) c.self.view_is
+          (subst (λ (failed : Bool). Walked g.K.KeyIndex.index c.of_table-root.result (g.S.EawStore.calls c.self.inside.pages.store) (data_cost (g.S.EawStore.calls c.self.inside.pages.store) (V c.self.inside.pages.store).shape) (V c.self.inside.pages.store).shape failed (V c.self.inside.pages.store).moment (V c.next_absent.new.pages.store).moment c.next_absent.new.hearings.said) (sym (told_failed c.next_absent.result)) c.next_absent.ensures.walks)
+          ),
     )
 
 pub returns-then-is_dead-clause-hears : goal.returns-then-is_dead-clause-hears
-returns-then-is_dead-clause-hears g c = let none : List Hearing = [] in (none, tt)
+returns-then-is_dead-clause-hears g c = let none : List Hearing = [] in (none, tt, 0, record { looks = []; are = tt; few = omega arith; few_heard = omega arith; exact = λ well. omega arith })

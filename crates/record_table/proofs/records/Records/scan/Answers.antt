@@ -2,7 +2,11 @@ use Rattle.std.proofs.Common.{List, [], true, refl, subst}
 use Rattle.page_store.specs.Shown.{Shown}
 use Rattle.record_table.proofs.Doing.{does_dead}
 use Rattle.record_table.proofs.Looking.{looks_none}
-use Rattle.std.proofs.Common.{◌≡◌, sym, ◌∙◌, ap}
+use Rattle.std.proofs.Common.{◌≡◌, Bool, sym, ◌∙◌, ap, arith}
+use Rattle.record_table.specs.Does as answers
+use Rattle.record_table.specs.Seeks.{row_cost}
+use Rattle.record_table.specs.Walked.{Walked}
+use Rattle.record_table.proofs.Walking.{scanned_failed}
 use Rattle.record_table.specs.Names.{name_at}
 use Rattle.record_table.proofs.Sharing.{called_below}
 use Rattle.record_table.proofs.Rooted.{rooted_as, inside_as, called_inside}
@@ -79,7 +83,10 @@ returns-clause-hears g c =
       c.gather.new.hearings.said,
       subst (λ (p : Shown g.row.S.Denot). HearsRows (V p.store).shape c.gather.new.hearings.said (λ (rows : List Row). rows) (scanned_as c.gather.new.rows c.gather.result)) c.self.view_is
           (rows_given (V c.self.inside.pages.store).shape c.gather.new.hearings.said c.gather.new.rows c.gather.result c.gather.ensures.hears),
+      c.of_table-root.result,
+      subst (λ (p : Shown g.row.S.Denot). Walked g.K.KeyIndex.index c.of_table-root.result (g.S.EawStore.calls p.store) (row_cost (g.S.EawStore.calls p.store) c.args.tid (V p.store)) (V p.store).shape (answers.is_failed (scanned_as c.gather.new.rows c.gather.result)) (V p.store).moment (V c.gather.new.pages.store).moment c.gather.new.hearings.said) c.self.view_is
+          (subst (λ (failed : Bool). Walked g.K.KeyIndex.index c.of_table-root.result (g.S.EawStore.calls c.self.inside.pages.store) (row_cost (g.S.EawStore.calls c.self.inside.pages.store) c.args.tid (V c.self.inside.pages.store)) (V c.self.inside.pages.store).shape failed (V c.self.inside.pages.store).moment (V c.gather.new.pages.store).moment c.gather.new.hearings.said) (sym (scanned_failed c.gather.new.rows c.gather.result)) c.gather.ensures.walks),
     )
 
 pub returns-then-is_dead-clause-hears : goal.returns-then-is_dead-clause-hears
-returns-then-is_dead-clause-hears g c = let none : List Hearing = [] in (none, tt)
+returns-then-is_dead-clause-hears g c = let none : List Hearing = [] in (none, tt, 0, record { looks = []; are = tt; few = omega arith; few_heard = omega arith; exact = λ well. omega arith })
