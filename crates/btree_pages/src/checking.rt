@@ -24,11 +24,11 @@ ghost use Rattle.btree_laws.specs.Tree.{AreChildren, next_low, children_check, t
 use crate::page::read_node_head;
 use btree_laws::Root;
 use eaw_face::EawStore;
-use history::Rows;
 use index_pages::{
     HeldPage, LEVEL_MAX, PAGE_LEN, check_fault, check_lists, check_slot, check_super, fetch_page,
     read_pair,
 };
+use noted::{Keeper, NotedRows};
 use page_store::{CheckFault, Pages, TableRows};
 use record_slots::{Super, TABLES_MAX, table_root};
 use std::alloc::Global;
@@ -48,10 +48,10 @@ struct Spot {
 }
 
 // Tests the super page, the lists of what is free, and then the tree of each table by its number, and gathers the records.
-pub fn check<S: EawStore>(
+pub fn check<S: EawStore, H: Keeper>(
     alloc: Global,
     pages: &mut Pages<S>,
-    tables: &mut TableRows,
+    tables: &mut TableRows<H>,
 ) -> Result<(), CheckFault>
     ensures looks { Looks S.tells (S.opens (S.view pages.old.store).shape) (is_check_failed result)
         (pages_of (S.view pages.old.store) pages.old) (pages_of (S.view pages.new.store) pages.new) }
@@ -73,10 +73,10 @@ pub fn check<S: EawStore>(
 }
 
 // Tests the tree of each table by its number.
-fn check_tables<S: EawStore>(
+fn check_tables<S: EawStore, H: Keeper>(
     alloc: Global,
     pages: &mut Pages<S>,
-    tables: &mut TableRows,
+    tables: &mut TableRows<H>,
     front: &Super,
 ) -> Result<(), CheckFault>
     requires alive { IsAlive (S.view pages.old.store) }
@@ -99,7 +99,7 @@ fn check_tables<S: EawStore>(
         if page >= front.next_page {
             return Err(CheckFault::Damaged { page: 0 });
         }
-        let mut rows = Rows::new(alloc);
+        let mut rows = NotedRows::new(alloc);
         match check_tree(pages, &mut rows, front, Root { page, table }) {
             Ok(()) => {}
             Err(fault) => return Err(fault),
@@ -113,9 +113,9 @@ fn check_tables<S: EawStore>(
 }
 
 // Tests the pages of a tree from the root down, children from left to right.
-fn check_tree<S: EawStore>(
+fn check_tree<S: EawStore, H: Keeper>(
     pages: &mut Pages<S>,
-    rows: &mut Rows,
+    rows: &mut NotedRows<H>,
     front: &Super,
     root: Root,
 ) -> Result<(), CheckFault>
@@ -157,9 +157,9 @@ fn level_in(page: &[u8; PAGE_LEN]) -> u8
 
 // Reads a page of this level and tests it and all pages below it.
 #[cycle(under)]
-fn check_under<S: EawStore>(
+fn check_under<S: EawStore, H: Keeper>(
     pages: &mut Pages<S>,
-    rows: &mut Rows,
+    rows: &mut NotedRows<H>,
     front: &Super,
     root: Root,
     level: u8,
@@ -188,9 +188,9 @@ fn check_under<S: EawStore>(
 
 // Tests a page of this level that has been read and all pages below it.
 #[cycle(under)]
-fn check_page<S: EawStore>(
+fn check_page<S: EawStore, H: Keeper>(
     pages: &mut Pages<S>,
-    rows: &mut Rows,
+    rows: &mut NotedRows<H>,
     front: &Super,
     root: Root,
     level: u8,
@@ -241,9 +241,9 @@ fn check_page<S: EawStore>(
 
 // Tests the children of a page of this level, one after another.
 #[cycle(under)]
-fn check_children<S: EawStore>(
+fn check_children<S: EawStore, H: Keeper>(
     pages: &mut Pages<S>,
-    rows: &mut Rows,
+    rows: &mut NotedRows<H>,
     front: &Super,
     root: Root,
     level: u8,
@@ -383,9 +383,9 @@ fn are_named(bytes: &[u8; PAGE_LEN], count: u16, pages: u32) -> bool
 }
 
 // Tests the slots of a leaf, and gathers what they hold.
-fn check_slots<S: EawStore>(
+fn check_slots<S: EawStore, H: Keeper>(
     pages: &mut Pages<S>,
-    rows: &mut Rows,
+    rows: &mut NotedRows<H>,
     table: u8,
     page: u32,
     bytes: &[u8; PAGE_LEN],

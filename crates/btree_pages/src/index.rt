@@ -5,6 +5,7 @@ ghost use Rattle.btree_pages.specs.Index.{tree};
 use crate::{checking, insertion, look, removal};
 use btree_laws::Root;
 use eaw_face::EawStore;
+use noted::Keeper;
 use page_store::{
     CheckFault, IndexFault, KeyIndex, LeafPage, NextPairs, PageFault, Pages, Sought, TableRows,
 };
@@ -27,10 +28,10 @@ impl KeyIndex for BTreePages {
 
     ghost alone = { AreSoundTrees-prop };
 
-    fn check<S: EawStore>(
+    fn check<S: EawStore, H: Keeper>(
         alloc: Global,
         pages: &mut Pages<S>,
-        tables: &mut TableRows,
+        tables: &mut TableRows<H>,
     ) -> Result<(), CheckFault> {
         checking::check(alloc, pages, tables)
     }

@@ -18,8 +18,8 @@ use crate::fetch::{SLOTS_IN_PAGE, fetch_free_page, fetch_free_slot, index_page_c
 use crate::held::{HeldPage, fetch_held_slot};
 use crate::taking::ranked;
 use eaw_face::EawStore;
-use history::Rows;
 use mars_base::NoMemory;
+use noted::{Keeper, NotedRows};
 use page_store::{CheckFault, Pages};
 use record_slots::{Slot, Super};
 
@@ -28,10 +28,10 @@ use record_slots::{Slot, Super};
 ///
 /// If it is not given out, the pair's page is damaged. If it carries another key, or none, or is another table's, the slot's own page is.
 /// That page is read unless it is held, and is held then.
-pub fn check_slot<S: EawStore>(
+pub fn check_slot<S: EawStore, H: Keeper>(
     pages: &mut Pages<S>,
     held: &mut HeldPage,
-    rows: &mut Rows,
+    rows: &mut NotedRows<H>,
     table: u8,
     page: u32,
     pair: (u64, u64),
@@ -72,7 +72,11 @@ pub fn check_slot<S: EawStore>(
 }
 
 // Adds the record of a key if its slot holds one.
-fn push_record(rows: &mut Rows, key: u64, said: &Option<Slot>) -> Result<(), NoMemory>
+fn push_record<H: Keeper>(
+    rows: &mut NotedRows<H>,
+    key: u64,
+    said: &Option<Slot>,
+) -> Result<(), NoMemory>
     ensures { OnOk result (rows.new ≡ rows.old ++ row_at key (value_of said.now)) }
 {
     match said {

@@ -6,6 +6,7 @@ use anyhow::{Result, bail, ensure};
 use array_shape::Shape;
 use eaw_device::{Eaw, format};
 use eaw_face::EawStore;
+use noted::KeepsNothing;
 use page_store::{IndexFault, KeyIndex, NextPairs, PageFault, Pages, Sought, TableRows};
 use pcm_media::{FusedMedia, Media, MemoryMedia};
 use record_slots::main_super;
@@ -150,7 +151,7 @@ pub fn remove<K: KeyIndex, S: EawStore>(
 
 /// Tests the super page, the lists of what is free, and the indexes of all tables.
 pub fn check<K: KeyIndex, S: EawStore>(alloc: Global, array: &mut Pages<S>) -> Result<()> {
-    let mut rows = TableRows::new(alloc);
+    let mut rows = TableRows::<KeepsNothing>::new(alloc);
     Ok(K::check(alloc, array, &mut rows)?)
 }
 

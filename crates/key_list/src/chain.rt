@@ -7,6 +7,7 @@ ghost use Rattle.key_list.specs.Index.{chain};
 
 use crate::{checking, insertion, look, place, removal};
 use eaw_face::EawStore;
+use noted::Keeper;
 use page_store::{
     CheckFault, IndexFault, KeyIndex, LeafPage, NextPairs, PageFault, Pages, Sought, TableRows,
 };
@@ -26,10 +27,10 @@ impl KeyIndex for KeyList {
 
     ghost alone = { IsSoundChain-prop };
 
-    fn check<S: EawStore>(
+    fn check<S: EawStore, H: Keeper>(
         alloc: Global,
         pages: &mut Pages<S>,
-        tables: &mut TableRows,
+        tables: &mut TableRows<H>,
     ) -> Result<(), CheckFault> {
         checking::check(alloc, pages, tables)
     }

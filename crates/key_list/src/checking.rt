@@ -23,20 +23,20 @@ ghost use Rattle.key_list.specs.Tried.{chain_plan, chain_testing, pairs_plan};
 use crate::page::read_leaf_head;
 use crate::place::FORM;
 use eaw_face::EawStore;
-use history::Rows;
 use index_pages::{
     Head, HeldPage, PAGE_LEN, check_fault, check_lists, check_slot, check_super, fetch_page,
     read_pair,
 };
+use noted::{Keeper, NotedRows};
 use page_store::{CheckFault, Pages, TableRows};
 use record_slots::{Super, TABLES_MAX, table_root};
 use std::alloc::Global;
 
 // Tests the super page, the lists of what is free, and then the chain of each table, and gathers the records.
-pub fn check<S: EawStore>(
+pub fn check<S: EawStore, H: Keeper>(
     alloc: Global,
     pages: &mut Pages<S>,
-    tables: &mut TableRows,
+    tables: &mut TableRows<H>,
 ) -> Result<(), CheckFault>
     ensures looks { Looks S.tells (S.opens (S.view pages.old.store).shape) (is_check_failed result)
         (pages_of (S.view pages.old.store) pages.old) (pages_of (S.view pages.new.store) pages.new) }
@@ -58,10 +58,10 @@ pub fn check<S: EawStore>(
 }
 
 // Tests the chain of each table by its number.
-fn check_tables<S: EawStore>(
+fn check_tables<S: EawStore, H: Keeper>(
     alloc: Global,
     pages: &mut Pages<S>,
-    tables: &mut TableRows,
+    tables: &mut TableRows<H>,
     front: &Super,
 ) -> Result<(), CheckFault>
     requires alive { IsAlive (S.view pages.old.store) }
@@ -84,7 +84,7 @@ fn check_tables<S: EawStore>(
         if root >= front.next_page {
             return Err(CheckFault::Damaged { page: 0 });
         }
-        let mut rows = Rows::new(alloc);
+        let mut rows = NotedRows::new(alloc);
         match check_table(pages, &mut rows, root, table, front) {
             Ok(()) => {}
             Err(fault) => return Err(fault),
@@ -98,9 +98,9 @@ fn check_tables<S: EawStore>(
 }
 
 // Tests the pages of the chain of a table one after another.
-fn check_table<S: EawStore>(
+fn check_table<S: EawStore, H: Keeper>(
     pages: &mut Pages<S>,
-    rows: &mut Rows,
+    rows: &mut NotedRows<H>,
     root: u32,
     table: u8,
     front: &Super,
@@ -181,9 +181,9 @@ fn chain_head(bytes: &[u8; PAGE_LEN], last: Option<u64>) -> Option<Head>
 }
 
 // Tests the pairs of a page after a last key, and returns the new last key.
-fn check_pairs<S: EawStore>(
+fn check_pairs<S: EawStore, H: Keeper>(
     pages: &mut Pages<S>,
-    rows: &mut Rows,
+    rows: &mut NotedRows<H>,
     table: u8,
     page: u32,
     bytes: &[u8; PAGE_LEN],
@@ -231,10 +231,10 @@ fn check_pairs<S: EawStore>(
 }
 
 // Tests a pair of a page after a last key: its key, its slot, and what that slot says.
-fn check_pair<S: EawStore>(
+fn check_pair<S: EawStore, H: Keeper>(
     pages: &mut Pages<S>,
     held: &mut HeldPage,
-    rows: &mut Rows,
+    rows: &mut NotedRows<H>,
     table: u8,
     page: u32,
     pair: (u64, u64),

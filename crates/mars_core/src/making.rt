@@ -6,6 +6,7 @@ ghost use Rattle.mars_core.specs.Making.{MakesTable};
 
 use crate::fault::CoreFault;
 use eaw_face::EawStore;
+use noted::KeepsNothing;
 use page_store::{KeyIndex, Pages, SaveRoom};
 use record_slots::Name;
 use record_table::{MakeFault, Records};
@@ -26,7 +27,10 @@ pub fn make_table<S: EawStore, K: KeyIndex>(
     ensures cause { IfErr result.0 (λ fault. CoreCause S.tells K.index (S.view store) fault) }
     ensures left { IfErr result.0 (λ fault. LeftAsItWas S.tells (S.opens (S.view store).shape) (is_media_fault fault) (S.view store) (S.view result.1)) }
 {
-    let (mut records, _) = match Records::<S, K>::attach(alloc, Pages::attach_in(room, store)) {
+    let (mut records, _) = match Records::<S, K>::attach::<KeepsNothing>(
+        alloc,
+        Pages::attach_in(room, store),
+    ) {
         Ok(attached) => attached,
         Err((fault, pages)) => return (Err(CoreFault::from(fault)), pages.into_store()),
     };

@@ -38,9 +38,9 @@ use crate::seats::Seats;
 use crate::table_call::{Asked, TableCall};
 use caller_steps::Core as Steps;
 use eaw_face::EawStore;
-use history::{Call, Done, Reply, Rows, Tables};
+use history::{Call, Done, Reply, Tables};
 use mars_base::NoMemory;
-use noted::{Base, Dones, Doubt, Keeper};
+use noted::{Base, Dones, Doubt, Keeper, NotedRows};
 use page_store::{KeyIndex, Pages, SaveRoom};
 use record_slots::{Name, Names};
 use record_table::Records;
@@ -505,7 +505,7 @@ fn rooms<H: Keeper>(
 fn begin_over<S: EawStore, K: KeyIndex, H: Keeper>(
     alloc: Global,
     records: Records<S, K>,
-    tables: Vec<(Name, Rows)>,
+    tables: Vec<(Name, NotedRows<H>)>,
 ) -> Result<Core<S, K, H>, (CoreFault, S)>
     requires alive { IsAlive (S.view records.store) }
     requires free { (t : ℕ) → (S.view records.store).ranges t ≡ None }
@@ -542,7 +542,10 @@ fn begin_over<S: EawStore, K: KeyIndex, H: Keeper>(
 }
 
 // Tables with their names, as they stand.
-fn gathered<H: Keeper>(alloc: Global, tables: Vec<(Name, Rows)>) -> Result<Base<H>, NoMemory>
+fn gathered<H: Keeper>(
+    alloc: Global,
+    tables: Vec<(Name, NotedRows<H>)>,
+) -> Result<Base<H>, NoMemory>
     ensures { IfOk result (λ all. all ≡ tables.items) }
 {
     let mut all = Base::new(alloc);

@@ -3,7 +3,8 @@ ghost use Rattle.std.specs.Prelude.{◌≡◌, [], ◌∷◌, ◌++◌, IsTrue, 
 
 use crate::keeper::Keeper;
 use crate::notes::TableNotes;
-use history::{Rows, Tables};
+use crate::rows::NotedRows;
+use history::Tables;
 use mars_base::NoMemory;
 use record_slots::Name;
 use std::alloc::Global;
@@ -45,14 +46,20 @@ impl<H: Keeper> Base<H> {
     }
 
     /// Adds a table behind the others.
-    pub fn push(&mut self, name: Name, rows: Rows) -> Result<(), NoMemory>
+    pub fn push(&mut self, name: Name, rows: NotedRows<H>) -> Result<(), NoMemory>
         ensures ok { OnOk result (self.new ≡ self.old ++ (name, rows) ∷ []) }
     {
-        let told = self.notes.then(&name, &rows);
-        if let Some(tables) = &mut self.kept {
-            if tables.push(name, rows).is_err() {
-                return Err(NoMemory);
+        let (rows, told) = rows.into_parts();
+        let told = self.notes.then(&name, &told);
+        match rows {
+            Some(rows) => {
+                if let Some(tables) = &mut self.kept {
+                    if tables.push(name, rows).is_err() {
+                        return Err(NoMemory);
+                    }
+                }
             }
+            None => self.kept = None,
         }
         self.notes = told;
         Ok(())

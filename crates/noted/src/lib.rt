@@ -1,7 +1,7 @@
 //! Calls, transactions and records that contracts see whole, and that are kept in memory only where somebody is to read them.
 //!
-//! Read first `notes.rt`: lists of no bytes, which exist only in proofs. `calls.rt`, `dones.rt`, `doubt.rt` and `base.rt` have one beside what is
-//! kept, if anything is, and `keeper.rt` says whether it is.
+//! Read first `notes.rt`: lists of no bytes, which exist only in proofs. `calls.rt`, `dones.rt`, `doubt.rt`, `rows.rt` and `base.rt` have one beside
+//! what is kept, if anything is, and `keeper.rt` says whether it is.
 #![tactic(auto)]
 
 mod base;
@@ -10,9 +10,11 @@ mod dones;
 mod doubt;
 mod keeper;
 mod notes;
+mod rows;
 
 pub use base::Base;
 pub use calls::{LiveCalls, LiveCallsWithRoom};
 pub use dones::Dones;
 pub use doubt::Doubt;
 pub use keeper::{Keeper, KeepsAll, KeepsNothing};
+pub use rows::NotedRows;

@@ -1,13 +1,13 @@
 // Lists that exist only in proofs. At run time they have no bytes, and a step of one is no instruction.
-ghost use Rattle.std.specs.Prelude.{◌≡◌, [], ◌∷◌, ◌++◌, List};
+ghost use Rattle.std.specs.Prelude.{◌≡◌, [], ◌∷◌, ◌++◌, List, ℕ};
 ghost use base.Fml.{ftrue};
 ghost use Rattle.history.specs.Rows.{NamedRows};
 ghost use Rattle.history.specs.declared.call.Call.{Call};
 ghost use Rattle.history.specs.declared.call.Reply.{Reply};
 ghost use Rattle.history.specs.declared.transaction.Done.{Done};
 
-use history::{Call, Reply, Rows};
-use record_slots::Name;
+use history::{Call, Reply};
+use record_slots::{Name, Value};
 use std::marker::Model;
 
 /// The granted calls of a transaction, each with its reply.
@@ -62,6 +62,32 @@ impl DoneNotes {
     }
 }
 
+/// Rows of a table: for each its key and its value.
+#[derive(Drop)]
+pub struct RowNotes {
+    pub ghost rows: { List (ℕ × List ℕ) },
+}
+
+impl Model for RowNotes {
+    ghost also_owns = { λ _. ftrue };
+}
+
+impl RowNotes {
+    pub fn new() -> RowNotes
+        ensures { result.rows ≡ [] }
+    {
+        RowNotes {}
+    }
+
+    /// The same with one more row behind them.
+    #[inline(always)]
+    pub fn then(&self, _key: u64, _value: &Value) -> RowNotes
+        ensures { result.rows ≡ self.now.rows ++ (_key, _value.now) ∷ [] }
+    {
+        RowNotes {}
+    }
+}
+
 /// Records of tables: for each its name and its rows.
 #[derive(Drop)]
 pub struct TableNotes {
@@ -81,8 +107,8 @@ impl TableNotes {
 
     /// The same with one more table behind them.
     #[inline(always)]
-    pub fn then(&self, _name: &Name, _rows: &Rows) -> TableNotes
-        ensures { result.tables ≡ self.now.tables ++ (_name.now, _rows.now) ∷ [] }
+    pub fn then(&self, _name: &Name, _rows: &RowNotes) -> TableNotes
+        ensures { result.tables ≡ self.now.tables ++ (_name.now, _rows.now.rows) ∷ [] }
     {
         TableNotes {}
     }

@@ -22,6 +22,7 @@ use crate::pages::Pages;
 use crate::table_rows::TableRows;
 use arrayvec::ArrayVec;
 use eaw_face::EawStore;
+use noted::Keeper;
 use std::alloc::Global;
 
 /// The most pairs that a look gives: as many as a page of an index has.
@@ -47,10 +48,10 @@ pub trait KeyIndex {
 
     /// Tests the super page, the lists of what is free, and the index of each table by its number, and names the first page that fails. The
     /// records of each table, which are met on the way, come behind those that were gathered before.
-    fn check<S: EawStore>(
+    fn check<S: EawStore, H: Keeper>(
         alloc: Global,
         pages: &mut Pages<S>,
-        tables: &mut TableRows,
+        tables: &mut TableRows<H>,
     ) -> Result<(), CheckFault>
         ensures looks { Looks S.tells (S.opens (S.view pages.old.store).shape) (is_check_failed result)
             (pages_of (S.view pages.old.store) pages.old) (pages_of (S.view pages.new.store) pages.new) }

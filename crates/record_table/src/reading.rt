@@ -16,24 +16,25 @@ use crate::names::{Roots, names_and_roots};
 use eaw_face::EawStore;
 use history::Rows;
 use mars_base::NoMemory;
+use noted::{Keeper, KeepsAll, NotedRows};
 use page_store::{CheckFault, KeyIndex, Pages, TableRows};
 use record_slots::{Name, Names};
 use std::alloc::Global;
 
 /// What the super page and a test of the whole index tell of the tables.
 #[derive(Drop)]
-pub struct Whole {
+pub struct Whole<H: Keeper> {
     pub names: Names,
     pub roots: Roots,
-    pub tables: Vec<(Name, Rows)>,
+    pub tables: Vec<(Name, NotedRows<H>)>,
 }
 
 /// Tests the whole index and reads all tables: their names, the roots of their indexes, and their records, each table's name with its rows,
 /// in the order of the names. Nothing is written.
-pub fn read_whole<S: EawStore, K: KeyIndex>(
+pub fn read_whole<S: EawStore, K: KeyIndex, H: Keeper>(
     alloc: Global,
     pages: &mut Pages<S>,
-) -> Result<Whole, AttachRecords>
+) -> Result<Whole<H>, AttachRecords>
     ensures records { IsTrue S.tells → IfOk result (λ whole. records_in whole.tables.items ≡ entries (table_of K.index (S.view pages.old.store).state.bytes)) }
     ensures names { IsTrue S.tells → IfOk result (λ whole. whole.names ≡ names_of (S.view pages.old.store).state.bytes) }
     ensures main { IfOk result (λ whole. BeginsWithMain whole.names) }
@@ -83,18 +84,38 @@ pub fn read_tables<S: EawStore, K: KeyIndex>(
         (pages_of (S.view pages.old.store) pages.old) (pages_of (S.view pages.new.store) pages.new) }
     ensures dead { IsErrOf result AttachRecords.Dead → pages.new ≡ pages.old }
 {
-    match read_whole::<S, K>(alloc, pages) {
-        Ok(whole) => Ok(whole.tables),
+    match read_whole::<S, K, KeepsAll>(alloc, pages) {
+        Ok(whole) => match kept_rows(alloc, whole.tables) {
+            Ok(tables) => Ok(tables),
+            Err(NoMemory) => Err(AttachRecords::NoMemory),
+        },
         Err(fault) => Err(fault),
     }
 }
 
+// The rows of each table, which are kept, as they stand.
+fn kept_rows(
+    alloc: Global,
+    tables: Vec<(Name, NotedRows<KeepsAll>)>,
+) -> Result<Vec<(Name, Rows)>, NoMemory>
+    ensures { IfOk result (λ all. all.items ≡ tables.items) }
+{
+    let mut all = Vec::new(alloc);
+    for (name, rows) in tables {
+        let Some(rows) = rows.into_rows() else {
+            unreachable!();
+        };
+        all.push((name, rows))?;
+    }
+    Ok(all)
+}
+
 // Each table's rows with its name, in the order of the names.
-fn with_names(
+fn with_names<H: Keeper>(
     alloc: Global,
     names: &Names,
-    tables: Vec<Rows>,
-) -> Result<Vec<(Name, Rows)>, NoMemory>
+    tables: Vec<NotedRows<H>>,
+) -> Result<Vec<(Name, NotedRows<H>)>, NoMemory>
     requires each { length names.now ≡ length tables.items }
     requires few { length names.now ≤ 8 }
     ensures { IfOk result (λ named. named.items ≡ by_name (zip names.now tables.items)) }
@@ -112,7 +133,7 @@ fn with_names(
 }
 
 // How many tables, which are in the order of their names, come before this name.
-fn place_of(tables: &[(Name, Rows)], name: &Name) -> usize
+fn place_of<H: Keeper>(tables: &[(Name, NotedRows<H>)], name: &Name) -> usize
     ensures { result ≡ place name.now tables.now }
 {
     for (at, table) in tables.iter().enumerate() {

@@ -42,6 +42,7 @@ use crate::upgrading::upgrade;
 use array_shape::{NumberSet, Shape};
 use eaw_face::EawStore;
 use history::Rows;
+use noted::{Keeper, NotedRows};
 use page_store::{KeyIndex, Pages};
 use record_slots::{Name, Names, Slot, Value};
 use std::alloc::Global;
@@ -76,10 +77,10 @@ impl<S: EawStore, K: KeyIndex> Model for Records<S, K> {
 impl<S: EawStore, K: KeyIndex> Records<S, K> {
     /// Records over pages, once the whole index has been tested, and the records of all tables, which that test met on its way: each table's
     /// name with its rows, in the order of the names. An error returns the pages.
-    pub fn attach(
+    pub fn attach<H: Keeper>(
         alloc: Global,
         pages: Pages<S>,
-    ) -> Result<(Records<S, K>, Vec<(Name, Rows)>), (AttachRecords, Pages<S>)>
+    ) -> Result<(Records<S, K>, Vec<(Name, NotedRows<H>)>), (AttachRecords, Pages<S>)>
         requires idle { IsAlive (S.view pages.store) → (t : ℕ) → listed ((S.view pages.store).ranges t) ≡ [] }
         requires closed { IsAlive (S.view pages.store) → (t : ℕ) → top_in pages.marks t ≡ None }
         ensures attached { IfOk result (λ attached. Attached S.tells (S.opens (S.view pages.store).shape) K.index
@@ -92,7 +93,7 @@ impl<S: EawStore, K: KeyIndex> Records<S, K> {
         ensures dead { IfErr result (λ failed. failed.0 ≡ AttachRecords.Dead → failed.1 ≡ pages) }
     {
         let mut pages = pages;
-        match read_whole::<S, K>(alloc, &mut pages) {
+        match read_whole::<S, K, H>(alloc, &mut pages) {
             Ok(whole) => {
                 let Whole {
                     names,

@@ -61,12 +61,15 @@ check_children-check_under-requires g t c κs within =
     let h = named_here c.args.bytes.now c.loop-i.i c.args.count (AreChildren c.args.front.now.next_page (pairs_said c.args.bytes.now)) c.args.front.now.next_page c.loop-i.invariant.named c.loop-i-test.true c.requires.named in (
       omega (arith, c.decreases, c.requires.inner),
       (
-        within,
+        within.0,
         (
-          c.loop-i.invariant.alive,
+          within.1,
           (
-            subst (λ (s : Shape). IsFront s c.args.front.now) (sym shape) c.requires.front,
-            (omega (arith, h.1, ap (λ (p : Pair). p.1) c.read_pair-low.ensures.pair, c.requires.front.pages, ap index_pages_of shape), omega (arith, c.requires.level)),
+            c.loop-i.invariant.alive,
+            (
+              subst (λ (s : Shape). IsFront s c.args.front.now) (sym shape) c.requires.front,
+              (omega (arith, h.1, ap (λ (p : Pair). p.1) c.read_pair-low.ensures.pair, c.requires.front.pages, ap index_pages_of shape), omega (arith, c.requires.level)),
+            ),
           ),
         ),
       ),

@@ -7,7 +7,7 @@ use Rattle.record_table.proofs.ByName.{place-next}
 use Rattle.record_table.proofs.reading.place_of.Goals as goal
 
 pub returns-then-is_lt : goal.returns-then-is_lt
-returns-then-is_lt c =
+returns-then-is_lt g c =
     let name = c.args.name.now in
     let tables = c.args.tables.now in
     let table = c.index-tables-at.result in
@@ -17,7 +17,7 @@ returns-then-is_lt c =
     omega (arith, c.loop-at.invariant, here)
 
 pub loop-at-preserved : goal.loop-at-preserved
-loop-at-preserved c =
+loop-at-preserved g c =
     let name = c.args.name.now in
     let tables = c.args.tables.now in
     let table = c.index-tables-at.result in

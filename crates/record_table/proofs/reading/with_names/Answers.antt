@@ -7,12 +7,12 @@ use Rattle.record_table.proofs.ByName.{one_more, put_at, place_within}
 use Rattle.record_table.proofs.reading.with_names.Goals as goal
 
 pub insert-requires : goal.insert-requires
-insert-requires c =
+insert-requires g c =
     let at : c.place_of-at.result ≡ place c.in-Some-name.name c.loop-rows.named.items = c.place_of-at.ensures ∙ ap (place c.in-Some-name.name) c.deref.ensures.value in
     omega (arith, at, place_within c.in-Some-name.name c.loop-rows.named.items, sym (ap length c.deref.ensures.value) ∙ c.deref.ensures.len)
 
 pub loop-rows-preserved-in-Continue-1 : goal.loop-rows-preserved-in-Continue-1
-loop-rows-preserved-in-Continue-1 c =
+loop-rows-preserved-in-Continue-1 g c =
     let inv = c.loop-rows.invariant in
     let name = c.in-Some-name.name in
     let rows = c.in-Some.rows in
