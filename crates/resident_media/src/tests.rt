@@ -22,7 +22,7 @@ fn get<M: Media>(media: &mut M, at: u64) -> Result<u8> {
     Ok(buf[0])
 }
 
-// Of three blocks the last is read first, and two are read: three calls below, with the write between them.
+// Of three blocks the last is read first, and two are read in all: with the write, three calls below.
 fn serves<M: Media>(media: &mut M) -> Result<()> {
     ensure!(get(media, 9_999)? == 7, "the last block");
     ensure!(get(media, 9_000)? == 7, "from memory");
@@ -63,6 +63,7 @@ fn covers<M: Media>(media: &mut M) -> Result<()> {
     }
     ensure!(get(media, 5000)? == 5, "what was written");
     ensure!(media.moment() == 2, "two calls");
+    ensure!(media.len() >= 10_000, "it lies within");
     let mut buf = [0; 10_000];
     if media.read(0, &mut buf).is_err() {
         bail!("the read failed");
