@@ -20,6 +20,9 @@ impl Model for CallNotes {
     ghost also_owns = { λ _. ftrue };
 }
 
+// It owns nothing, so it may go to another thread.
+unsafe impl Send for CallNotes {}
+
 impl CallNotes {
     pub fn new() -> CallNotes
         ensures { result.entries ≡ [] }
@@ -45,6 +48,9 @@ pub struct DoneNotes {
 impl Model for DoneNotes {
     ghost also_owns = { λ _. ftrue };
 }
+
+// It owns nothing, so it may go to another thread.
+unsafe impl Send for DoneNotes {}
 
 impl DoneNotes {
     pub fn new() -> DoneNotes
@@ -72,6 +78,9 @@ impl Model for RowNotes {
     ghost also_owns = { λ _. ftrue };
 }
 
+// It owns nothing, so it may go to another thread.
+unsafe impl Send for RowNotes {}
+
 impl RowNotes {
     pub fn new() -> RowNotes
         ensures { result.rows ≡ [] }
@@ -97,6 +106,9 @@ pub struct TableNotes {
 impl Model for TableNotes {
     ghost also_owns = { λ _. ftrue };
 }
+
+// It owns nothing, so it may go to another thread.
+unsafe impl Send for TableNotes {}
 
 impl TableNotes {
     pub fn new() -> TableNotes
