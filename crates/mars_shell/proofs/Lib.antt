@@ -15,6 +15,7 @@ pub mod Serving
 pub mod Lining
 pub mod Joining
 pub mod Making
+pub mod Showing
 pub mod Summing
 pub mod Running
 pub mod Composing

@@ -18,3 +18,4 @@ pub mod Joint
 pub mod Asked
 pub mod Next
 pub mod Room
+pub mod Coming

@@ -7,7 +7,11 @@ use Rattle.caller_steps.specs.Room.{Limits}
 use Rattle.caller_steps.specs.Run.{Turn}
 use Rattle.caller_steps.specs.Step.{Runs}
 use Rattle.script_run.specs.declared.ended.Ended.{Ended}
-use Rattle.script_run.specs.declared.ended.Ended.TheVariants.{MediaFault}
+use Rattle.script_run.specs.declared.ended.Ended.TheVariants.{MediaFault, NoMemory as EndedShort}
+
+-- memory ran out in work that ended so
+abbrev pub RanOut : Ended → Type 0
+RanOut ended = ended ≡ EndedShort
 
 -- Callers took turns, of which Does tells. The core lives on unless the work ended at a fault of the medium.
 pub record TurnsOn (Does : Limits → List Turn → State → Type 0) (old : CoreView) (ended : Ended) (new : CoreView) : Type 0 where

@@ -12,7 +12,7 @@ ghost use Rattle.array_runs.specs.Forms.{index_at};
 ghost use Rattle.array_runs.specs.Input.{InputSays};
 ghost use Rattle.mars_shell.specs.Joint.{JointWork};
 ghost use Rattle.mars_shell.specs.Late.{HasDepth};
-ghost use Rattle.mars_shell.specs.OnCore.{Works};
+ghost use Rattle.mars_shell.specs.OnCore.{RanOut, Works};
 ghost use Rattle.mars_shell.specs.Run.{TakesTurns};
 ghost use Rattle.array_runs.specs.Records.{OverRecords};
 ghost use Rattle.mars_shell.specs.Served.{Serves, ServedCounts};
@@ -144,7 +144,7 @@ fn serve_jointly<R: Threads + Wait + Sync, K: Sink, S: EawStore + Drop + Send, G
         (λ cut text. IsTrue S.tells → Serves (λ ended. JointWork crew.now.numbers.callers crew.now.numbers.readers crew.now.numbers.tries input.now ended cut text) S.opens (index_at (S.view store).state.bytes) (S.view store)
         result.0 cut text (S.view result.1)) }
     ensures untold { IfErr result.0 (λ fault. sink.new ≡ sink.old) }
-    ensures short { IfOk result.0 (λ ended. ended ≡ Ended.NoMemory → sink.new ≡ sink.old) }
+    ensures short { IfOk result.0 (λ ended. RanOut ended → sink.new ≡ sink.old) }
     ensures counts { ServedCounts result.0 (K.faults sink.old) (K.faults sink.new) (S.view store).faults (S.view result.1).faults }
 {
     let mut store = store;
@@ -184,7 +184,7 @@ fn work_under<
     ensures served { Wrote K.tells (K.written sink.old) (K.written sink.new) (K.faults sink.old) (K.faults sink.new)
         (λ cut text. IsTrue S.tells → Serves (λ ended. JointWork crew.now.numbers.callers crew.now.numbers.readers crew.now.numbers.tries input.now ended cut text) S.opens I.index (S.view store) result.0 cut text (S.view result.1)) }
     ensures untold { IfErr result.0 (λ fault. sink.new ≡ sink.old) }
-    ensures short { IfOk result.0 (λ ended. ended ≡ Ended.NoMemory → sink.new ≡ sink.old) }
+    ensures short { IfOk result.0 (λ ended. RanOut ended → sink.new ≡ sink.old) }
     ensures counts { ServedCounts result.0 (K.faults sink.old) (K.faults sink.new) (S.view store).faults (S.view result.1).faults }
 {
     let core = match Core::<S, I, KeepsAll>::attach(alloc, room, store) {
@@ -222,7 +222,7 @@ fn work_jointly<
         (λ cut text. IsTrue S.tells → Works (λ ended. JointWork crew.now.numbers.callers crew.now.numbers.readers crew.now.numbers.tries input.now ended cut text) (core_of S.opens I.index (S.view core.records.store) core) result.0
         cut text (core_of S.opens I.index (S.view result.1.records.store) result.1)) }
     ensures untold { IfErr result.0 (λ fault. sink.new ≡ sink.old) }
-    ensures short { IfOk result.0 (λ ended. ended ≡ Ended.NoMemory → sink.new ≡ sink.old) }
+    ensures short { IfOk result.0 (λ ended. RanOut ended → sink.new ≡ sink.old) }
     ensures given_back { IfErr result.0 (λ fault. result.1 ≡ core) }
     ensures counts { IfOk result.0 (λ ended. WorkCounts ended (K.faults sink.old) (K.faults sink.new) (S.view core.records.store).faults (S.view result.1.records.store).faults) }
 {

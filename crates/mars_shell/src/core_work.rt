@@ -9,7 +9,7 @@ ghost use Rattle.mars_manager.specs.Sharing.{CanShare};
 ghost use Rattle.texts.specs.Written.{Wrote};
 ghost use Rattle.script_run.specs.Counts.{Counts};
 ghost use Rattle.script_run.specs.declared.ended.Ended.{Ended};
-ghost use Rattle.mars_shell.specs.OnCore.{Works};
+ghost use Rattle.mars_shell.specs.OnCore.{RanOut, Works};
 ghost use Rattle.mars_shell.specs.Served.{Serves, ServedCounts};
 
 use eaw_face::EawStore;
@@ -57,7 +57,7 @@ pub trait CoreWork {
             (λ cut text. IsTrue S.tells → Works (λ ended. does self.now input.now ended cut text) (core_of S.opens I.index (S.view core.records.store) core) result.0 cut text
             (core_of S.opens I.index (S.view result.1.records.store) result.1)) }
         ensures untold { IfErr result.0 (λ fault. sink.new ≡ sink.old) }
-        ensures short { IsTrue at_once → IfOk result.0 (λ ended. ended ≡ Ended.NoMemory → sink.new ≡ sink.old) }
+        ensures short { IsTrue at_once → IfOk result.0 (λ ended. RanOut ended → sink.new ≡ sink.old) }
         ensures given_back { IfErr result.0 (λ fault. result.1 ≡ core) }
         ensures counts { IfOk result.0 (λ ended. Counts ended (K.faults sink.old) (K.faults sink.new) (S.view core.records.store).faults (S.view result.1.records.store).faults) };
 }
@@ -78,7 +78,7 @@ pub fn work_over<K: Sink, S: EawStore + Drop + Send, I: KeyIndex + Send, W: Core
     ensures served { Wrote K.tells (K.written sink.old) (K.written sink.new) (K.faults sink.old) (K.faults sink.new)
         (λ cut text. IsTrue S.tells → Serves (λ ended. W.does work.now input.now ended cut text) S.opens I.index (S.view store) result.0 cut text (S.view result.1)) }
     ensures untold { IfErr result.0 (λ fault. sink.new ≡ sink.old) }
-    ensures short { IsTrue W.at_once → IfOk result.0 (λ ended. ended ≡ Ended.NoMemory → sink.new ≡ sink.old) }
+    ensures short { IsTrue W.at_once → IfOk result.0 (λ ended. RanOut ended → sink.new ≡ sink.old) }
     ensures counts { ServedCounts result.0 (K.faults sink.old) (K.faults sink.new) (S.view store).faults (S.view result.1).faults }
 {
     let numbers = store.shape().numbers;

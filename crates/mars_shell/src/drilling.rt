@@ -31,7 +31,12 @@ pub struct DrawnScript {
 }
 
 impl CoreWork for DrawnScript {
-    ghost use Rattle.std.specs.Prelude.{◌<◌, ◌^◌, true, false};
+    ghost use Rattle.std.specs.Prelude.{◌≡◌, ◌<◌, ◌^◌, true, false, IsTrue, IfOk, IfErr};
+    ghost use Rattle.mars_core.specs.Held.{core_of};
+    ghost use Rattle.mars_manager.specs.Sharing.{CanShare};
+    ghost use Rattle.texts.specs.Written.{Wrote};
+    ghost use Rattle.script_run.specs.Counts.{Counts};
+    ghost use Rattle.mars_shell.specs.OnCore.{RanOut, Works};
     ghost use Rattle.mars_shell.specs.Drill.{Drills};
 
     ghost reads = { false };
@@ -55,7 +60,18 @@ impl CoreWork for DrawnScript {
         numbers: u8,
         sink: &mut K,
         core: Core<S, I, KeepsAll>,
-    ) -> (Result<Ended, NoMemory>, Core<S, I, KeepsAll>) {
+    ) -> (Result<Ended, NoMemory>, Core<S, I, KeepsAll>)
+        requires set { self.now.numbers.seed < 2 ^ 31 }
+        requires numbers { numbers ≡ (S.view core.records.store).shape.numbers }
+        requires ready { CanShare S.tells 0 (core_of S.opens I.index (S.view core.records.store) core) }
+        ensures works { Wrote K.tells (K.written sink.old) (K.written sink.new) (K.faults sink.old) (K.faults sink.new)
+            (λ cut text. IsTrue S.tells → Works (λ ended. Drills self.now.numbers ended cut text) (core_of S.opens I.index (S.view core.records.store) core) result.0 cut text
+            (core_of S.opens I.index (S.view result.1.records.store) result.1)) }
+        ensures untold { IfErr result.0 (λ fault. sink.new ≡ sink.old) }
+        ensures short { IfOk result.0 (λ ended. RanOut ended → sink.new ≡ sink.old) }
+        ensures given_back { IfErr result.0 (λ fault. result.1 ≡ core) }
+        ensures counts { IfOk result.0 (λ ended. Counts ended (K.faults sink.old) (K.faults sink.new) (S.view core.records.store).faults (S.view result.1.records.store).faults) }
+    {
         let mut core = core;
         match sum_up(alloc, &self.numbers, numbers, &mut core) {
             Ok(text) => (Ok(write_ended(sink, &text)), core),

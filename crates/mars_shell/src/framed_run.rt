@@ -145,7 +145,9 @@ fn work_framed<K: Sink, S: EawStore + Drop + Send, I: KeyIndex + Send>(
         },
     };
     let (ended, shown) = answer_framed(alloc, input, sink, shown);
-    let LineCore { core, callers: _ } = shown.lines;
+    let ShownLines {
+        lines: LineCore { core, callers: _ },
+    } = shown;
     let (store, _link) = core.into_store().into_parts();
     (Ok(ended), store)
 }

@@ -17,7 +17,7 @@ impl<S: EawStore, I: KeyIndex, H: Keeper> Responder for ShownLines<S, I, H> {
     ghost use Rattle.eaw_face.specs.Mirroring.{Mirrors};
     ghost use Rattle.mars_core.specs.Held.{core_of};
     ghost use Rattle.mars_shell.specs.Standing.{Progress, HasShown, line_script, IsReady, IsShown, Stands, Comes};
-    ghost use Rattle.mars_shell.proofs.Coming.{comes_to_itself, comes_further};
+    ghost use Rattle.mars_shell.specs.Coming.{comes_to_itself, comes_further};
 
     ghost tells = { S.tells };
 
@@ -54,7 +54,7 @@ impl<S: EawStore, I: KeyIndex, H: Keeper> Mirrored for ShownLines<S, I, H> {
     ghost use Rattle.std.proofs.Common.{⊎_elim, refl, sym, subst};
     ghost use Rattle.eaw_face.specs.Mirroring.{Mirrors};
     ghost use Rattle.mars_core.proofs.GivingUp.{sends_none};
-    ghost use Rattle.mars_shell.proofs.Showing.{has_all};
+    ghost use Rattle.mars_shell.specs.Coming.{has_all};
 
     ghost view = { λ shown. S.view shown.lines.core.records.store };
 

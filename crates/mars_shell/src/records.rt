@@ -6,6 +6,7 @@ ghost use Rattle.array_runs.specs.Forms.{index_at};
 ghost use Rattle.array_runs.specs.Input.{InputSays};
 ghost use Rattle.mars_shell.specs.Late.{is_late, HasDepth};
 ghost use Rattle.array_runs.specs.Records.{OverRecords};
+ghost use Rattle.mars_shell.specs.OnCore.{RanOut};
 ghost use Rattle.mars_shell.specs.Run.{TakesTurns};
 ghost use Rattle.mars_shell.specs.Served.{Serves, ServedCounts};
 ghost use Rattle.array_runs.specs.Statuses.{Counts, IsEarly, IsRefusal};
@@ -105,7 +106,7 @@ fn serve<K: Sink, S: EawStore + Drop + Send, W: CoreWork>(
     ensures served { Wrote K.tells (K.written sink.old) (K.written sink.new) (K.faults sink.old) (K.faults sink.new)
         (λ cut text. IsTrue S.tells → Serves (λ ended. W.does work.now input.now ended cut text) S.opens (index_at (S.view store).state.bytes) (S.view store) result.0 cut text (S.view result.1)) }
     ensures untold { IfErr result.0 (λ fault. sink.new ≡ sink.old) }
-    ensures short { IsTrue W.at_once → IfOk result.0 (λ ended. ended ≡ Ended.NoMemory → sink.new ≡ sink.old) }
+    ensures short { IsTrue W.at_once → IfOk result.0 (λ ended. RanOut ended → sink.new ≡ sink.old) }
     ensures counts { ServedCounts result.0 (K.faults sink.old) (K.faults sink.new) (S.view store).faults (S.view result.1).faults }
 {
     let mut store = store;

@@ -16,7 +16,7 @@ pub struct LineCore<C: Core> {
 impl<C: Core> Responder for LineCore<C> {
     ghost use Rattle.std.specs.Prelude.{◌≡◌, ◌⊎◌, IsTrue};
     ghost use Rattle.mars_shell.specs.Standing.{Progress, HasData, line_script, IsReady, IsShown, Stands, Comes};
-    ghost use Rattle.mars_shell.proofs.Coming.{comes_to_itself, comes_further};
+    ghost use Rattle.mars_shell.specs.Coming.{comes_to_itself, comes_further};
 
     ghost tells = { C.tells };
 

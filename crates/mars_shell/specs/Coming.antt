@@ -1,12 +1,16 @@
--- Turns of a core come from one state to a later one.
-use Rattle.std.proofs.Common.{◌++◌, [], List, true, refl, sym, ap, subst, ◌∙◌}
+-- What turns of a core come to: laws that responders give.
+use Rattle.std.proofs.Common.{◌≡◌, ◌++◌, [], ℕ, List, true, refl, sym, ap, subst, ◌∙◌}
 use Rattle.std.proofs.lemmas.List.{append-nil, append_assoc}
+use Rattle.page_store.specs.Index.{Index}
+use Rattle.caller_steps.specs.State.{State}
 use Rattle.caller_steps.specs.Core.{CoreView}
 use Rattle.caller_steps.specs.Room.{Limits}
 use Rattle.caller_steps.specs.Run.{Turn}
 use Rattle.caller_steps.specs.Step.{Runs}
 use Rattle.caller_steps.proofs.Continuing.{continues_none, continues_on}
 use Rattle.caller_steps.proofs.Running.{turns_on, turns_tell, turns_of_runs}
+use Rattle.mars_core.specs.Over.{ShowsAll}
+use Rattle.array_runs.specs.Records.{HasAll}
 use Rattle.mars_shell.specs.Standing.{Progress, Stands, Comes}
 
 -- no turn
@@ -29,3 +33,12 @@ comes_further old now later s t u before behind =
           (turns_of_runs old.limits old.state now.state before.more before.runs) (turns_of_runs old.limits now.state later.state behind.more run));
       continues = continues_on old now later before.continues behind.continues;
     }
+
+-- the data of a state has its names, its records and its keys
+pub has_all : (index : Index) (bytes : List ℕ) (state now : State) → now ≡ state → state.index.bytes ≡ bytes → ShowsAll index state → HasAll index bytes now
+has_all index bytes state now same data_is shows = subst (λ (s : State). HasAll index bytes s) (sym same) (subst (λ (b : List ℕ). HasAll index b state) data_is (record {
+  sound = shows.sound;
+  names = shows.names;
+  table = shows.table;
+  keys = shows.keys;
+}))
