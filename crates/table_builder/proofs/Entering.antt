@@ -23,7 +23,7 @@ put_end xs b n m at =
     let front : take m (xs ++ replicate n 0) ≡ xs = take_at xs (replicate n 0) m (sym at) in
     let rest : drop (m + length b) (xs ++ replicate n 0) ≡ replicate (n - length b) 0 =
         sym (drop-drop (length b) m (xs ++ replicate n 0)) ∙ ap (drop (length b)) (drop_at xs (replicate n 0) m (sym at)) ∙ drop-replicate (length b) n 0 in
-    (λ i. front i ++ (b ++ rest i)) ∙ sym (append_assoc xs b (replicate (n - length b) 0))
+    λ i. (front i ++ b) ++ rest i
 
 -- the bytes of entries, with zeros behind them
 abbrev pub whole : List TableEntry → List ℕ

@@ -6,5 +6,6 @@ pub mod Entering
 pub mod Making
 pub mod Cutting
 pub mod Pieces
+pub mod Indexing
 pub mod PageCounts
 pub mod Freshness

@@ -42,6 +42,7 @@ fn count_below(fill: usize, left: u8, pairs: usize) -> usize
     requires small { pairs < 2 ^ 63 }
     ensures count { (level first : ℕ) (ps : List Pair) → length ps ≡ pairs → result ≡ length (level_bytes level (levels_of fill left first ps)) }
     ensures few { 14 * result ≤ pairs }
+    ensures small { result < 2 ^ 60 }
 {
     if left == 0 {
         return 0;

@@ -1,5 +1,5 @@
 // Pages of slots.
-ghost use Rattle.std.specs.Prelude.{◌≡◌, ◌≤◌, ◌<◌, ◌^◌, length, slice_get};
+ghost use Rattle.std.specs.Prelude.{◌≡◌, ◌≤◌, ◌<◌, ◌^◌, IfSome, length, slice_get};
 ghost use Rattle.record_slots.specs.Slots.{slot_bytes, table_of_slot};
 ghost use Rattle.table_builder.specs.Plan.{rows_count, slots_from, slots_page};
 
@@ -28,7 +28,8 @@ pub fn write_slots(tables: &[(Name, Rows)], k: u64, out: &mut [u8; 512])
 // The slot of this number, if a row lies in it.
 fn slot_at(tables: &[(Name, Rows)], slot: u64) -> Option<Slot>
     requires { length tables.now ≤ 8 }
-    ensures { result ≡ slice_get (slots_from 0 tables.now) slot }
+    ensures slot { result ≡ slice_get (slots_from 0 tables.now) slot }
+    ensures table { IfSome result (λ slot. table_of_slot slot < 8) }
 {
     let mut left = slot;
     for (number, table) in tables.iter().enumerate() {

@@ -1,5 +1,5 @@
 use Rattle.std.proofs.Common.{◌≡◌, ◌+◌, suc, length, sym, ◌∙◌, arith}
-use Rattle.table_builder.proofs.Cutting.{page_within, page_more, name_more, pages_done, names_done, one_longer}
+use Rattle.table_builder.proofs.Cutting.{page_within, page_short, page_moves, page_more, name_more, pages_done, names_done, one_longer}
 use Rattle.table_builder.proofs.levels.push_level.Goals as goal
 
 pub loop-at-preserved : goal.loop-at-preserved
@@ -22,3 +22,9 @@ returns-clause-pages c =
 pub returns-clause-names : goal.returns-clause-names
 returns-clause-names c =
     sym (names_done c.args.fill c.requires.some c.requires.most _ _ c.loop-at.at c.args.pairs.now c.loop-at.names.items c.loop-at-test.false) ∙ c.loop-at.invariant.names
+
+pub page_of-requires : goal.page_of-requires
+page_of-requires c = page_short c.args.fill c.requires.some c.requires.most c.args.level c.loop-at.at c.args.pairs.now c.page_from-page.result.now c.loop-at-test.true c.page_from-page.ensures
+
+pub loop-at-smaller : goal.loop-at-smaller
+loop-at-smaller c = page_moves c.args.fill c.requires.some c.requires.most c.args.level c.loop-at.at c.args.pairs.now c.page_from-page.result.now c.loop-at-test.true c.page_from-page.ensures
