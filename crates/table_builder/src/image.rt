@@ -10,7 +10,7 @@ use crate::front::front_page;
 use crate::index::{Index, index_of};
 use crate::slots::write_slots;
 use crate::sorting::are_sorted;
-use array_making::PageSource;
+use eaw_device::PageSource;
 use history::{Rows, Tables};
 use record_slots::{Name, TABLES_MAX};
 use std::alloc::Global;
