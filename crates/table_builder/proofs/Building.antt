@@ -196,8 +196,7 @@ module _ (root : Root) (bytes : List ℕ) where
       let some = not_empty page filled.0 in
       let here = sits_left level low high page (pairs_on ((p ∷ ps) ∷ pages)) some s in
       let there = sits_right level low high page p (ps ++ pairs_on pages) s in
-      let up = rise_bounds p.0 high (pairs_on ((p ∷ ps) ∷ pages)) there.rise in
-      (
+      let up = rise_bounds p.0 high (pairs_on ((p ∷ ps) ∷ pages)) there.rise in (
         page_sound level first low p.0 page (λ _. some) (λ _. some) (omega (arith, up, most)) filled.1 here stand.0,
         level_sound level p.0 (suc first) high ((p ∷ ps) ∷ pages) most there filled.2 stand.1 (omega (arith, past)),
       )
@@ -266,7 +265,7 @@ module _ (root : Root) (bytes : List ℕ) where
       let sits = subst (λ (ps : List Pair). Sits level 0 key_end ps) (sym here.all) s in
       let next = level_sits level 0 first key_end pages (omega arith) (omega arith) here.some sits here.filled here.stand past two given small in
       let rest = levels_sound (suc level) (first + length pages) (named 0 first pages) levels b.1 own (omega (arith, past)) (omega (arith, two)) small
-          (λ _. omega (arith, length-named 0 first pages, here.some)) next in
+      (λ _. omega (arith, length-named 0 first pages, here.some)) next in
       (rest.0, rest.1 ∙ level_led level 0 first pages sits.small here.filled here.stand ∙ ap (led level) here.all)
 
 pub built_sound : (root : Root) (bytes : List ℕ) (first : ℕ) (pairs : List Pair) (levels : List Level) → IsBuilt bytes root.page 0 first pairs levels

@@ -22,7 +22,7 @@ put_end : (xs b : List ℕ) (n m : ℕ) → m ≡ length xs → put (xs ++ repli
 put_end xs b n m at =
     let front : take m (xs ++ replicate n 0) ≡ xs = take_at xs (replicate n 0) m (sym at) in
     let rest : drop (m + length b) (xs ++ replicate n 0) ≡ replicate (n - length b) 0 =
-        sym (drop-drop (length b) m (xs ++ replicate n 0)) ∙ ap (drop (length b)) (drop_at xs (replicate n 0) m (sym at)) ∙ drop-replicate (length b) n 0 in
+    sym (drop-drop (length b) m (xs ++ replicate n 0)) ∙ ap (drop (length b)) (drop_at xs (replicate n 0) m (sym at)) ∙ drop-replicate (length b) n 0 in
     λ i. (front i ++ b) ++ rest i
 
 -- the bytes of entries, with zeros behind them
@@ -46,15 +46,15 @@ none_said = record { long = refl; used = refl; named = refl }
 more_said : (done : List TableEntry) (t : TableEntry) → length done < 8 → IsName t.name → t.root < 2 ^ 32 → AreSaid done → AreSaid (done ++ t ∷ [])
 more_said done t few name small said =
     let size : length (whole done) ≡ 256 =
-        length-append (entries_bytes done) (replicate (256 - length (entries_bytes done)) 0) ∙ omega (arith, length-replicate {A = ℕ} (256 - length (entries_bytes done)) 0, said.long, few) in
+    length-append (entries_bytes done) (replicate (256 - length (entries_bytes done)) 0) ∙ omega (arith, length-replicate {A = ℕ} (256 - length (entries_bytes done)) 0, said.long, few) in
     let count : length (tables_used (whole done)) ≡ length done = ap (λ (l : List TableEntry). length l) said.used in
     let h = added t name small (whole done) size said.named (omega (arith, count, few)) in
     let entry : length (entry_bytes t) ≡ 32 = long_entry t name small in
     let now : put (whole done) (32 * length (tables_used (whole done))) (entry_bytes t) ≡ whole (done ++ t ∷ []) =
-        put_end (entries_bytes done) (entry_bytes t) (256 - length (entries_bytes done)) (32 * length (tables_used (whole done))) (omega (arith, count, said.long))
-        ∙ ap (λ (n : ℕ). (entries_bytes done ++ entry_bytes t) ++ replicate n 0)
-        (let e : 256 - length (entries_bytes done) - length (entry_bytes t) ≡ 256 - length (entries_bytes done ++ entry_bytes t) = omega (arith, length-append (entries_bytes done) (entry_bytes t)) in e)
-        ∙ ap (λ (l : List ℕ). l ++ replicate (256 - length l) 0) (sym (entries_more done t)) in
+    put_end (entries_bytes done) (entry_bytes t) (256 - length (entries_bytes done)) (32 * length (tables_used (whole done))) (omega (arith, count, said.long))
+    ∙ ap (λ (n : ℕ). (entries_bytes done ++ entry_bytes t) ++ replicate n 0)
+    (let e : 256 - length (entries_bytes done) - length (entry_bytes t) ≡ 256 - length (entries_bytes done ++ entry_bytes t) = omega (arith, length-append (entries_bytes done) (entry_bytes t)) in e)
+    ∙ ap (λ (l : List ℕ). l ++ replicate (256 - length l) 0) (sym (entries_more done t)) in
     record {
       long = ap (λ (l : List ℕ). length l) (entries_more done t) ∙ length-append (entries_bytes done) (entry_bytes t) ∙ omega (arith, said.long, entry, length-append done (t ∷ []));
       used = ap tables_used (sym now) ∙ h.0 ∙ ap (λ (l : List TableEntry). l ++ t ∷ []) said.used;
@@ -133,13 +133,13 @@ are_tables front (t ∷ left) some apart are =
     let long : length (front ++ t ∷ []) ≡ suc (length front) = length-append front (t ∷ []) ∙ omega arith in
     let here : slice_get (front ++ t ∷ left) (length front) ≡ Some t = ap (slice_get (front ++ t ∷ left)) (let e : length front ≡ length front + 0 = omega arith in e) ∙ get_right front (t ∷ left) 0 in
     let other : (i : ℕ) → slice_get (names_in (entries_from 1 front)) i ≢ Some t.0 =
-        λ i is. (let h = named_by 1 front i t.0 is in absurd (apart (length front) i h.0 t h.3 (get_left front (t ∷ left) i h.0 h.1) here h.2)) in
+    λ i is. (let h = named_by 1 front i t.0 is in absurd (apart (length front) i h.0 t h.3 (get_left front (t ∷ left) i h.0 h.1) here h.2)) in
     let next = are_more (entries_from 1 front) (suc (length front)) t.0 are (omega (arith, some)) other in
     let entries : entries_from 1 front ++ record { name = t.0; root = suc (length front) } ∷ [] ≡ entries_from 1 (front ++ t ∷ []) =
-        ap (λ (n : ℕ). entries_from 1 front ++ record { name = t.0; root = n } ∷ []) (let e : suc (length front) ≡ 1 + length front = omega arith in e) ∙ sym (entries_last 1 front t) in
+    ap (λ (n : ℕ). entries_from 1 front ++ record { name = t.0; root = n } ∷ []) (let e : suc (length front) ≡ 1 + length front = omega arith in e) ∙ sym (entries_last 1 front t) in
     let count : suc (length front) + 1 ≡ suc (length (front ++ t ∷ [])) = omega (arith, long) in
     let now : AreTables (suc (length (front ++ t ∷ []))) (entries_from 1 (front ++ t ∷ [])) =
-        subst (λ (l : List TableEntry). AreTables (suc (length (front ++ t ∷ []))) l) entries (subst (λ (n : ℕ). AreTables n (entries_from 1 front ++ record { name = t.0; root = suc (length front) } ∷ [])) count next) in
+    subst (λ (l : List TableEntry). AreTables (suc (length (front ++ t ∷ []))) l) entries (subst (λ (n : ℕ). AreTables n (entries_from 1 front ++ record { name = t.0; root = suc (length front) } ∷ [])) count next) in
     subst (λ (l : List NamedRows). AreTables (suc (length l)) (entries_from 1 l)) whole
     (are_tables (front ++ t ∷ []) left (omega (arith, long)) (subst (λ (l : List NamedRows). (j : ℕ) → HasOwnName l j) (sym whole) apart) now)
 

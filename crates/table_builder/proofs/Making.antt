@@ -79,8 +79,7 @@ module _ (fill : ℕ) (some : 15 ≤ fill) (most : fill ≤ 30) (bytes : List �
   all_built number slot first (table ∷ tables) few past count small sorted held roots below given =
       let pages = level_bytes 0 (levels_of fill 7 first (pairs_for slot table.1)) in
       let next = below_bytes (built_from fill (suc (suc number)) (slot + length table.1) (first + length (level_bytes 0 (levels_of fill 7 first (pairs_for slot table.1)))) tables) in
-      let long = length-append pages next in
-      (
+      let long = length-append pages next in (
         one_built number slot first table (omega (arith, few)) (omega (arith, past)) (omega (arith, small)) sorted.1
             (in_slots bytes number slot table.1 (slots_before bytes slot (slots_for number table.1) (slots_from (suc number) tables) held))
             (ap (page_bytes bytes) (let e : suc number ≡ suc number + 0 = omega arith in e) ∙ roots 0 _ refl)

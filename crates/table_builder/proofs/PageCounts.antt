@@ -39,7 +39,7 @@ levels_count fill (suc n) level other first next one two same = elim (leb_tells 
   | inr h ↦
       let here = pages_count fill one two same in
       let rest = levels_count fill n (suc level) (suc other) (first + length (pages_of fill one)) (next + length (pages_of fill two)) (named 0 first (pages_of fill one)) (named 0 next (pages_of fill two))
-          (length-named 0 first (pages_of fill one) ∙ here ∙ sym (length-named 0 next (pages_of fill two))) in
+      (length-named 0 first (pages_of fill one) ∙ here ∙ sym (length-named 0 next (pages_of fill two))) in
       omega (arith, length-levels fill n level first one (omega (arith, h.1)), length-levels fill n other next two (omega (arith, h.1, same)), here, rest)
 ]
 

@@ -121,7 +121,7 @@ pub slots_beyond : (tables : List NamedRows) (k : ℕ) → rows_count tables < 2
 unfolding slots_page
 slots_beyond tables k few past =
     let none : take 8 (drop (8 * k) (slots_from 0 tables)) ≡ [] =
-        take_none 8 (drop (8 * k) (slots_from 0 tables)) (drop_all (8 * k) (slots_from 0 tables) (omega (arith, length-slots_from 0 tables, few, past))) in
+    take_none 8 (drop (8 * k) (slots_from 0 tables)) (drop_all (8 * k) (slots_from 0 tables) (omega (arith, length-slots_from 0 tables, few, past))) in
     sym (ap (λ (slots : List Slot). slots_bytes slots ++ replicate (512 - length (slots_bytes slots)) 0) none)
 
 -- ---- the slot of a number

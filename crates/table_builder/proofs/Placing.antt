@@ -128,8 +128,8 @@ module _ (bytes : List ℕ) (half : ℕ) (tables : List NamedRows) (long : lengt
   slot_there slot s is =
       let lt : slot < 8 * half = (let h = within (slots_from 0 tables) slot s is in omega (arith, h, length-slots_from 0 tables, few)) in
       let there : slice_get (take 8 (drop (8 * (slot / 8)) (slots_from 0 tables))) (slot % 8) ≡ Some s =
-          get_take (drop (8 * (slot / 8)) (slots_from 0 tables)) 8 (slot % 8) (omega arith) ∙ get_drop (slots_from 0 tables) (8 * (slot / 8)) (slot % 8)
-          ∙ ap (slice_get (slots_from 0 tables)) (let e : 8 * (slot / 8) + slot % 8 ≡ slot = omega arith in e) ∙ is in
+      get_take (drop (8 * (slot / 8)) (slots_from 0 tables)) 8 (slot % 8) (omega arith) ∙ get_drop (slots_from 0 tables) (8 * (slot / 8)) (slot % 8)
+      ∙ ap (slice_get (slots_from 0 tables)) (let e : 8 * (slot / 8) + slot % 8 ≡ slot = omega arith in e) ∙ is in
       slot_read bytes half slot long
       ∙ ap (λ (b : List ℕ). range b (64 * (slot % 8)) 64) (pages (slot / 8) (omega (arith, lt)))
       ∙ slot_range (slot % 8) (take 8 (drop (8 * (slot / 8)) (slots_from 0 tables))) s (replicate (512 - length (slots_bytes (take 8 (drop (8 * (slot / 8)) (slots_from 0 tables))))) 0)

@@ -106,8 +106,7 @@ module _ (fill : ℕ) (some : 15 ≤ fill) (most : fill ≤ 30) where
       let q = size_is (length (p ∷ ps)) in
       let long = length-take (taken (p ∷ ps)) (p ∷ ps) in
       let half = q.half many in
-      let left = length-drop (taken (p ∷ ps)) (p ∷ ps) in
-      (
+      let left = length-drop (taken (p ∷ ps)) (p ∷ ps) in (
         omega (arith, long, half, q.within),
         omega (arith, long, q.most),
         cut_filled n (drop (taken (p ∷ ps)) (p ∷ ps)) (elim (q.rest many) [ inl none ↦ inl (omega (arith, left, none)) | inr more ↦ inr (omega (arith, left, more)) ]),

@@ -12,7 +12,11 @@ use record_slots::Value;
 use std::alloc::Global;
 
 /// The key of each row with its slot: the slots rise from one on.
-pub fn pairs_of(alloc: Global, slot: u64, rows: &[(u64, Value)]) -> Result<Vec<(u64, u64)>, NoMemory>
+pub fn pairs_of(
+    alloc: Global,
+    slot: u64,
+    rows: &[(u64, Value)],
+) -> Result<Vec<(u64, u64)>, NoMemory>
     requires { slot + length rows.now < 2 ^ 32 }
     ensures { IfOk result (λ pairs. pairs.items ≡ pairs_for slot rows.now) }
 {

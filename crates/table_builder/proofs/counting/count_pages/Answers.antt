@@ -21,7 +21,7 @@ loop-left-preserved c =
           let at : length ps - (c.args.pairs - c.loop-left.left) ≡ c.loop-left.left = omega (arith, long, c.loop-left.invariant.within) in
           let size : page_size c.args.fill (length ps - (c.args.pairs - c.loop-left.left)) ≡ page_size c.args.fill c.loop-left.left = ap (page_size c.args.fill) at in
           let next : c.args.pairs - c.loop-left.left + page_size c.args.fill (length ps - (c.args.pairs - c.loop-left.left)) ≡ c.args.pairs - (c.loop-left.left - c.page_size-left.result) =
-              omega (arith, size, c.page_size-left.ensures.size, c.page_size-left.ensures.most, c.loop-left.invariant.within) in
+          omega (arith, size, c.page_size-left.ensures.size, c.page_size-left.ensures.most, c.loop-left.invariant.within) in
           let more = count_more c.args.fill c.requires.some c.requires.most (c.args.pairs - c.loop-left.left) ps (omega (arith, long, c.loop-left-test.true, c.loop-left.invariant.within)) in
           let same = ap (λ (n : ℕ). length (pages_of c.args.fill (drop n ps))) next in
           let before = c.loop-left.invariant.count ps long in

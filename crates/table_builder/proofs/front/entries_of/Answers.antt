@@ -31,5 +31,5 @@ unfolding entries_for
 returns c =
     let past : length c.args.tables.now ≤ c.loop-j.j = omega (arith, c.loop-j-test.false) in
     let all : take (32 * c.loop-j.j) c.loop-j.entries ≡ entries_bytes (entries_from 1 c.args.tables.now) =
-        sym (append-nil (take (32 * c.loop-j.j) c.loop-j.entries)) ∙ ap (λ (l : List ℕ). take (32 * c.loop-j.j) c.loop-j.entries ++ l) (sym (entries_past c.args.tables.now c.loop-j.j past)) ∙ c.loop-j.invariant.all in
+    sym (append-nil (take (32 * c.loop-j.j) c.loop-j.entries)) ∙ ap (λ (l : List ℕ). take (32 * c.loop-j.j) c.loop-j.entries ++ l) (sym (entries_past c.args.tables.now c.loop-j.j past)) ∙ c.loop-j.invariant.all in
     pieces_done 256 (32 * c.loop-j.j) c.loop-j.entries (entries_bytes (entries_from 1 c.args.tables.now)) c.loop-j.invariant.long (omega (arith, c.loop-j.auto.j-end, c.requires)) all c.loop-j.invariant.rest

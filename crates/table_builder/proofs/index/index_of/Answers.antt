@@ -33,9 +33,9 @@ loop-table-preserved c =
     let rows : c.as_slice-rows.result.now ≡ c.table-item.result.1 = c.as_slice-rows.ensures in
     let slots : c.loop-table.slot + length c.as_slice-rows.result.now ≡ c.loop-table.slot + length c.table-item.result.1 = ap (λ (rs : List Row). c.loop-table.slot + length rs) rows in
     let pushed : c.push_table.new.below.items ≡ c.loop-table.below.items ++ level_bytes 0 (levels_for c.args.fill c.loop-table.slot at c.table-item.result.1) =
-        c.in_ok-root.ensures.pages ∙ ap (λ (rs : List Row). c.loop-table.below.items ++ level_bytes 0 (levels_for c.args.fill c.loop-table.slot at rs)) rows in
+    c.in_ok-root.ensures.pages ∙ ap (λ (rs : List Row). c.loop-table.below.items ++ level_bytes 0 (levels_for c.args.fill c.loop-table.slot at rs)) rows in
     let behind : 1 + length c.args.tables.now + length c.push_table.new.below.items ≡ at + length (level_bytes 0 (levels_for c.args.fill c.loop-table.slot at c.table-item.result.1)) =
-        (let long = ap length pushed ∙ length-append c.loop-table.below.items (level_bytes 0 (levels_for c.args.fill c.loop-table.slot at c.table-item.result.1)) in omega (arith, long)) in
+    (let long = ap length pushed ∙ length-append c.loop-table.below.items (level_bytes 0 (levels_for c.args.fill c.loop-table.slot at c.table-item.result.1)) in omega (arith, long)) in
     let page = c.in_ok-root.ensures.root ∙ ap (λ (rs : List Row). written_page (length (levels_for c.args.fill c.loop-table.slot at rs)) 0 (top_of at (pairs_for c.loop-table.slot rs) (levels_for c.args.fill c.loop-table.slot at rs))) rows in
     let follows : suc (c.loop-table.table-index + 1) ≡ suc (suc c.loop-table.table-index) = omega arith in
     record {

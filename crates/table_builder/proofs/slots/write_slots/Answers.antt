@@ -36,7 +36,7 @@ unfolding slots_page
 returns-in_default c =
     let past = slots_past (slots_from 0 c.args.tables.now) (8 * c.args.k + c.loop-j.j) (8 - c.loop-j.j) (sym c.in_default.ensures.slot) in
     let all : take (64 * c.loop-j.j) c.loop-j.out ≡ slots_bytes (take 8 (drop (8 * c.args.k) (slots_from 0 c.args.tables.now))) =
-        sym (append-nil (take (64 * c.loop-j.j) c.loop-j.out)) ∙ ap (λ (l : List ℕ). take (64 * c.loop-j.j) c.loop-j.out ++ l) (sym past) ∙ c.loop-j.invariant.all in
+    sym (append-nil (take (64 * c.loop-j.j) c.loop-j.out)) ∙ ap (λ (l : List ℕ). take (64 * c.loop-j.j) c.loop-j.out ++ l) (sym past) ∙ c.loop-j.invariant.all in
     pieces_done 512 (64 * c.loop-j.j) c.loop-j.out (slots_bytes (take 8 (drop (8 * c.args.k) (slots_from 0 c.args.tables.now)))) c.loop-j.invariant.long (omega (arith, c.loop-j-test.true)) all c.loop-j.invariant.rest
 
 pub returns : goal.returns
@@ -44,6 +44,6 @@ unfolding slots_page
 returns c =
     let none : 0 ≡ 8 - c.loop-j.j = omega (arith, c.loop-j-test.false) in
     let all : take (64 * c.loop-j.j) c.loop-j.out ≡ slots_bytes (take 8 (drop (8 * c.args.k) (slots_from 0 c.args.tables.now))) =
-        sym (append-nil (take (64 * c.loop-j.j) c.loop-j.out))
-        ∙ ap (λ (n : ℕ). take (64 * c.loop-j.j) c.loop-j.out ++ slots_bytes (take n (drop (8 * c.args.k + c.loop-j.j) (slots_from 0 c.args.tables.now)))) none ∙ c.loop-j.invariant.all in
+    sym (append-nil (take (64 * c.loop-j.j) c.loop-j.out))
+    ∙ ap (λ (n : ℕ). take (64 * c.loop-j.j) c.loop-j.out ++ slots_bytes (take n (drop (8 * c.args.k + c.loop-j.j) (slots_from 0 c.args.tables.now)))) none ∙ c.loop-j.invariant.all in
     pieces_done 512 (64 * c.loop-j.j) c.loop-j.out (slots_bytes (take 8 (drop (8 * c.args.k) (slots_from 0 c.args.tables.now)))) c.loop-j.invariant.long (omega (arith, c.loop-j.auto.j-end)) all c.loop-j.invariant.rest
