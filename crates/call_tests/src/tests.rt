@@ -12,6 +12,7 @@ mod mirrors;
 mod opening;
 mod queues;
 mod reply_texts;
+mod restoring;
 mod retries;
 mod samples;
 mod two_media;

@@ -1,0 +1,11 @@
+pub mod Building
+pub mod Imaging
+pub mod Planning
+pub mod Placing
+pub mod Entering
+pub mod Making
+pub mod Cutting
+pub mod Pieces
+pub mod Indexing
+pub mod PageCounts
+pub mod Freshness
