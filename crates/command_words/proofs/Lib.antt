@@ -2,4 +2,5 @@ pub mod Shapes
 pub mod OneAsked
 mod AskedLemmas
 mod ReadLemmas
+mod RestoreLemmas
 mod UsualWords

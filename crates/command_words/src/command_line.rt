@@ -89,7 +89,7 @@ fn make_command<'a>(alloc: Global) -> Result<Command<'a>, AllocError>
 }
 
 // An option with one value.
-fn option<'a>(alloc: Global, name: &'a str) -> Arg<'a>
+pub fn option<'a>(alloc: Global, name: &'a str) -> Arg<'a>
     ensures rule { rule_of result ≡ option_of name.entry.now }
     ensures local { result.global ≡ false }
 {
@@ -97,7 +97,7 @@ fn option<'a>(alloc: Global, name: &'a str) -> Arg<'a>
 }
 
 // An option without a value.
-fn flag<'a>(alloc: Global, name: &'a str) -> Arg<'a>
+pub fn flag<'a>(alloc: Global, name: &'a str) -> Arg<'a>
     ensures rule { rule_of result ≡ flag_of name.entry.now }
     ensures local { result.global ≡ false }
 {

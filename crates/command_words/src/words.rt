@@ -93,7 +93,7 @@ pub struct CallersNumbers {
     pub readers: u8,
 }
 
-const SHORT_MOST: u32 = 65_535;
+pub(crate) const SHORT_MOST: u32 = 65_535;
 
 const SEED_MOST: u32 = 2_147_483_647;
 
@@ -264,7 +264,7 @@ fn read_writing(options: &ArgMatches<'_>) -> Option<Writing>
 }
 
 // Whether an option without a value is given.
-fn read_flag(options: &ArgMatches<'_>, name: &str) -> bool
+pub(crate) fn read_flag(options: &ArgMatches<'_>, name: &str) -> bool
     ensures { result ≡ is_given (first_of name.now (rows_of (found_of options.now))) }
 {
     match options.get_str(name) {
@@ -283,7 +283,7 @@ fn short_or(options: &ArgMatches<'_>, name: &str, default: u16) -> Option<u16>
 }
 
 // The number of a value, from `least` to `most`. If the value is missing, the default, if there is one.
-fn number_of(
+pub(crate) fn number_of(
     values: &ArgMatches<'_>,
     name: &str,
     least: u32,
