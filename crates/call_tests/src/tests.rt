@@ -12,7 +12,7 @@ mod mirrors;
 mod opening;
 mod queues;
 mod reply_texts;
-mod restoring;
+mod restored;
 mod retries;
 mod samples;
 mod two_media;
