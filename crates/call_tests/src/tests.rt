@@ -6,6 +6,7 @@ mod frames;
 mod histories;
 mod keeping;
 mod lists;
+mod longs;
 mod members;
 mod mirrors;
 mod opening;
