@@ -1,8 +1,8 @@
-pub mod Parts
+pub mod Pieces
 pub mod Putting
-pub mod Reading
+pub mod Records
 pub mod Rows
 pub mod Seeing
 pub mod Spelling
+pub mod Telling
 pub mod Undoing
-pub mod Writing

@@ -1,12 +1,12 @@
 -- What a put or a removal leaves, from a save on.
-use Rattle.std.proofs.Common.{◌≡◌, ℕ, ◌+◌, ◌*◌, List, [], ◌∷◌, ◌++◌, Option, sym, ◌∙◌, ap, subst}
+use Rattle.std.proofs.Common.{◌≡◌, ℕ, ◌+◌, ◌*◌, List, Option, sym, ap, subst}
 use Rattle.std.specs.FinMap.{get}
 use Rattle.history.specs.Table.{Work}
 use Rattle.history.specs.Writes.{Table}
 use Rattle.caller_steps.specs.Core.{CoreView}
 use Rattle.transactions.specs.Adds.{Stays, Keeps}
 use Rattle.long_values.specs.Values.{IsKeptFrom, IsKept}
-use Rattle.long_values.specs.Changing.{seen_by, saved_by, SameOutside, SameButAt, Changes}
+use Rattle.long_values.specs.Changing.{seen_by, SameOutside, SameButAt}
 use Rattle.long_values.proofs.Seeing.{kept}
 
 -- a refused save leaves what is seen,

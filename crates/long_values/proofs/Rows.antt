@@ -1,8 +1,7 @@
 -- The rows that a scan tells of the record keys of a long value.
-use Rattle.std.proofs.Common.{◌≡◌, ◌≢◌, ℕ, zero, suc, ◌+◌, ◌-◌, ◌<◌, ◌≤◌, Bool, true, false, cond, ◌&&◌, inl, inr, ⊎_elim, List, [], ◌∷◌, ◌++◌, map, length, Option, Some, None, refl, sym, ◌∙◌, ap, subst, arith}
-use Rattle.std.specs.Prelude.{nat_eq, nat_le, nat_lt, filter, get_or}
+use Rattle.std.proofs.Common.{◌≡◌, ◌≢◌, ℕ, zero, suc, ◌+◌, ◌-◌, ◌<◌, ◌≤◌, Bool, true, false, cond, ◌&&◌, inl, inr, List, [], ◌∷◌, map, length, Option, Some, None, refl, sym, ◌∙◌, ap, subst, arith}
+use Rattle.std.specs.Prelude.{nat_eq, nat_le, get_or}
 use lib.Dec.{T}
-use lib.Pointwise.{pointwise}
 use Rattle.std.specs.declared.cmp.Ordering.{Ordering}
 use Rattle.std.specs.declared.cmp.Ordering.TheVariants.{Less}
 use Rattle.std.specs.Ordering.{nat_cmp, eq_by_cmp, is_lt}
@@ -13,8 +12,8 @@ use Rattle.std.specs.FinMap.Entries.{find, below_all, is_sorted, where_key, is_s
 use Rattle.std.proofs.lemmas.Bool.{cases_eq, cases_lt, cases_Bool, and_parts, leb-true, eq-eqb, ne_eqb}
 use Rattle.history.specs.Key.{key_cmp, is_of_table, of_table}
 use Rattle.history.specs.declared.key.Key.{Key}
-use Rattle.history.specs.Writes.{Table, Row, is_within, rows_of, rows_within}
-use Rattle.history.specs.Rows.{keyed, all_keyed}
+use Rattle.history.specs.Writes.{Table, Row, rows_of, rows_within}
+use Rattle.history.specs.Rows.{all_keyed}
 use Rattle.history.proofs.Keyed.{find-keyed, sorted-keyed}
 use Rattle.history.proofs.Keys.{key_cmp-IsAntisymmetric, name_decides}
 use Rattle.long_values.specs.Values.{text_at, rows_from}

@@ -1,5 +1,5 @@
 -- What a caller sees after a call of its transaction.
-use Rattle.std.proofs.Common.{◌≡◌, ℕ, List, [], ◌∷◌, ◌++◌, Option, Some, unwrap_or, ◌∙◌, ap, subst}
+use Rattle.std.proofs.Common.{◌≡◌, ℕ, [], ◌∷◌, ◌++◌, Option, unwrap_or, ◌∙◌, subst}
 use Rattle.std.proofs.lemmas.List.Sums.{fold-append}
 use Rattle.history.specs.Legal.{records}
 use Rattle.history.specs.Table.{Granted, Work, begun, after, worked, Answers, IsRight, IsRightFrom}

@@ -1,6 +1,6 @@
 -- A save, and the way back to it.
-use Rattle.std.proofs.Common.{◌≡◌, ℕ, ◌+◌, ◌-◌, ◌*◌, ◌≤◌, Bool, true, false, cond, inl, inr, List, [], ◌∷◌, ◌++◌, length, take, Option, Some, None, Result, Ok, Err, refl, sym, ◌∙◌, ap, subst, arith}
-use Rattle.std.specs.Prelude.{◌⊎◌, IsTrue, IfErr, IsErr, IsErrAnd, slice_index_or}
+use Rattle.std.proofs.Common.{◌≡◌, ℕ, ◌+◌, ◌-◌, Bool, true, cond, inl, inr, List, [], ◌∷◌, ◌++◌, length, take, Result, Ok, Err, sym, ◌∙◌, ap, subst, arith}
+use Rattle.std.specs.Prelude.{◌⊎◌, IfErr, IsErr, IsErrAnd, slice_index_or}
 use Rattle.std.specs.FinMap.{get}
 use Rattle.std.proofs.Math.Seq.{get_or-append_seam}
 use Rattle.history.specs.Table.{Work, has_save}
@@ -16,7 +16,7 @@ use Rattle.transactions.specs.declared.work.Stop.{Stop}
 use Rattle.transactions.specs.declared.work.Stop.TheVariants.{Refused, GivenUp}
 use Rattle.long_values.specs.declared.unkept.Unkept.{Unkept}
 use Rattle.long_values.specs.declared.unkept.Unkept.TheVariants.{Half}
-use Rattle.long_values.specs.Changing.{seen_by, saved_by, SameOutside, SameButAt, IsUndone, IsUnfit, IsUnwritten}
+use Rattle.long_values.specs.Changing.{seen_by, saved_by, SameButAt, IsUndone, IsUnfit, IsUnwritten}
 use Rattle.long_values.proofs.Seeing.{added, answered}
 
 -- an error that a `?` hands on

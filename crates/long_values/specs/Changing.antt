@@ -1,5 +1,5 @@
 -- What calls on the records of one long value leave of what a caller sees.
-use Rattle.std.specs.Prelude.{ℕ, ◌≡◌, ◌+◌, ◌*◌, ◌^◌, ◌<◌, ◌≤◌, List, [], ◌∷◌, ◌++◌, length, Option, Some, None}
+use Rattle.std.specs.Prelude.{ℕ, ◌≡◌, ◌+◌, ◌*◌, ◌<◌, ◌≤◌, List, Option}
 use Rattle.std.specs.FinMap.{get}
 use Rattle.history.specs.declared.key.Key.{Key}
 use Rattle.history.specs.Writes.{Table}
@@ -7,7 +7,6 @@ use Rattle.caller_steps.specs.Core.{CoreView}
 use Rattle.caller_steps.specs.State.{view_of}
 use Rattle.caller_steps.specs.Sound.{IsSound}
 use Rattle.transactions.specs.Went.{WentWithin, Refuses}
-use Rattle.transactions.specs.declared.refusal.Refusal.{Refusal}
 use Rattle.transactions.specs.declared.work.Stop.{Stop}
 use Rattle.transactions.specs.declared.work.Stop.TheVariants.{Refused, GivenUp}
 use Rattle.long_values.specs.declared.unkept.Unkept.{Unkept}

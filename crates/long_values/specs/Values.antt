@@ -1,6 +1,6 @@
 -- Long values as records of a table. The value under key k takes the record keys from 512 * k on, at most 411 of them: the first record has
 -- its length in decimal, and each of the others 40 of its bytes in base64, the last one those that are left.
-use Rattle.std.specs.Prelude.{ℕ, zero, suc, ◌≡◌, ◌≢◌, ◌+◌, ◌*◌, ◌/◌, ◌<◌, ◌≤◌, nat_eq, nat_lt, if◌then◌else◌, List, length, take, drop, Option, Some, None, [], ◌∷◌, decimal}
+use Rattle.std.specs.Prelude.{ℕ, zero, suc, ◌≡◌, ◌+◌, ◌*◌, ◌/◌, ◌<◌, ◌≤◌, nat_eq, nat_lt, if◌then◌else◌, List, length, take, drop, Option, Some, None, [], ◌∷◌, decimal}
 use Rattle.std.specs.Map.{update}
 use Rattle.std.specs.FinMap.{get}
 use Rattle.base64.specs.GeneralPurpose.{IsBytes, encode_of}

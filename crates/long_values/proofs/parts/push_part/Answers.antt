@@ -1,4 +1,4 @@
-use Rattle.std.proofs.Common.{◌≡◌, ◌++◌, ℕ, List, drop, take, Ok, Err, sym, ◌∙◌, ap, take-append-drop, refl}
+use Rattle.std.proofs.Common.{◌≡◌, ◌++◌, ℕ, List, drop, take, Ok, sym, ◌∙◌, ap, take-append-drop, refl}
 use Rattle.base64.specs.GeneralPurpose.{IsBytes, decode_of, encode_of}
 use Rattle.base64.specs.Engines.{standard_no_pad}
 use Rattle.base64.proofs.EngineFacts.{decode_of-encode_of}

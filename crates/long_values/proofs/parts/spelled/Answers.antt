@@ -1,6 +1,6 @@
-use Rattle.std.proofs.Common.{◌≡◌, ◌+◌, ◌*◌, ◌<◌, ◌≤◌, ℕ, List, length, take, Ok, w8, sym, ◌∙◌, ap, subst, arith}
+use Rattle.std.proofs.Common.{◌≡◌, ℕ, List, length, take, Ok, sym, ◌∙◌, ap, subst, arith}
 use Rattle.std.proofs.lemmas.List.{take_at}
-use Rattle.base64.specs.GeneralPurpose.{IsBytes, encode_of, encoded_size_of}
+use Rattle.base64.specs.GeneralPurpose.{encode_of, encoded_size_of}
 use Rattle.base64.specs.Engines.{standard_no_pad}
 use Rattle.record_slots.specs.Text.{IsValue}
 use Rattle.long_values.proofs.Spelling.{length-spelled, value_spelled}

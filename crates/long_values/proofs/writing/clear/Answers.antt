@@ -1,4 +1,4 @@
-use Rattle.std.proofs.Common.{◌≡◌, ◌+◌, ◌*◌, ◌<◌, ◌≤◌, ℕ, Bool, refl, ◌∙◌, subst, arith}
+use Rattle.std.proofs.Common.{◌+◌, Bool, refl, ◌∙◌, subst, arith}
 use Rattle.std.specs.Prelude.{Ok}
 use Rattle.history.specs.declared.call.Call.TheVariants.{Del}
 use Rattle.transactions.specs.Adds.{Adds}
@@ -6,7 +6,7 @@ use Rattle.transactions.specs.Told.{told_del}
 use Rattle.transactions.specs.declared.work.Stop.TheVariants.{Refused}
 use Rattle.long_values.specs.Changing.{seen_by}
 use Rattle.long_values.proofs.Undoing.{handed_on}
-use Rattle.long_values.proofs.Writing.{changes_none, changes_on, changes_wider, changes_kept, changes_del, seen_del, del_absent, part_gone, cleared}
+use Rattle.long_values.proofs.Records.{changes_none, changes_on, changes_wider, changes_kept, changes_del, seen_del, del_absent, part_gone, cleared}
 use Rattle.long_values.proofs.writing.clear.Goals as goal
 
 pub loop-n-init : goal.loop-n-init
@@ -21,21 +21,21 @@ pub loop-n-preserved : goal.loop-n-preserved
 loop-n-preserved g c =
     let old = c.args.core.now in
     let cur = c.loop-n.core in
-    let new = c.del-was_there.new.core in
+    let new = c.del.new.core in
     let view = g.C.Core.view in
     let n = c.loop-n.n in
     let ge = c.loop-n.auto.n in
     record {
-      limits = c.del-was_there.ensures.steps.limits ∙ c.loop-n.invariant.limits;
+      limits = c.del.ensures.steps.limits ∙ c.loop-n.invariant.limits;
       changes = λ told.
           changes_on c.args.caller c.args.table (c.args.first + c.args.from) (c.args.first + (n + 1)) (view old) (view cur) (view new)
-          (c.calls_join.ensures.within old cur new c.args.caller (c.loop-n.invariant.changes told).within (c.del-was_there.ensures.within told))
+          (c.calls_join.ensures.within old cur new c.args.caller (c.loop-n.invariant.changes told).within (c.del.ensures.within told))
           (changes_wider c.args.caller c.args.table (c.args.first + c.args.from) (c.args.first + n) (c.args.first + c.args.from) (c.args.first + (n + 1)) (view old) (view cur) (omega arith) (omega arith) (c.loop-n.invariant.changes told))
-          (changes_del c.args.caller c.args.table (c.args.first + n) (c.args.first + c.args.from) (c.args.first + (n + 1)) _ (view cur) (view new) (c.del-was_there.ensures.stays told) (c.del-was_there.ensures.within told)
+          (changes_del c.args.caller c.args.table (c.args.first + n) (c.args.first + c.args.from) (c.args.first + (n + 1)) (told_del (Ok c.in_ok-was_there.was_there)) (view cur) (view new) (c.del.ensures.stays told) (c.del.ensures.within told)
           (c.in_ok-was_there.ensures.ok told) (omega (arith, ge)) (omega arith));
-      stays = λ start told stays. c.calls_join.ensures.stays start cur new c.args.caller (c.loop-n.invariant.stays start told stays) (c.del-was_there.ensures.stays told);
+      stays = λ start told stays. c.calls_join.ensures.stays start cur new c.args.caller (c.loop-n.invariant.stays start told stays) (c.del.ensures.stays told);
       gone = λ told.
-          part_gone c.args.caller c.args.table c.args.first c.args.from n _ (view cur) (view new) (c.del-was_there.ensures.stays told) (c.del-was_there.ensures.within told)
+          part_gone c.args.caller c.args.table c.args.first c.args.from n (told_del (Ok c.in_ok-was_there.was_there)) (view cur) (view new) (c.del.ensures.stays told) (c.del.ensures.within told)
           (c.in_ok-was_there.ensures.ok told) (c.loop-n.invariant.gone told);
     }
 
@@ -44,57 +44,57 @@ pub returns-in_err-was_there-clause-changes : goal.returns-in_err-was_there-clau
 returns-in_err-was_there-clause-changes g c told =
     let old = c.args.core.now in
     let cur = c.loop-n.core in
-    let new = c.del-was_there.new.core in
+    let new = c.del.new.core in
     let view = g.C.Core.view in
     let lt = c.loop-n-test.true in
     let from = c.args.first + c.args.from in
     changes_on c.args.caller c.args.table from (c.args.first + 512) (view old) (view cur) (view new)
-    (c.calls_join.ensures.within old cur new c.args.caller (c.loop-n.invariant.changes told).within (c.del-was_there.ensures.within told))
+    (c.calls_join.ensures.within old cur new c.args.caller (c.loop-n.invariant.changes told).within (c.del.ensures.within told))
     (changes_wider c.args.caller c.args.table from (c.args.first + c.loop-n.n) from (c.args.first + 512) (view old) (view cur) (omega arith) (omega (arith, lt)) (c.loop-n.invariant.changes told))
-    (changes_kept c.args.caller c.args.table from (c.args.first + 512) (view cur) (view new) (c.del-was_there.ensures.stays told) (c.del-was_there.ensures.within told) (c.in_err-was_there.ensures.err told))
+    (changes_kept c.args.caller c.args.table from (c.args.first + 512) (view cur) (view new) (c.del.ensures.stays told) (c.del.ensures.within told) (c.in_err-was_there.ensures.err told))
 
 pub returns-in_err-was_there-clause-stays : goal.returns-in_err-was_there-clause-stays
 returns-in_err-was_there-clause-stays g c start told stays =
-    c.calls_join.ensures.stays start c.loop-n.core c.del-was_there.new.core c.args.caller (c.loop-n.invariant.stays start told stays) (c.del-was_there.ensures.stays told)
+    c.calls_join.ensures.stays start c.loop-n.core c.del.new.core c.args.caller (c.loop-n.invariant.stays start told stays) (c.del.ensures.stays told)
 
 pub returns-in_err-was_there-clause-refused : goal.returns-in_err-was_there-clause-refused
 returns-in_err-was_there-clause-refused g c start told stays =
     handed_on _ c.from_residual.result _ c.from_residual.ensures
-    (c.calls_join.ensures.later start c.loop-n.core c.del-was_there.new.core c.args.caller (Refused c.in_err-was_there.field-0.0) (c.loop-n.invariant.stays start told stays) (c.in_err-was_there.ensures.refused told))
+    (c.calls_join.ensures.later start c.loop-n.core c.del.new.core c.args.caller (Refused c.in_err-was_there.field-0.0) (c.loop-n.invariant.stays start told stays) (c.in_err-was_there.ensures.refused told))
 
 -- there was none
-pub returns-then-was_there-clause-changes : goal.returns-then-was_there-clause-changes
-returns-then-was_there-clause-changes g c told =
+pub returns-then-not-was_there-clause-changes : goal.returns-then-not-was_there-clause-changes
+returns-then-not-was_there-clause-changes g c told =
     let old = c.args.core.now in
     let cur = c.loop-n.core in
-    let new = c.del-was_there.new.core in
+    let new = c.del.new.core in
     let view = g.C.Core.view in
     let lt = c.loop-n-test.true in
     let ge = c.loop-n.auto.n in
     let from = c.args.first + c.args.from in
     changes_on c.args.caller c.args.table from (c.args.first + 512) (view old) (view cur) (view new)
-    (c.calls_join.ensures.within old cur new c.args.caller (c.loop-n.invariant.changes told).within (c.del-was_there.ensures.within told))
+    (c.calls_join.ensures.within old cur new c.args.caller (c.loop-n.invariant.changes told).within (c.del.ensures.within told))
     (changes_wider c.args.caller c.args.table from (c.args.first + c.loop-n.n) from (c.args.first + 512) (view old) (view cur) (omega arith) (omega (arith, lt)) (c.loop-n.invariant.changes told))
-    (changes_del c.args.caller c.args.table (c.args.first + c.loop-n.n) from (c.args.first + 512) _ (view cur) (view new) (c.del-was_there.ensures.stays told) (c.del-was_there.ensures.within told) (c.in_ok-was_there.ensures.ok told)
+    (changes_del c.args.caller c.args.table (c.args.first + c.loop-n.n) from (c.args.first + 512) (told_del (Ok c.in_ok-was_there.was_there)) (view cur) (view new) (c.del.ensures.stays told) (c.del.ensures.within told) (c.in_ok-was_there.ensures.ok told)
     (omega (arith, ge)) (omega (arith, lt)))
 
-pub returns-then-was_there-clause-stays : goal.returns-then-was_there-clause-stays
-returns-then-was_there-clause-stays g c start told stays =
-    c.calls_join.ensures.stays start c.loop-n.core c.del-was_there.new.core c.args.caller (c.loop-n.invariant.stays start told stays) (c.del-was_there.ensures.stays told)
+pub returns-then-not-was_there-clause-stays : goal.returns-then-not-was_there-clause-stays
+returns-then-not-was_there-clause-stays g c start told stays =
+    c.calls_join.ensures.stays start c.loop-n.core c.del.new.core c.args.caller (c.loop-n.invariant.stays start told stays) (c.del.ensures.stays told)
 
-pub returns-then-was_there-clause-gone : goal.returns-then-was_there-clause-gone
-returns-then-was_there-clause-gone g c told was records =
+pub returns-then-not-was_there-clause-gone : goal.returns-then-not-was_there-clause-gone
+returns-then-not-was_there-clause-gone g c told was records =
     let old = g.C.Core.view c.args.core.now in
     let cur = g.C.Core.view c.loop-n.core in
-    let new = g.C.Core.view c.del-was_there.new.core in
+    let new = g.C.Core.view c.del.new.core in
     let n = c.loop-n.n in
-    let stays = c.del-was_there.ensures.stays told in
+    let stays = c.del.ensures.stays told in
     let adds = c.in_ok-was_there.ensures.ok told in
-    let absent = subst (λ (b : Bool). Adds c.args.caller (Del c.args.table (c.args.first + n)) (told_del (Ok b)) cur new) c.if-was_there.false adds in
+    let absent = subst (λ (b : Bool). Adds c.args.caller (Del c.args.table (c.args.first + n)) (told_del (Ok b)) cur new) c.if-not-was_there.true adds in
     cleared c.args.table c.args.first c.args.from n was (seen_by c.args.caller old) (seen_by c.args.caller cur) (seen_by c.args.caller new) records (c.loop-n.invariant.changes told).outside (c.loop-n.invariant.gone told)
     c.loop-n.auto.n c.loop-n-test.true (del_absent c.args.caller c.args.table (c.args.first + n) cur new stays absent)
-    (changes_del c.args.caller c.args.table (c.args.first + n) (c.args.first + n) (c.args.first + n + 1) _ cur new stays (c.del-was_there.ensures.within told) adds (omega arith) (omega arith)).outside
-    (seen_del c.args.caller c.args.table (c.args.first + n) _ cur new stays adds)
+    (changes_del c.args.caller c.args.table (c.args.first + n) (c.args.first + n) (c.args.first + n + 1) (told_del (Ok c.in_ok-was_there.was_there)) cur new stays (c.del.ensures.within told) adds (omega arith) (omega arith)).outside
+    (seen_del c.args.caller c.args.table (c.args.first + n) (told_del (Ok c.in_ok-was_there.was_there)) cur new stays adds)
 
 -- all were removed
 pub returns-clause-changes : goal.returns-clause-changes

@@ -1,9 +1,8 @@
-use Rattle.std.proofs.Common.{◌≡◌, ◌+◌, ◌*◌, ◌/◌, ◌<◌, ◌≤◌, ℕ, Some, ◌∙◌, ap, arith}
-use Rattle.transactions.specs.declared.work.Stop.TheVariants.{Refused}
+use Rattle.std.proofs.Common.{◌+◌, Some, ◌∙◌, ap, arith}
 use Rattle.long_values.specs.Values.{part_count}
 use Rattle.long_values.specs.Changing.{seen_by}
 use Rattle.long_values.proofs.Undoing.{handed_on}
-use Rattle.long_values.proofs.Writing.{changes_on, changes_wider, changes_kept, changes_put, seen_put, written}
+use Rattle.long_values.proofs.Records.{changes_on, changes_wider, changes_kept, changes_put, seen_put, written}
 use Rattle.long_values.proofs.writing.write.Goals as goal
 
 -- the first record was refused
@@ -30,7 +29,7 @@ returns-in_err-write_parts-clause-stays g c told = c.write_parts.ensures.stays c
 
 pub returns-in_err-write_parts-clause-refused : goal.returns-in_err-write_parts-clause-refused
 returns-in_err-write_parts-clause-refused g c told =
-    handed_on _ c.from_residual.result _ c.from_residual.ensures (c.in_err-write_parts.ensures.refused c.args.core.now told (c.put.ensures.stays told))
+    handed_on _ c.from_residual-in_err-write_parts.result _ c.from_residual-in_err-write_parts.ensures (c.in_err-write_parts.ensures.refused c.args.core.now told (c.put.ensures.stays told))
 
 -- or the removal of an old one
 pub returns-in_err-clear-clause-changes : goal.returns-in_err-clear-clause-changes
@@ -55,7 +54,7 @@ returns-in_err-clear-clause-stays g c told = c.clear.ensures.stays c.args.core.n
 
 pub returns-in_err-clear-clause-refused : goal.returns-in_err-clear-clause-refused
 returns-in_err-clear-clause-refused g c told =
-    handed_on _ c.from_residual.result _ c.from_residual.ensures
+    handed_on _ c.from_residual-in_err-clear.result _ c.from_residual-in_err-clear.ensures
     (c.in_err-clear.ensures.refused c.args.core.now told (c.write_parts.ensures.stays c.args.core.now told (c.put.ensures.stays told)))
 
 -- all was done

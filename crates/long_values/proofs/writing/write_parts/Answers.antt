@@ -1,8 +1,8 @@
-use Rattle.std.proofs.Common.{◌≡◌, ◌+◌, ◌*◌, ◌<◌, ◌≤◌, ℕ, refl, ◌∙◌, arith}
+use Rattle.std.proofs.Common.{◌+◌, refl, ◌∙◌, arith}
 use Rattle.transactions.specs.declared.work.Stop.TheVariants.{Refused}
 use Rattle.long_values.specs.Values.{part_count}
 use Rattle.long_values.proofs.Undoing.{handed_on}
-use Rattle.long_values.proofs.Writing.{changes_none, changes_on, changes_wider, changes_kept, changes_put, part_written}
+use Rattle.long_values.proofs.Records.{changes_none, changes_on, changes_wider, changes_kept, changes_put, part_written}
 use Rattle.long_values.proofs.writing.write_parts.Goals as goal
 
 pub loop-n-init : goal.loop-n-init
@@ -42,7 +42,7 @@ returns-in_err-put-clause-changes g c told =
     let new = c.put.new.core in
     let view = g.C.Core.view in
     let n = c.loop-n.n in
-    let count = c.part_count.ensures in
+    let count = c.part_count-n-end.ensures in
     let lt = c.loop-n-test.true in
     let last = c.args.first + 1 + part_count c.args.bytes.now in
     changes_on c.args.caller c.args.table (c.args.first + 1) last (view old) (view cur) (view new)
@@ -63,10 +63,10 @@ returns-in_err-put-clause-refused g c start told stays =
 pub returns-clause-changes : goal.returns-clause-changes
 returns-clause-changes g c told =
     let view = g.C.Core.view in
-    let count = c.part_count.ensures in
+    let count = c.part_count-n-end.ensures in
     let le = c.loop-n.auto.n-end in
     changes_wider c.args.caller c.args.table (c.args.first + 1) (c.args.first + 1 + c.loop-n.n) (c.args.first + 1) (c.args.first + 1 + part_count c.args.bytes.now) (view c.args.core.now) (view c.loop-n.core)
     (omega arith) (omega (arith, count, le)) (c.loop-n.invariant.changes told)
 
 pub returns-clause-written : goal.returns-clause-written
-returns-clause-written g c told k lt = c.loop-n.invariant.written told k (let count = c.part_count.ensures in let past = c.loop-n-test.false in omega (arith, count, past, lt))
+returns-clause-written g c told k lt = c.loop-n.invariant.written told k (let count = c.part_count-n-end.ensures in let past = c.loop-n-test.false in omega (arith, count, past, lt))

@@ -1,5 +1,5 @@
 -- What calls on the records of a value leave.
-use Rattle.std.proofs.Common.{◌≡◌, ◌≢◌, ℕ, zero, suc, ◌+◌, ◌*◌, ◌<◌, ◌≤◌, Bool, true, false, cond, inl, inr, List, [], ◌∷◌, ◌++◌, Option, Some, None, refl, sym, ◌∙◌, ap, subst, arith}
+use Rattle.std.proofs.Common.{◌≡◌, ℕ, zero, suc, ◌+◌, ◌<◌, ◌≤◌, Bool, cond, inl, inr, List, [], Option, Some, None, refl, sym, ◌∙◌, ap, subst, arith}
 use Rattle.std.specs.Prelude.{nat_lt, IsTrue, IsSome}
 use Rattle.std.proofs.lemmas.Bool.{cases_Bool, cases_lt, cases_eq, lt-ltb, le-ltb, ltb-true}
 use Rattle.std.proofs.lemmas.List.Elements.{All-nil}
@@ -18,7 +18,7 @@ use Rattle.caller_steps.specs.Sound.{IsSound}
 use Rattle.transactions.specs.Adds.{Stays, Adds, Keeps}
 use Rattle.transactions.specs.Went.{WentWithin, is_within}
 use Rattle.long_values.specs.Values.{part_count, text_at, record_at, IsLong, IsKeptFrom}
-use Rattle.long_values.specs.Changing.{seen_by, saved_by, SameOutside, Changes}
+use Rattle.long_values.specs.Changing.{seen_by, SameOutside, Changes}
 use Rattle.long_values.proofs.Seeing.{added, kept, answered}
 
 -- a write of one key changes no other,

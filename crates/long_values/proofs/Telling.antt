@@ -1,9 +1,8 @@
 -- What a scan of the records of a value tells.
-use Rattle.std.proofs.Common.{◌≡◌, ℕ, ◌+◌, ◌*◌, ◌^◌, ◌<◌, ◌≤◌, List, [], ◌∷◌, length, Option, Some, None, Result, Ok, Err, inl, inr, refl, sym, ◌∙◌, ap, subst, arith}
-use Rattle.std.specs.Prelude.{◌⊎◌, decimal, MatchOption, IfOk}
+use Rattle.std.proofs.Common.{◌≡◌, ℕ, ◌+◌, ◌*◌, ◌^◌, ◌<◌, List, [], length, Option, Some, None, Result, Ok, Err, inl, inr, refl, sym, ◌∙◌, ap, subst, arith}
+use Rattle.std.specs.Prelude.{◌⊎◌, decimal, MatchOption}
 use Rattle.std.specs.FinMap.{get}
 use Rattle.std.proofs.lemmas.Fmt.{decimal_injective}
-use Rattle.texts.specs.Reads.{Reads}
 use Rattle.history.specs.Key.{of_table}
 use Rattle.history.specs.Table.{Work, found}
 use Rattle.history.specs.declared.call.Call.TheVariants.{Get, Scan}
@@ -20,7 +19,7 @@ use Rattle.long_values.specs.Values.{part_count, record_at, length_of, IsKeptFro
 use Rattle.long_values.specs.Changing.{seen_by, IsUnread}
 use Rattle.long_values.proofs.Seeing.{added, answered}
 use Rattle.long_values.proofs.Rows.{scanned, scanned_none}
-use Rattle.long_values.proofs.Writing.{record_in, record_past, no_value}
+use Rattle.long_values.proofs.Records.{record_in, record_past, no_value}
 
 -- a scan tells the rows of the value,
 pub kept_rows : (name : List ℕ) (first : ℕ) (bytes : List ℕ) (table : Table) → IsKeptFrom name first (Some bytes) table → rows_within name first (first + 511) table ≡ rows_of first bytes
@@ -61,16 +60,23 @@ read_none caller old new name key stays adds = absent_is (get (seen_by caller ol
 
 -- ---- a value of rows
 
+-- what was read is the value
+abbrev pub Reads : {V : Type 0} → (V → List ℕ) → Option (List ℕ) → Option V → Type 0
+Reads items value told = MatchOption told (value ≡ None) (λ v. value ≡ Some (items v))
+
+itself : (value : Option (List ℕ)) → value ≡ value
+itself value = refl
+
 -- What reads rows gives of a value: of no rows none, and of those of bytes the bytes.
 pub told_value : {V : Type 0} (items : V → List ℕ) (name : List ℕ) (key first : ℕ) (table : Table) (rows : List Row) (told : Option V) (value : Option (List ℕ)) → rows ≡ rows_within name first (first + 511) table → first ≡ key * 512
     → (rows ≡ [] → told ≡ None) → ((from : ℕ) (bytes : List ℕ) → IsBytes bytes → rows ≡ rows_of from bytes → MatchOption told ⊥ (λ (v : V). items v ≡ bytes))
-    → IsKept name key value table → MatchOption told (value ≡ None) (λ (v : V). value ≡ Some (items v))
+    → IsKept name key value table → Reads items value told
 told_value {V} items name key first table rows told None are at none some kept =
-    subst (λ (o : Option V). MatchOption o (None ≡ None) (λ (v : V). None ≡ Some (items v))) (sym (none (are ∙ ap (λ (f : ℕ). rows_within name f (f + 511) table) at ∙ kept_none name (key * 512) table kept))) refl
+    subst (λ (o : Option V). Reads items None o) (sym (none (are ∙ ap (λ (f : ℕ). rows_within name f (f + 511) table) at ∙ kept_none name (key * 512) table kept))) (itself None)
 told_value {V} items name key first table rows told (Some bytes) are at none some kept =
     go told (some (key * 512) bytes kept.long.0 (are ∙ ap (λ (f : ℕ). rows_within name f (f + 511) table) at ∙ kept_rows name (key * 512) bytes table kept))
   where
-    go : (o : Option V) → MatchOption o ⊥ (λ (v : V). items v ≡ bytes) → MatchOption o (Some bytes ≡ None) (λ (v : V). Some bytes ≡ Some (items v))
+    go : (o : Option V) → MatchOption o ⊥ (λ (v : V). items v ≡ bytes) → Reads items (Some bytes) o
     go None m = absurd m
     go (Some v) m = ap Some (sym m)
 
