@@ -1,22 +1,25 @@
 -- A save, and the way back to it.
-use Rattle.std.proofs.Common.{◌≡◌, ℕ, ◌+◌, ◌-◌, Bool, true, cond, inl, inr, List, [], ◌∷◌, ◌++◌, length, take, Result, Ok, Err, sym, ◌∙◌, ap, subst, arith}
+use Rattle.std.proofs.Common.{append_assoc, refl, ◌≡◌, ℕ, ◌+◌, ◌-◌, Bool, true, cond, inl, inr, List, [], ◌∷◌, ◌++◌, length, take, Result, Ok, Err, sym, ◌∙◌, ap, subst, arith}
 use Rattle.std.specs.Prelude.{◌⊎◌, IfErr, IsErr, IsErrAnd, slice_index_or}
 use Rattle.std.specs.FinMap.{get}
 use Rattle.std.proofs.Math.Seq.{get_or-append_seam}
-use Rattle.history.specs.Table.{Work, has_save}
+use Rattle.history.specs.Table.{Granted, Work, has_save}
 use Rattle.history.specs.Writes.{Table}
 use Rattle.history.specs.declared.call.Call.TheVariants.{Save, Back}
 use Rattle.history.specs.declared.call.Reply.TheVariants.{Fine, Saved}
 use Rattle.caller_steps.specs.Core.{CoreView}
 use Rattle.caller_steps.specs.State.{view_of}
+use Rattle.caller_steps.specs.Step.{Step, Runs}
 use Rattle.transactions.specs.Adds.{Stays, Adds}
-use Rattle.transactions.specs.Went.{Refuses, IsOfCore}
+use Rattle.transactions.specs.Told.{reply_of}
+use Rattle.transactions.specs.Went.{Refuses, IsOfCore, turns_by}
+use Rattle.transactions.proofs.Going.{joined}
 use Rattle.transactions.specs.declared.refusal.Refusal.{Refusal}
 use Rattle.transactions.specs.declared.work.Stop.{Stop}
 use Rattle.transactions.specs.declared.work.Stop.TheVariants.{Refused, GivenUp}
 use Rattle.long_values.specs.declared.unkept.Unkept.{Unkept}
 use Rattle.long_values.specs.declared.unkept.Unkept.TheVariants.{Half}
-use Rattle.long_values.specs.Changing.{seen_by, saved_by, SameButAt, IsUndone, IsUnfit, IsUnwritten}
+use Rattle.long_values.specs.Changing.{seen_by, saved_by, SameButAt, IsUndone, IsUnfit, IsUnwritten, RefusesBack}
 use Rattle.long_values.proofs.Seeing.{added, answered}
 
 -- an error that a `?` hands on
@@ -47,7 +50,23 @@ went_back caller n before there old new stays adds last saves =
 -- all but one value is the same in any case
 pub undone_outside : (caller : ℕ) (name : List ℕ) (key : ℕ) (there : Table) (old new : CoreView) (stop : Stop Unkept) → IsUndone caller there old new stop → SameButAt name key there (seen_by caller old) → SameButAt name key there (seen_by caller new)
 undone_outside caller name key there old new (Refused refusal) undone same k out = ap (λ (t : Table). get t k) undone
-undone_outside caller name key there old new (GivenUp reason) undone same k out = ap (λ (t : Table). get t k) undone ∙ same k out
+undone_outside caller name key there old new (GivenUp reason) undone same k out = ap (λ (t : Table). get t k) undone.1 ∙ same k out
+
+-- a refused way back, also behind other calls
+pub refused_back : (caller save : ℕ) (refusal : Refusal) (old new : CoreView) → Step old.limits old.state caller (Back save) (reply_of refusal) new.state → RefusesBack caller old new
+refused_back caller save refusal old new step = record { before = []; save = save; refusal = refusal; run = (new.state, step, refl) }
+
+refused_later : (caller : ℕ) (old mid new : CoreView) → Stays caller old mid → RefusesBack caller mid new → RefusesBack caller old new
+refused_later caller old mid new stays lost =
+    let went = stays.went in
+    let last : Granted = (Back lost.save, reply_of lost.refusal) ∷ [] in
+    record {
+      before = went.told ++ lost.before;
+      save = lost.save;
+      refusal = lost.refusal;
+      run = subst (λ (told : Granted). Runs old.limits old.state (turns_by caller told) new.state) (sym (append_assoc went.told lost.before last))
+          (joined caller old mid new went.told (lost.before ++ last) stays.goes_on.limits went.run lost.run);
+    }
 
 -- what is told of a refusal is the core's,
 pub of_core : (caller : ℕ) (old new : CoreView) (refusal : Refusal) (stop : Stop Unkept) → (stop ≡ Refused refusal) ⊎ (stop ≡ GivenUp (Half refusal)) → Refuses caller old new refusal → IsOfCore caller old new stop
@@ -64,9 +83,10 @@ not_unfit size refusal stop told = elim told [
 ]
 
 -- and the caller sees what it saw, or all but one value of it
-pub unwritten : (caller : ℕ) (name : List ℕ) (key : ℕ) (refusal : Refusal) (old mid new : CoreView) (stop : Stop Unkept) → (stop ≡ Refused refusal) ⊎ (stop ≡ GivenUp (Half refusal)) → Refuses caller old new refusal
+pub unwritten : (caller : ℕ) (name : List ℕ) (key : ℕ) (refusal : Refusal) (old mid new : CoreView) (stop : Stop Unkept) → Stays caller old mid → (stop ≡ Refused refusal) ⊎ (stop ≡ GivenUp (Half refusal)) → Refuses caller old new refusal
     → IsUndone caller (seen_by caller old) mid new stop → SameButAt name key (seen_by caller old) (seen_by caller new) → IsUnwritten name key caller old new stop
-unwritten caller name key refusal old mid new stop told refuses undone same = elim told [
+unwritten caller name key refusal old mid new stop stays told refuses undone same = elim told [
   | inl is ↦ subst (λ (s : Stop Unkept). IsUnwritten name key caller old new s) (sym is) (refuses, subst (λ (s : Stop Unkept). IsUndone caller (seen_by caller old) mid new s) is undone)
-  | inr is ↦ subst (λ (s : Stop Unkept). IsUnwritten name key caller old new s) (sym is) (refuses, same)
+  | inr is ↦ subst (λ (s : Stop Unkept). IsUnwritten name key caller old new s) (sym is)
+      (refuses, refused_later caller old mid new stays (subst (λ (s : Stop Unkept). IsUndone caller (seen_by caller old) mid new s) is undone).0, same)
 ]

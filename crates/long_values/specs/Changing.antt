@@ -1,12 +1,17 @@
 -- What calls on the records of one long value leave of what a caller sees.
-use Rattle.std.specs.Prelude.{ℕ, ◌≡◌, ◌+◌, ◌*◌, ◌<◌, ◌≤◌, List, Option}
+use Rattle.std.specs.Prelude.{[], ◌∷◌, ◌++◌, ℕ, ◌≡◌, ◌+◌, ◌*◌, ◌<◌, ◌≤◌, List, Option}
 use Rattle.std.specs.FinMap.{get}
 use Rattle.history.specs.declared.key.Key.{Key}
 use Rattle.history.specs.Writes.{Table}
 use Rattle.caller_steps.specs.Core.{CoreView}
 use Rattle.caller_steps.specs.State.{view_of}
 use Rattle.caller_steps.specs.Sound.{IsSound}
-use Rattle.transactions.specs.Went.{WentWithin, Refuses}
+use Rattle.caller_steps.specs.Step.{Runs}
+use Rattle.history.specs.Table.{Granted}
+use Rattle.history.specs.declared.call.Call.TheVariants.{Back}
+use Rattle.transactions.specs.Told.{reply_of}
+use Rattle.transactions.specs.Went.{WentWithin, Refuses, turns_by}
+use Rattle.transactions.specs.declared.refusal.Refusal.{Refusal}
 use Rattle.transactions.specs.declared.work.Stop.{Stop}
 use Rattle.transactions.specs.declared.work.Stop.TheVariants.{Refused, GivenUp}
 use Rattle.long_values.specs.declared.unkept.Unkept.{Unkept}
@@ -35,11 +40,18 @@ pub record Changes (caller : ℕ) (name : List ℕ) (low high : ℕ) (old new : 
   pub saves : saved_by caller new ≡ saved_by caller old
   pub outside : SameOutside name low high (seen_by caller old) (seen_by caller new)
 
+-- the core refused the caller the way back to a save
+pub record RefusesBack (caller : ℕ) (old new : CoreView) : Type 0 where
+  pub before : Granted
+  pub save : ℕ
+  pub refusal : Refusal
+  pub run : Runs old.limits old.state (turns_by caller (before ++ (Back save, reply_of refusal) ∷ [])) new.state
+
 -- What is left where a value was not written. The caller sees what it saw; but if the core refused a call, and the way back too, a half of
 -- the value may be there.
 abbrev pub IsUnwritten : List ℕ → ℕ → ℕ → CoreView → CoreView → Stop Unkept → Type 0
 IsUnwritten name key caller old new (Refused refusal) = Refuses caller old new refusal × (seen_by caller new ≡ seen_by caller old)
-IsUnwritten name key caller old new (GivenUp (Half refusal)) = Refuses caller old new refusal × SameButAt name key (seen_by caller old) (seen_by caller new)
+IsUnwritten name key caller old new (GivenUp (Half refusal)) = Refuses caller old new refusal × RefusesBack caller old new × SameButAt name key (seen_by caller old) (seen_by caller new)
 IsUnwritten name key caller old new (GivenUp reason) = seen_by caller new ≡ seen_by caller old
 
 -- so many bytes are written for no other reason of the value's own but that they are too many
@@ -59,4 +71,4 @@ IsUnread name key table _ = Unit {0}
 -- back at a save: the caller sees what it saw there, or, where the core refused the way back, what it saw before
 abbrev pub IsUndone : ℕ → Table → CoreView → CoreView → Stop Unkept → Type 0
 IsUndone caller there old new (Refused refusal) = seen_by caller new ≡ there
-IsUndone caller there old new (GivenUp reason) = seen_by caller new ≡ seen_by caller old
+IsUndone caller there old new (GivenUp reason) = RefusesBack caller old new × (seen_by caller new ≡ seen_by caller old)

@@ -88,7 +88,7 @@ returns-in-Err-clause-refused g c told =
     let refuses = c.calls_join.ensures.earlier c.args.core.now c.erase.new.core c.undo.new.core c.args.caller stop stays later (c.undo.ensures.stays told) in
     let here = saved c.args.caller c.in_ok-saved.saved old mid (c.save.ensures.stays told) (c.in_ok-saved.ensures.ok told) in
     let undone = c.undo.ensures.undone told (saved_by c.args.caller old) (seen_by c.args.caller old) here.2 ((c.erase.ensures.changes told).saves ∙ here.1) in
-    unwritten c.args.caller c.args.table c.args.key c.in-Err.refusal old left new c.undo.result c.undo.ensures.told refuses undone
+    unwritten c.args.caller c.args.table c.args.key c.in-Err.refusal old left new c.undo.result stays c.undo.ensures.told refuses undone
     (undone_outside c.args.caller c.args.table c.args.key (seen_by c.args.caller old) left new c.undo.result undone
     (from_before c.args.table c.args.key c.first.result (seen_by c.args.caller old) (seen_by c.args.caller mid) (seen_by c.args.caller left) here.0 c.first.ensures.is (c.erase.ensures.changes told).outside))
 
