@@ -11,7 +11,6 @@ mod mirrors;
 mod opening;
 mod queues;
 mod reply_texts;
-mod restoring;
 mod retries;
 mod samples;
 mod two_media;
