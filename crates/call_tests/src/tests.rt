@@ -12,7 +12,6 @@ mod mirrors;
 mod opening;
 mod queues;
 mod reply_texts;
-mod restored;
 mod retries;
 mod samples;
 mod two_media;
