@@ -1,5 +1,5 @@
 -- The entries of tables as they stand in a super page.
-use Rattle.std.proofs.Common.{◌≡◌, ◌≢◌, ℕ, zero, suc, ◌+◌, ◌-◌, ◌*◌, ◌^◌, ◌<◌, ◌≤◌, true, List, [], ◌∷◌, ◌++◌, length, map, take, drop, replicate, refl, sym, ◌∙◌, ap, subst, append_assoc, arith}
+use Rattle.std.proofs.Common.{◌≡◌, ◌≢◌, ℕ, zero, suc, ◌+◌, ◌-◌, ◌*◌, ◌^◌, ◌<◌, ◌≤◌, true, List, [], ◌∷◌, ◌++◌, length, take, drop, replicate, refl, sym, ◌∙◌, ap, subst, append_assoc, arith}
 use Rattle.std.specs.Prelude.{Some, slice_get}
 use Rattle.std.proofs.lemmas.List.{append-nil, length-append, length-replicate, take_at, drop_at, drop-drop, drop-replicate}
 use Rattle.mars_base.specs.Bytes.{put}
@@ -8,7 +8,6 @@ use Rattle.record_slots.specs.Super.{AreTables, SaysSuper, entry_bytes, are_name
 use Rattle.record_slots.specs.Text.{IsName}
 use Rattle.record_slots.specs.declared.super_page.TableEntry.{TableEntry}
 use Rattle.record_slots.proofs.Naming.{added, are_more, long_entry}
-use Rattle.history.specs.Key.{main_name}
 use Rattle.history.specs.Rows.{NamedRows}
 use Rattle.record_table.proofs.SuperPages.{says_written}
 use Rattle.record_table.proofs.Upgraded.{main_used, has_main}

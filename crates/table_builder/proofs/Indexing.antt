@@ -1,5 +1,5 @@
 -- The pages of an index, as they are written table by table.
-use Rattle.std.proofs.Common.{◌≡◌, ℕ, suc, ◌+◌, List, [], ◌∷◌, ◌++◌, length, refl, sym, ◌∙◌, ap, append_assoc, arith}
+use Rattle.std.proofs.Common.{◌≡◌, ℕ, suc, ◌+◌, List, [], ◌∷◌, ◌++◌, length, ◌∙◌, ap, append_assoc, arith}
 use Rattle.std.proofs.lemmas.List.{length-append}
 use Rattle.record_slots.specs.Super.{super_bytes}
 use Rattle.history.specs.Rows.{NamedRows}

@@ -1,5 +1,5 @@
 -- Data that is made of tables by the plan is an image of them.
-use Rattle.std.proofs.Common.{◌≡◌, ℕ, zero, suc, ◌+◌, ◌-◌, ◌*◌, ◌^◌, ◌<◌, ◌≤◌, true, false, List, [], ◌∷◌, ◌++◌, length, map, nat_lt, refl, sym, ◌∙◌, ap, subst, arith}
+use Rattle.std.proofs.Common.{◌≡◌, ℕ, zero, suc, ◌+◌, ◌-◌, ◌^◌, ◌<◌, ◌≤◌, true, false, List, [], ◌∷◌, length, map, nat_lt, refl, sym, ◌∙◌, ap, subst, arith}
 use Rattle.std.specs.Prelude.{Some, slice_get}
 use Rattle.std.proofs.lemmas.Bool.{lt-leb, le-leb}
 use Rattle.std.proofs.lemmas.List.{length-append}
@@ -14,9 +14,8 @@ use Rattle.index_pages.specs.Written.{written_page}
 use Rattle.btree_pages.specs.Index.{tree}
 use Rattle.record_table.specs.Names.{names_of}
 use Rattle.record_table.specs.Shown.{table_of}
-use Rattle.table_builder.specs.Built.{Level}
 use Rattle.table_builder.specs.Image.{AreRows, AreInSlots, AreTablesBuilt, Built, IsImage, IsTableBuilt, named_rows, pairs_for}
-use Rattle.table_builder.specs.Plan.{AreSorted, BeginsWithMain, CanMake, HasOwnName, HasRoom, IsMade, Plan, below_bytes, built_for, built_from, entries_from, front_for, index_for, index_with, level_bytes, levels_for, levels_of, page_at, roots_bytes, rows_count, slots_from, slots_page, tables_built, top_of}
+use Rattle.table_builder.specs.Plan.{AreSorted, BeginsWithMain, CanMake, HasRoom, IsMade, Plan, below_bytes, built_for, built_from, entries_from, front_for, index_for, index_with, level_bytes, levels_for, levels_of, page_at, roots_bytes, rows_count, slots_from, slots_page, tables_built, top_of}
 use Rattle.table_builder.proofs.Entering.{named_entries_are, says_front, tables_are, used_entries_are}
 use Rattle.table_builder.proofs.Imaging.{image_sound}
 use Rattle.table_builder.proofs.Placing.{AreSlotsAt, all_slots, all_there, in_slots, length-slots_for, slots_before, slots_behind, slots_for}

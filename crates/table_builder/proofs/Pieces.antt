@@ -1,7 +1,7 @@
 -- Bytes that are written piece by piece.
-use Rattle.std.proofs.Common.{◌≡◌, ℕ, zero, suc, ◌+◌, ◌-◌, ◌*◌, ◌^◌, ◌<◌, ◌≤◌, List, [], ◌∷◌, ◌++◌, length, get_or, map, take, drop, replicate, refl, sym, ◌∙◌, ap, append_assoc, arith}
+use Rattle.std.proofs.Common.{◌≡◌, ℕ, zero, suc, ◌+◌, ◌-◌, ◌*◌, ◌^◌, ◌<◌, ◌≤◌, List, [], ◌∷◌, ◌++◌, length, get_or, take, drop, replicate, refl, sym, ◌∙◌, ap, append_assoc, arith}
 use Rattle.std.specs.Prelude.{None, Some, slice_get}
-use Rattle.std.proofs.lemmas.List.{append-nil, drop-drop, drop-replicate, drop_all, drop_at, length-append, length-drop, length-take, take-append-drop, take_at}
+use Rattle.std.proofs.lemmas.List.{drop-replicate, drop_all, drop_at, length-append, length-drop, length-take, take-append-drop, take_at}
 use Rattle.record_slots.specs.Slots.{slot_bytes}
 use Rattle.record_slots.specs.Super.{entry_bytes}
 use Rattle.record_slots.specs.declared.slot.Slot.{Slot}
@@ -9,7 +9,7 @@ use Rattle.record_slots.specs.declared.slot.Slot.TheVariants.{Present}
 use Rattle.history.specs.Rows.{NamedRows}
 use Rattle.history.specs.Writes.{Row}
 use Rattle.table_builder.specs.Plan.{entries_bytes, entries_from, rows_count, slots_bytes, slots_from, slots_page}
-use Rattle.table_builder.proofs.Placing.{get_drop, length-slots_for, length-slots_from, slots_for}
+use Rattle.table_builder.proofs.Placing.{length-slots_for, length-slots_from, slots_for}
 use Rattle.table_builder.proofs.Planning.{get_left, get_right}
 
 -- a piece that is put behind those before it

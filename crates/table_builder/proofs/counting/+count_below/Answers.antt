@@ -1,4 +1,4 @@
-use Rattle.std.proofs.Common.{ℕ, suc, ◌≡◌, ◌+◌, ◌-◌, ◌<◌, length, sym, ◌∙◌, ap, arith}
+use Rattle.std.proofs.Common.{ℕ, suc, ◌≡◌, ◌+◌, ◌-◌, length, sym, ◌∙◌, ap, arith}
 use Rattle.table_builder.specs.Built.{named}
 use Rattle.table_builder.specs.Plan.{level_bytes, levels_of, pages_of}
 use Rattle.table_builder.proofs.Building.{length-named}

@@ -1,4 +1,4 @@
-use Rattle.std.proofs.Common.{ℕ, List, ◌≡◌, ◌+◌, ◌-◌, length, drop, replicate, ◌∙◌, ap, arith}
+use Rattle.std.proofs.Common.{ℕ, List, ◌≡◌, ◌+◌, ◌-◌, length, drop, replicate, ap, arith}
 use Rattle.std.proofs.lemmas.List.{length-replicate}
 use Rattle.page_store.specs.Pairs.{Pair}
 use Rattle.table_builder.specs.Plan.{page_size, pages_of}

@@ -1,4 +1,4 @@
-use Rattle.std.proofs.Common.{ℕ, List, ◌≡◌, ◌+◌, ◌-◌, ◌≤◌, drop, length}
+use Rattle.std.proofs.Common.{List, ◌≡◌, ◌+◌, ◌-◌, ◌≤◌, drop, length}
 use Rattle.page_store.specs.Pairs.{Pair}
 use Rattle.table_builder.specs.Plan.{pages_of}
 use Rattle.table_builder.proofs.counting.count_pages.Given as goal

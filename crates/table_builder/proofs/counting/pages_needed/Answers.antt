@@ -1,7 +1,5 @@
-use Rattle.std.proofs.Common.{ℕ, List, ◌≡◌, ◌+◌, ◌≤◌, length, drop, sym, ◌∙◌, ap, arith}
+use Rattle.std.proofs.Common.{length, sym, ◌∙◌, ap, arith}
 use Rattle.std.proofs.lemmas.List.{drop_all}
-use Rattle.history.specs.Rows.{NamedRows}
-use Rattle.table_builder.specs.Plan.{level_bytes, levels_for}
 use Rattle.table_builder.proofs.PageCounts.{below_count, length-index_for, length-levels_for}
 use Rattle.table_builder.proofs.Pieces.{drop_item}
 use Rattle.table_builder.proofs.counting.pages_needed.Goals as goal

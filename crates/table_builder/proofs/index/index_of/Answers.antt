@@ -1,10 +1,10 @@
-use Rattle.std.proofs.Common.{ℕ, suc, List, ◌≡◌, ◌+◌, ◌∷◌, ◌++◌, length, drop, sym, ◌∙◌, ap, arith}
+use Rattle.std.proofs.Common.{suc, List, ◌≡◌, ◌+◌, ◌++◌, length, drop, sym, ◌∙◌, ap, arith}
 use Rattle.std.proofs.lemmas.List.{length-append}
 use Rattle.history.specs.Rows.{NamedRows}
 use Rattle.history.specs.Writes.{Row}
 use Rattle.index_pages.specs.Written.{written_page}
 use Rattle.table_builder.specs.Image.{pairs_for}
-use Rattle.table_builder.specs.Plan.{below_bytes, built_for, built_from, level_bytes, levels_for, roots_bytes, rows_count, top_of}
+use Rattle.table_builder.specs.Plan.{below_bytes, built_from, level_bytes, levels_for, roots_bytes, rows_count, top_of}
 use Rattle.table_builder.proofs.Indexing.{begun_below, begun_roots, below_more, roots_more}
 use Rattle.table_builder.proofs.Pieces.{drop_item}
 use Rattle.table_builder.proofs.index.index_of.Goals as goal

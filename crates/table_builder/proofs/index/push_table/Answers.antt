@@ -1,7 +1,6 @@
-use Rattle.std.proofs.Common.{ℕ, List, ◌≡◌, ◌+◌, ◌≤◌, ◌++◌, length, sym, ◌∙◌, ap, subst, arith}
+use Rattle.std.proofs.Common.{List, ◌≡◌, ◌+◌, ◌≤◌, ◌++◌, length, sym, ◌∙◌, ap, subst, arith}
 use Rattle.page_store.specs.Pairs.{Pair}
 use Rattle.index_pages.specs.Written.{written_page}
-use Rattle.table_builder.specs.Image.{pairs_for}
 use Rattle.table_builder.specs.Plan.{level_bytes, levels_for, levels_of, top_of}
 use Rattle.table_builder.proofs.Cutting.{top_few}
 use Rattle.table_builder.proofs.Making.{length-pairs_for}

@@ -1,4 +1,4 @@
-use Rattle.std.proofs.Common.{◌≡◌, ◌+◌, suc, length, sym, ◌∙◌, arith}
+use Rattle.std.proofs.Common.{◌≡◌, ◌+◌, length, sym, ◌∙◌, arith}
 use Rattle.table_builder.proofs.Cutting.{page_within, page_short, page_moves, page_more, name_more, pages_done, names_done, one_longer}
 use Rattle.table_builder.proofs.levels.push_level.Goals as goal
 
