@@ -8,8 +8,8 @@ use Rattle.record_slots.specs.Super.{AreTables, SaysSuper, entry_bytes, are_name
 use Rattle.record_slots.specs.Text.{IsName}
 use Rattle.record_slots.specs.declared.super_page.TableEntry.{TableEntry}
 use Rattle.record_slots.proofs.Naming.{added, are_more, long_entry}
+use Rattle.record_slots.proofs.ReadingBack.{page_says}
 use Rattle.history.specs.Rows.{NamedRows}
-use Rattle.record_table.proofs.SuperPages.{says_written}
 use Rattle.record_table.proofs.Upgraded.{main_used, has_main}
 use Rattle.table_builder.specs.Plan.{AreSorted, BeginsWithMain, HasOwnName, entries_bytes, entries_for, entries_from, front_for, rows_count}
 use Rattle.table_builder.proofs.Planning.{get_left, get_right}
@@ -93,7 +93,7 @@ module _ (tables : List NamedRows) (few : length tables ≤ 8) (sorted : AreSort
 
   -- so the super page says them
   pub says_front : (pages : ℕ) → rows_count tables < 2 ^ 32 → pages < 2 ^ 32 → SaysSuper (super_bytes (front_for tables pages)) (front_for tables pages)
-  says_front pages rows small = says_written (front_for tables pages) refl (record {
+  says_front pages rows small = page_says (front_for tables pages) (record {
     entries = length-entries_for;
     next_slot = rows;
     next_page = small;
@@ -101,8 +101,7 @@ module _ (tables : List NamedRows) (few : length tables ≤ 8) (sorted : AreSort
     free_page = omega arith;
     free_slots = omega arith;
     free_pages = omega arith;
-    none = λ e. absurd (omega (arith, e));
-  })
+  }) refl
 
 -- ---- they are those of tables
 

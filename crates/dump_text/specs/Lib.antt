@@ -1,0 +1,4 @@
+pub mod Dump
+pub mod Causes
+pub mod Gathering
+pub mod Taking

@@ -1,0 +1,94 @@
+// An array is made in memory of what a source says.
+ghost use Rattle.std.specs.Prelude.{◌≡◌, ◌≤◌, ◌^◌, ◌<◌, List, ℕ, length, IsTrue, IfOk};
+ghost use Rattle.array_shape.specs.declared.shape.Shape.{Shape};
+ghost use Rattle.dump_text.specs.Dump.{AreTables};
+ghost use Rattle.restore_runs.specs.Making.{BeginsAsArray, Makes, MakesFrom};
+
+use crate::sizing::{half_for, shape_for};
+use crate::stop::{Stop, input_stop, restore_stop};
+use array_shape::HEADER_LEN;
+use command_words::RestoreNumbers;
+use dump_text::read_dump;
+use history::Tables;
+use history_text::count_records;
+use mars_base::{Failed, NoMemory};
+use outside::Source;
+use pcm_media::{Media, MemoryMedia};
+use restoring::restore;
+use row_bytes::read_array_header;
+use script_run::read_input;
+use std::alloc::Global;
+use table_builder::pages_needed;
+
+/// An array in memory.
+#[derive(Drop)]
+pub struct Made {
+    pub media: MemoryMedia,
+    /// How many records it has.
+    pub records: u64,
+}
+
+/// An array with the tables of the dump that a source gives, in memory.
+pub fn make_image<S: Source>(
+    alloc: Global,
+    asked: &RestoreNumbers,
+    source: &mut S,
+) -> Result<Made, Stop>
+    ensures { (text : List ℕ) × (IsTrue S.tells → S.left source.old ≡ text) × Makes asked.now text result }
+{
+    let text = match read_input(alloc, source) {
+        Ok(text) => text,
+        Err(fault) => return Err(input_stop(fault)),
+    };
+    make_of_text(alloc, asked, &text)
+}
+
+fn make_of_text(alloc: Global, asked: &RestoreNumbers, text: &[u8]) -> Result<Made, Stop>
+    ensures { Makes asked.now text.now result }
+{
+    match read_dump(alloc, text) {
+        Ok(tables) => make_of(alloc, asked, tables),
+        Err(fault) => Err(Stop::Dump(fault)),
+    }
+}
+
+// An array with these tables, in memory.
+fn make_of(alloc: Global, asked: &RestoreNumbers, tables: Tables) -> Result<Made, Stop>
+    requires { AreTables tables }
+    ensures { MakesFrom asked.now tables result }
+{
+    let fill = usize::from(asked.fill);
+    let records = count_records(tables.as_slice())?;
+    let half = half_for(pages_needed(fill, tables.as_slice()), records);
+    let shape = match shape_for(asked, half) {
+        Ok(shape) => shape,
+        Err(bad) => return Err(Stop::Shape(bad)),
+    };
+    let mut media = blank(alloc, shape.media_len())?;
+    match restore(alloc, &mut media, &shape, fill, tables) {
+        Ok(()) => Ok(Made { media, records }),
+        Err(fault) => Err(restore_stop(fault)),
+    }
+}
+
+// A medium of zeros.
+fn blank(alloc: Global, len: u64) -> Result<MemoryMedia, NoMemory> {
+    let zeros = vec![in alloc; 0; len as usize]?;
+    MemoryMedia::new(alloc, &zeros, 0, 0)
+}
+
+/// Whether a medium begins as an array of its length does.
+pub fn holds_array<M: Media>(media: &mut M) -> Result<bool, Failed>
+    ensures { IfOk result (λ held. IsTrue M.tells → IsTrue held → BeginsAsArray (M.view media.old)) }
+{
+    let len = media.len();
+    if len < HEADER_LEN {
+        return Ok(false);
+    }
+    let mut header = [0; 512];
+    media.read(0, &mut header)?;
+    match read_array_header(&header, len) {
+        Ok(_) => Ok(true),
+        Err(_) => Ok(false),
+    }
+}
