@@ -141,6 +141,13 @@ def mars(image, *words, text=b""):
     return done.returncode, done.stdout, done.stderr.decode(errors="replace")
 
 
+def restore(image, *words, text):
+    """The same of the program that restores: dist/restore, or the one that the variable RESTORE names."""
+    kept = environ.get("RESTORE") or str(Path(__file__).resolve().parent.parent / "dist/restore")
+    done = subprocess.run([kept, image, *words], input=text, capture_output=True)
+    return done.returncode, done.stdout, done.stderr.decode(errors="replace")
+
+
 def mars_by_lines(image, *words, text, each):
     """As `mars`, with a call of `each` for each line of its output as soon as it is there."""
     with tempfile.TemporaryFile() as script, tempfile.TemporaryFile() as errors:

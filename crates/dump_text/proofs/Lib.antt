@@ -1,3 +1,5 @@
 mod Lines
 mod Gathering
 mod Taken
+mod OneLine
+mod ReadAgain

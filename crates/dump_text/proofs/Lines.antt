@@ -51,7 +51,7 @@ unsigned (digit ∷ digits) rest named all is =
     let below : digit_value 64 < 10 = subst (λ x. digit_value x < 10) sign all.0 in
     omega (arith, below)
 
-no_sign : (key : ℕ) (rest named : List ℕ) → key < 2 ^ 64 → decimal key ++ 32 ∷ rest ≡ 64 ∷ named → ⊥
+pub no_sign : (key : ℕ) (rest named : List ℕ) → key < 2 ^ 64 → decimal key ++ 32 ∷ rest ≡ 64 ∷ named → ⊥
 no_sign key rest named fits is = unsigned (decimal key) rest named (digits_decimal (numerals_by_value (AllDigits 10) tells_digits) key fits) is
 
 abbrev words_if : Bool → List ℕ → List ℕ

@@ -1,5 +1,5 @@
 -- What is read line by line.
-use Rattle.std.proofs.Common.{◌≡◌, ◌≢◌, ℕ, suc, ◌+◌, ◌<◌, ◌≤◌, Bool, true, false, ◌⊎◌, inl, inr, List, [], ◌∷◌, ◌++◌, length, length-append, map, Result, Ok, Err, refl, sym, ap, subst, ◌∙◌, arith, append_assoc}
+use Rattle.std.proofs.Common.{◌≡◌, ◌≢◌, ℕ, suc, ◌+◌, ◌<◌, ◌≤◌, Bool, true, false, ◌⊎◌, inl, inr, List, [], ◌∷◌, ◌++◌, length, length-append, map, Result, Ok, Err, refl, sym, ap, subst, ◌∙◌, arith, rules, append_assoc}
 use Rattle.std.specs.Prelude.{if◌then◌else◌, IsPermutation, nat_eq}
 use lib.Pointwise.{pointwise}
 use Rattle.std.specs.List.{All, Contains, IsDistinct, list_any}
@@ -13,7 +13,7 @@ use Rattle.history.specs.Rows.{NamedRows, records_in}
 use Rattle.history.specs.Writes.{Row}
 use Rattle.script_run.specs.Lines.{lines_of, onto_first}
 use Rattle.dump_text.specs.Dump.{IsRecord, AreTables, AreRising, IsDumpOf, record_words, count_words, is_same_name}
-use Rattle.dump_text.specs.Causes.{IsNoRecord, IsShort, IsRefused, IsRefusedAt, HasCause, with_name, met, tables_met}
+use Rattle.dump_text.specs.Causes.{SaysNothing, IsShort, IsRefused, IsRefusedAt, HasCause, with_name, met, tables_met}
 use Rattle.dump_text.specs.Gathering.{Adds, names_of}
 use Rattle.dump_text.specs.Taking.{HasRead, Takes, NotBehind}
 use Rattle.dump_text.specs.declared.fault.DumpFault.{DumpFault}
@@ -52,7 +52,7 @@ met_apart names (entry ∷ read) apart = met_apart (with_name names entry.0.tabl
 
 main_alone : IsDistinct is_same_name (main_name ∷ [])
 unfolding IsDistinct
-main_alone = search (IsDistinct)
+main_alone = search rules
 
 first_table : (tables : List NamedRows) (name : List ℕ) (others : List (List ℕ)) → names_of tables ≡ name ∷ others → (rows : List Row) × (rest : List NamedRows) × (tables ≡ (name, rows) ∷ rest)
 first_table [] name others is = absurd cc
@@ -97,7 +97,7 @@ refused_more old read line entry fault new has proper said (inr (is, (count, oth
     ((entry, said, proper, sym (ap length has.names) ∙ count, sym (ap (list_any (is_same_name entry.0.table)) has.names) ∙ other), tt)
 
 -- a line that is short of a record
-pub refused_short : (read : List Entry) (line : List ℕ) (fault : LineFault) → IsNoRecord line → IsShort line fault → IsRefused read line fault × NotBehind fault
+pub refused_short : (read : List Entry) (line : List ℕ) (fault : LineFault) → SaysNothing line → IsShort line fault → IsRefused read line fault × NotBehind fault
 refused_short read line NoRecord none short = ((none, short), tt)
 refused_short read line NoName none short = ((none, short), tt)
 refused_short read line NoKey none short = ((none, short), tt)
@@ -107,15 +107,15 @@ refused_short read line NinthTable none short = absurd short
 refused_short read line BehindTheEnd none short = absurd short
 
 -- the line behind those that were read
-pub refused_at : (text : List ℕ) (read : List Entry) (line : List ℕ) (rest : List (List ℕ)) (n : ℕ) (fault : LineFault) → lines_of text ≡ map record_words read ++ line ∷ rest → n ≡ suc (length read)
+pub refused_at : (text : List ℕ) (read : List Entry) (line : List ℕ) (rest : List (List ℕ)) (n : ℕ) (fault : LineFault) → lines_of text ≡ map record_words read ++ line ∷ rest → All IsRecord read → n ≡ suc (length read)
     → IsRefused read line fault → NotBehind fault → HasCause text (Line n fault)
-refused_at text read line rest n NoRecord lines number refused found = (read, line, rest, lines, number, refused)
-refused_at text read line rest n NoName lines number refused found = (read, line, rest, lines, number, refused)
-refused_at text read line rest n NoKey lines number refused found = (read, line, rest, lines, number, refused)
-refused_at text read line rest n NoValue lines number refused found = (read, line, rest, lines, number, refused)
-refused_at text read line rest n Twice lines number refused found = (read, line, rest, lines, number, refused)
-refused_at text read line rest n NinthTable lines number refused found = (read, line, rest, lines, number, refused)
-refused_at text read line rest n BehindTheEnd lines number refused found = absurd found
+refused_at text read line rest n NoRecord lines proper number refused found = (read, line, rest, lines, proper, number, refused)
+refused_at text read line rest n NoName lines proper number refused found = (read, line, rest, lines, proper, number, refused)
+refused_at text read line rest n NoKey lines proper number refused found = (read, line, rest, lines, proper, number, refused)
+refused_at text read line rest n NoValue lines proper number refused found = (read, line, rest, lines, proper, number, refused)
+refused_at text read line rest n Twice lines proper number refused found = (read, line, rest, lines, proper, number, refused)
+refused_at text read line rest n NinthTable lines proper number refused found = (read, line, rest, lines, proper, number, refused)
+refused_at text read line rest n BehindTheEnd lines proper number refused found = absurd found
 
 pub line_more : (text : List ℕ) (read : List Entry) (entry : Entry) (line : List ℕ) (rest : List (List ℕ)) → lines_of text ≡ map record_words read ++ line ∷ rest → line ≡ record_words entry
     → lines_of text ≡ map record_words (read ++ entry ∷ []) ++ rest
@@ -144,9 +144,9 @@ no_lines [] none = refl
 no_lines (byte ∷ bytes) none = absurd (omega (arith, none))
 
 -- a line that was not taken is the cause
-pub not_taken : (text : List ℕ) (read : List Entry) (line : List ℕ) (rest : List (List ℕ)) (n : ℕ) (fault : DumpFault) (new : List NamedRows) → lines_of text ≡ map record_words read ++ line ∷ rest → n ≡ suc (length read)
+pub not_taken : (text : List ℕ) (read : List Entry) (line : List ℕ) (rest : List (List ℕ)) (n : ℕ) (fault : DumpFault) (new : List NamedRows) → lines_of text ≡ map record_words read ++ line ∷ rest → All IsRecord read → n ≡ suc (length read)
     → Takes read line n (Err fault) new → HasCause text fault
-not_taken text read line rest n (Line m fault) new lines number (same, refused, found) = refused_at text read line rest m fault lines (same ∙ number) refused found
-not_taken text read line rest n Cut new lines number none = absurd none
-not_taken text read line rest n (Count said counted) new lines number none = absurd none
-not_taken text read line rest n NoMemory new lines number none = tt
+not_taken text read line rest n (Line m fault) new lines proper number (same, refused, found) = refused_at text read line rest m fault lines proper (same ∙ number) refused found
+not_taken text read line rest n Cut new lines proper number none = absurd none
+not_taken text read line rest n (Count said counted) new lines proper number none = absurd none
+not_taken text read line rest n NoMemory new lines proper number none = tt

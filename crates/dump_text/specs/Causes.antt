@@ -2,7 +2,7 @@
 use Rattle.std.specs.Prelude.{ℕ, suc, ◌+◌, ◌≡◌, ◌≢◌, ◌≤◌, ◌<◌, ◌^◌, false, nat_eq, if◌then◌else◌, List, [], ◌∷◌, ◌++◌, map, length, codes, Result, Ok, Err}
 use lib.Pointwise.{pointwise}
 use Rattle.std.specs.Fmt.{decimal}
-use Rattle.std.specs.List.{Contains, list_any}
+use Rattle.std.specs.List.{All, Contains, list_any}
 use Rattle.record_slots.specs.Text.{IsName, IsValue}
 use Rattle.history.specs.Key.{main_name}
 use Rattle.history.specs.declared.key.Key.{Key}
@@ -33,6 +33,10 @@ NamesNone words = (named : List ℕ) × (words ≡ 64 ∷ named) × ((table rest
 abbrev pub IsNoRecord : List ℕ → Type 0
 IsNoRecord line = (entry : Key × List ℕ) → IsRecord entry → line ≡ record_words entry → ⊥
 
+-- and it does not say how many records there are
+abbrev pub SaysNothing : List ℕ → Type 0
+SaysNothing line = IsNoRecord line × ((n : ℕ) → n < 2 ^ 64 → line ≡ count_words n → ⊥)
+
 -- Up to where a line is that of a record: it does not begin as one; it names no table; behind its table stands no key; or behind its key stands
 -- no value.
 abbrev pub IsShort : List ℕ → LineFault → Type 0
@@ -61,21 +65,21 @@ abbrev pub IsRefused : List (Key × List ℕ) → List ℕ → LineFault → Typ
 IsRefused read line Twice = (entry : Key × List ℕ) × (line ≡ record_words entry) × IsRecord entry × ((value : List ℕ) × Contains read (entry.0, value))
 IsRefused read line NinthTable =
     (entry : Key × List ℕ) × (line ≡ record_words entry) × IsRecord entry × (length (tables_met read) ≡ 8) × (list_any (is_same_name entry.0.table) (tables_met read) ≡ false)
-IsRefused read line fault = IsNoRecord line × IsShort line fault
+IsRefused read line fault = SaysNothing line × IsShort line fault
 
 -- the line of this number, counted from 1, is refused, and those before it are records
 abbrev pub IsRefusedAt : List ℕ → ℕ → LineFault → Type 0
 IsRefusedAt text n BehindTheEnd = (read : List (Key × List ℕ)) × (said : ℕ) × (line : List ℕ) × (rest : List (List ℕ))
-    × (lines_of text ≡ map record_words read ++ count_words said ∷ line ∷ rest) × (n ≡ suc (suc (length read)))
+    × (lines_of text ≡ map record_words read ++ count_words said ∷ line ∷ rest) × All IsRecord read × (n ≡ suc (suc (length read)))
 IsRefusedAt text n fault = (read : List (Key × List ℕ)) × (line : List ℕ) × (rest : List (List ℕ))
-    × (lines_of text ≡ map record_words read ++ line ∷ rest) × (n ≡ suc (length read)) × IsRefused read line fault
+    × (lines_of text ≡ map record_words read ++ line ∷ rest) × All IsRecord read × (n ≡ suc (length read)) × IsRefused read line fault
 
 -- A line is refused; or all lines are records, and none says how many; or the last line says another number.
 abbrev pub HasCause : List ℕ → DumpFault → Type 0
 HasCause text (Line n fault) = IsRefusedAt text n fault
-HasCause text Cut = (read : List (Key × List ℕ)) × (lines_of text ≡ map record_words read)
+HasCause text Cut = (read : List (Key × List ℕ)) × (lines_of text ≡ map record_words read) × All IsRecord read
 HasCause text (Count said counted) =
-    (read : List (Key × List ℕ)) × (lines_of text ≡ map record_words read ++ count_words said ∷ []) × (counted ≡ length read) × (said ≢ counted)
+    (read : List (Key × List ℕ)) × (lines_of text ≡ map record_words read ++ count_words said ∷ []) × All IsRecord read × (said < 2 ^ 64) × (counted ≡ length read) × (said ≢ counted)
 HasCause text NoMemory = Unit {0}
 
 -- what a text is read as

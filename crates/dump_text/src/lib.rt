@@ -7,8 +7,10 @@
 
 mod fault;
 mod gathered;
+mod laws;
 mod reading;
 mod record;
 
 pub use fault::{DumpFault, LineFault};
+pub use laws::dumps_are_read;
 pub use reading::read_dump;

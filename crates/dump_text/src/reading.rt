@@ -1,5 +1,5 @@
 // A text is read line by line.
-ghost use Rattle.std.specs.Prelude.{◌≡◌, ◌+◌, ◌≤◌, ◌<◌, ◌^◌, suc, IfOk, List, length, map, ◌++◌, ◌∷◌};
+ghost use Rattle.std.specs.Prelude.{◌≡◌, ℕ, ◌+◌, ◌≤◌, ◌<◌, ◌^◌, suc, IfOk, List, length, map, ◌++◌, ◌∷◌};
 ghost use Rattle.history.specs.declared.key.Key.{Key};
 ghost use Rattle.script_run.specs.Lines.{lines_of};
 ghost use Rattle.dump_text.specs.Dump.{count_words, record_words};
@@ -31,8 +31,9 @@ pub fn read_dump(alloc: Global, text: &[u8]) -> Result<Tables, DumpFault>
     Err(DumpFault::Cut)
 }
 
-// Adds the record that the `n`-th line says.
+// Adds the record that the `n`-th line says, which does not say how many there are.
 fn take(alloc: Global, gathered: &mut Gathered, line: &[u8], n: u64) -> Result<(), DumpFault>
+    requires { (m : ℕ) → m < 2 ^ 64 → line.now ≡ count_words m → ⊥ }
     ensures { (read : List _) → HasRead gathered.old read → Takes read line.now n result gathered.new }
 {
     let (key, value) = match read_record(line) {

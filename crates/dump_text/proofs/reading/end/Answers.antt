@@ -10,7 +10,7 @@ pub returns-then-not-is_empty : goal.returns-then-not-is_empty
 returns-then-not-is_empty c = λ text read has count lines.
     let some : 0 < length c.args.behind.now = first_of (omega arith, search rules, grind arith) in
     let behind = some_lines c.args.behind.now some in
-    (read, c.args.said, behind.0, behind.1, lines ∙ ap (λ (l : List (List ℕ)). map record_words read ++ count_words c.args.said ∷ l) behind.2, omega (arith, count))
+    (read, c.args.said, behind.0, behind.1, lines ∙ ap (λ (l : List (List ℕ)). map record_words read ++ count_words c.args.said ∷ l) behind.2, has.proper, omega (arith, count))
 
 pub returns : goal.returns
 returns c = λ text read has count lines.

@@ -26,7 +26,7 @@ returns-in_err-take c =
     let lines = so_far.1 ∙ ap (λ (lines : List (List ℕ)). map record_words so_far.0 ++ lines) c.in-Some.ensures.0 in
     let p = err_from_is_err_and c.from_residual-in_err-take.result c.from_residual-in_err-take.ensures.1 in
     rw (p.1, p.2) (not_taken c.args.text.now so_far.0 c.in-Some.line.now (lines_of c.in-Some.behind.now) (c.loop-line.count + 1) c.in_err-take.field-0.0 c.take.new.gathered
-    lines (omega (arith, so_far.3)) (c.in_err-take.ensures so_far.0 so_far.2))
+    lines so_far.2.proper (omega (arith, so_far.3)) (c.in_err-take.ensures so_far.0 so_far.2))
 
 pub loop-line-preserved : goal.loop-line-preserved
 loop-line-preserved c =
@@ -46,4 +46,4 @@ loop-line-preserved c =
 pub returns : goal.returns
 returns c =
     let so_far = c.loop-line.invariant.so_far in
-    (so_far.0, so_far.1 ∙ ap (λ (bytes : List ℕ). map record_words so_far.0 ++ lines_of bytes) c.in_default.ensures ∙ append-nil (map record_words so_far.0))
+    (so_far.0, so_far.1 ∙ ap (λ (bytes : List ℕ). map record_words so_far.0 ++ lines_of bytes) c.in_default.ensures ∙ append-nil (map record_words so_far.0), so_far.2.proper)

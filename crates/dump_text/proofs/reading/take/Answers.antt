@@ -15,5 +15,5 @@ returns-in-Err-2 c = λ read has.
 
 pub returns-in-Err : goal.returns-in-Err
 returns-in-Err c = λ read has.
-    let refused = refused_short read c.args.line.now c.in-Err.fault c.in-Err.ensures.0 c.in-Err.ensures.1 in
+    let refused = refused_short read c.args.line.now c.in-Err.fault (c.in-Err.ensures.0, c.requires) c.in-Err.ensures.1 in
     (refl, refused.0, refused.1)
