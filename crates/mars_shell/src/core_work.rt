@@ -23,9 +23,6 @@ use std::alloc::Global;
 
 /// Work on a core that has just begun with the records of an array.
 pub trait CoreWork {
-    /// Says what stays in memory of the core that it is done on.
-    type Kept: Keeper + Send;
-
     /// Whether it reads the input.
     ghost reads: { Bool };
 
@@ -35,6 +32,9 @@ pub trait CoreWork {
     /// Whether all that is told is formed before any of it is written, so that nothing is where memory runs out.
     ghost at_once: { Bool };
 
+    /// Whether it reads what the core has kept.
+    ghost reads_kept: { Bool };
+
     /// What is done, in terms of the input, how the work ended, what was written, the limits of the core, the turns and the last state.
     ghost does: { Self → List ℕ → Ended → Bool → List ℕ → Limits → List Turn → State → Type 0 };
 
@@ -42,15 +42,16 @@ pub trait CoreWork {
         ensures { result ≡ reads };
 
     /// Does it on a core over an array of so many transaction numbers. `NoMemory` says that nothing was done.
-    fn work_on<K: Sink, S: EawStore + Drop + Send, I: KeyIndex + Send>(
+    fn work_on<K: Sink, S: EawStore + Drop + Send, I: KeyIndex + Send, H: Keeper>(
         &self,
         alloc: Global,
         input: &[u8],
         numbers: u8,
         sink: &mut K,
-        core: Core<S, I, Self::Kept>,
-    ) -> (Result<Ended, NoMemory>, Core<S, I, Self::Kept>)
+        core: Core<S, I, H>,
+    ) -> (Result<Ended, NoMemory>, Core<S, I, H>)
         requires set { can_be_done self.now }
+        requires keeps { IsTrue reads_kept → IsTrue H.keeps }
         requires numbers { numbers ≡ (S.view core.records.store).shape.numbers }
         requires ready { CanShare S.tells 0 (core_of S.opens I.index (S.view core.records.store) core) }
         ensures works { Wrote K.tells (K.written sink.old) (K.written sink.new) (K.faults sink.old) (K.faults sink.new)
@@ -64,7 +65,7 @@ pub trait CoreWork {
 
 /// Does work over the records of a store, under an index, on a core, which has brought the data to version 2, and returns the store. An error
 /// says why nothing was done.
-pub fn work_over<K: Sink, S: EawStore + Drop + Send, I: KeyIndex + Send, W: CoreWork>(
+pub fn work_over<K: Sink, S: EawStore + Drop + Send, I: KeyIndex + Send, H: Keeper, W: CoreWork>(
     alloc: Global,
     input: &[u8],
     sink: &mut K,
@@ -73,6 +74,7 @@ pub fn work_over<K: Sink, S: EawStore + Drop + Send, I: KeyIndex + Send, W: Core
     work: &W,
 ) -> (Result<Ended, CoreFault>, S)
     requires set { W.can_be_done work.now }
+    requires keeps { IsTrue W.reads_kept → IsTrue H.keeps }
     requires alive { IsAlive (S.view store) }
     requires free { (t : ℕ) → (S.view store).ranges t ≡ None }
     ensures served { Wrote K.tells (K.written sink.old) (K.written sink.new) (K.faults sink.old) (K.faults sink.new)
@@ -82,7 +84,7 @@ pub fn work_over<K: Sink, S: EawStore + Drop + Send, I: KeyIndex + Send, W: Core
     ensures counts { ServedCounts result.0 (K.faults sink.old) (K.faults sink.new) (S.view store).faults (S.view result.1).faults }
 {
     let numbers = store.shape().numbers;
-    let core = match Core::<S, I, W::Kept>::attach(alloc, room, store) {
+    let core = match Core::<S, I, H>::attach(alloc, room, store) {
         Ok(core) => core,
         Err((fault, store)) => return (Err(fault), store),
     };

@@ -1,5 +1,5 @@
 // The work of a drawn script, which ends with a summary.
-ghost use Rattle.std.specs.Prelude.{◌≡◌, ◌<◌, ◌^◌, IfOk, IfErr};
+ghost use Rattle.std.specs.Prelude.{◌≡◌, ◌<◌, ◌^◌, IsTrue, IfOk, IfErr};
 ghost use Rattle.eaw_face.specs.Causes.{IsAlive};
 ghost use Rattle.drill_gen.specs.Drill.{drill};
 ghost use Rattle.mars_core.specs.Held.{core_of};
@@ -17,7 +17,7 @@ use drill_gen::script;
 use eaw_face::EawStore;
 use mars_base::NoMemory;
 use mars_core::Core;
-use noted::KeepsAll;
+use noted::Keeper;
 use outside::Sink;
 use page_store::KeyIndex;
 use script_run::{Ended, Stop};
@@ -31,12 +31,7 @@ pub struct DrawnScript {
 }
 
 impl CoreWork for DrawnScript {
-    ghost use Rattle.std.specs.Prelude.{◌≡◌, ◌<◌, ◌^◌, true, false, IsTrue, IfOk, IfErr};
-    ghost use Rattle.mars_core.specs.Held.{core_of};
-    ghost use Rattle.mars_manager.specs.Sharing.{CanShare};
-    ghost use Rattle.texts.specs.Written.{Wrote};
-    ghost use Rattle.script_run.specs.Counts.{Counts};
-    ghost use Rattle.mars_shell.specs.OnCore.{RanOut, Works};
+    ghost use Rattle.std.specs.Prelude.{◌<◌, ◌^◌, true, false};
     ghost use Rattle.mars_shell.specs.Drill.{Drills};
 
     ghost reads = { false };
@@ -45,33 +40,22 @@ impl CoreWork for DrawnScript {
 
     ghost at_once = { true };
 
-    ghost does = { λ work input. Drills work.numbers };
+    ghost reads_kept = { true };
 
-    type Kept = KeepsAll;
+    ghost does = { λ work input. Drills work.numbers };
 
     fn reads(&self) -> bool {
         false
     }
 
-    fn work_on<K: Sink, S: EawStore + Drop + Send, I: KeyIndex + Send>(
+    fn work_on<K: Sink, S: EawStore + Drop + Send, I: KeyIndex + Send, H: Keeper>(
         &self,
         alloc: Global,
         _input: &[u8],
         numbers: u8,
         sink: &mut K,
-        core: Core<S, I, KeepsAll>,
-    ) -> (Result<Ended, NoMemory>, Core<S, I, KeepsAll>)
-        requires set { self.now.numbers.seed < 2 ^ 31 }
-        requires numbers { numbers ≡ (S.view core.records.store).shape.numbers }
-        requires ready { CanShare S.tells 0 (core_of S.opens I.index (S.view core.records.store) core) }
-        ensures works { Wrote K.tells (K.written sink.old) (K.written sink.new) (K.faults sink.old) (K.faults sink.new)
-            (λ cut text. IsTrue S.tells → Works (λ ended. Drills self.now.numbers ended cut text) (core_of S.opens I.index (S.view core.records.store) core) result.0 cut text
-            (core_of S.opens I.index (S.view result.1.records.store) result.1)) }
-        ensures untold { IfErr result.0 (λ fault. sink.new ≡ sink.old) }
-        ensures short { IfOk result.0 (λ ended. RanOut ended → sink.new ≡ sink.old) }
-        ensures given_back { IfErr result.0 (λ fault. result.1 ≡ core) }
-        ensures counts { IfOk result.0 (λ ended. Counts ended (K.faults sink.old) (K.faults sink.new) (S.view core.records.store).faults (S.view result.1.records.store).faults) }
-    {
+        core: Core<S, I, H>,
+    ) -> (Result<Ended, NoMemory>, Core<S, I, H>) {
         let mut core = core;
         match sum_up(alloc, &self.numbers, numbers, &mut core) {
             Ok(text) => (Ok(write_ended(sink, &text)), core),
@@ -86,12 +70,13 @@ impl CoreWork for DrawnScript {
 }
 
 // Makes the calls on a core and forms the summary. An error says why there is none.
-fn sum_up<S: EawStore, I: KeyIndex>(
+fn sum_up<S: EawStore, I: KeyIndex, H: Keeper>(
     alloc: Global,
     numbers: &DrillNumbers,
     callers: u8,
-    core: &mut Core<S, I, KeepsAll>,
+    core: &mut Core<S, I, H>,
 ) -> Result<Vec<u8>, Stop>
+    requires keeps { IsTrue H.keeps }
     requires seed { numbers.now.seed < 2 ^ 31 }
     requires callers { callers ≡ (S.view core.old.records.store).shape.numbers }
     requires alive { IsAlive (S.view core.old.records.store) }

@@ -53,7 +53,14 @@ pub(crate) fn run_lines<S: Source, K: Sink, M: Media + Drop + Send>(
         (λ cut text. (input : List ℕ) × (IsTrue S.tells → S.left source.old ≡ input) × (IsTrue M.tells → OutcomeFor (Run options) (M.view media) result.0 (M.view result.1) input cut text)) }
 {
     if !options.frames {
-        return over_records(alloc, source, sink, media, options.writing, &ByTurns);
+        return over_records::<S, K, M, KeepsNothing, ByTurns>(
+            alloc,
+            source,
+            sink,
+            media,
+            options.writing,
+            &ByTurns,
+        );
     }
     match options.writing {
         Writing::AtOnce => run_framed(alloc, source, sink, media, AtOnce),

@@ -1,22 +1,24 @@
-// What a core has kept in memory that keeps all.
-ghost use Rattle.std.specs.Prelude.{◌≡◌};
+// What a core has kept in memory.
+ghost use Rattle.std.specs.Prelude.{◌≡◌, IsTrue};
 
 use caller_steps::Core as Steps;
 use eaw_face::EawStore;
 use history::{Done, Tables};
 use mars_core::Core;
-use noted::KeepsAll;
+use noted::Keeper;
 use page_store::KeyIndex;
 
-/// The transactions that were committed.
-pub fn history_of<S: EawStore, I: KeyIndex>(core: &Core<S, I, KeepsAll>) -> &[Done]
+/// The transactions that were committed, if the core keeps them.
+pub fn history_of<S: EawStore, I: KeyIndex, H: Keeper>(core: &Core<S, I, H>) -> &[Done]
+    requires { IsTrue H.keeps }
     ensures { result.now ≡ core.now.history }
 {
     core.history().unwrap()
 }
 
-/// The records at the opening.
-pub fn base_of<S: EawStore, I: KeyIndex>(core: &Core<S, I, KeepsAll>) -> &Tables
+/// The records at the opening, if the core keeps them.
+pub fn base_of<S: EawStore, I: KeyIndex, H: Keeper>(core: &Core<S, I, H>) -> &Tables
+    requires { IsTrue H.keeps }
     ensures { result.now ≡ core.now.base }
 {
     core.base().unwrap()

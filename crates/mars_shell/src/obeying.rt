@@ -21,6 +21,7 @@ use crate::records::over_records;
 use array_runs::Status;
 use caller_work::Gate;
 use command_words::Words;
+use noted::KeepsAll;
 use outside::{Sink, Source};
 use pcm_media::Media;
 use std::sync::Wait;
@@ -62,7 +63,14 @@ pub fn obey<
         Words::Dump => run_told(rt.alloc(), source, sink, media, &Dump),
         Words::Drill(numbers) => {
             let work = DrawnScript { numbers };
-            over_records(rt.alloc(), source, sink, media, numbers.writing, &work)
+            over_records::<S, K, M, KeepsAll, DrawnScript>(
+                rt.alloc(),
+                source,
+                sink,
+                media,
+                numbers.writing,
+                &work,
+            )
         }
         Words::Format(numbers) => run_format(sink, media, &numbers),
         Words::Make(ref name) => {

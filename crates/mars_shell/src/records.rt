@@ -15,10 +15,11 @@ use crate::core_work::{CoreWork, work_over};
 use array_runs::{Status, find_form, open_for, served_status};
 use btree_pages::BTreePages;
 use command_words::Writing;
-use eaw_device::{AtOnce, Late, WriteBack};
+use eaw_device::{AtOnce, Eaw, Late, WriteBack};
 use eaw_face::EawStore;
 use key_list::KeyList;
 use mars_core::CoreFault;
+use noted::Keeper;
 use outside::{Sink, Source};
 use page_store::SaveRoom;
 use pcm_media::Media;
@@ -28,7 +29,7 @@ use std::alloc::Global;
 
 /// Does work over the records of the array that the medium holds, if they are sound, on a device that writes the data of commits to its
 /// place when it is told so.
-pub fn over_records<S: Source, K: Sink, M: Media + Drop + Send, W: CoreWork>(
+pub fn over_records<S: Source, K: Sink, M: Media + Drop + Send, H: Keeper, W: CoreWork>(
     alloc: Global,
     source: &mut S,
     sink: &mut K,
@@ -38,6 +39,7 @@ pub fn over_records<S: Source, K: Sink, M: Media + Drop + Send, W: CoreWork>(
 ) -> (Status, M)
     requires depth { HasDepth writing }
     requires set { W.can_be_done work.now }
+    requires keeps { IsTrue W.reads_kept → IsTrue H.keeps }
     ensures no_usage { result.0 ≡ Status.Usage → ⊥ }
     ensures early { IsEarly result.0 → IsTrue W.reads × (result.1 ≡ media) }
     ensures silent { IsEarly result.0 ⊎ IsRefusal result.0 → sink.new ≡ sink.old }
@@ -52,23 +54,33 @@ pub fn over_records<S: Source, K: Sink, M: Media + Drop + Send, W: CoreWork>(
         (M.view media) result.0 (M.view result.1) cut text)) }
 {
     match writing {
-        Writing::AtOnce => over_records_on(alloc, source, sink, media, AtOnce, work),
+        Writing::AtOnce => over_records_on::<S, K, M, AtOnce, H, W>(
+            alloc, source, sink, media, AtOnce, work,
+        ),
         Writing::Late(depth) => {
-            over_records_on(alloc, source, sink, media, Late::new(depth), work)
+            over_records_on::<S, K, M, Late, H, W>(
+                alloc,
+                source,
+                sink,
+                media,
+                Late::new(depth),
+                work,
+            )
         }
     }
 }
 
 // The same on a device of this type.
-fn over_records_on<S: Source, K: Sink, M: Media + Drop + Send, B: WriteBack + Send, W: CoreWork>(
-    alloc: Global,
-    source: &mut S,
-    sink: &mut K,
-    media: M,
-    write_back: B,
-    work: &W,
-) -> (Status, M)
+fn over_records_on<
+    S: Source,
+    K: Sink,
+    M: Media + Drop + Send,
+    B: WriteBack + Send,
+    H: Keeper,
+    W: CoreWork,
+>(alloc: Global, source: &mut S, sink: &mut K, media: M, write_back: B, work: &W) -> (Status, M)
     requires set { W.can_be_done work.now }
+    requires keeps { IsTrue W.reads_kept → IsTrue H.keeps }
     ensures no_usage { result.0 ≡ Status.Usage → ⊥ }
     ensures early { IsEarly result.0 → IsTrue W.reads × (result.1 ≡ media) }
     ensures silent { IsEarly result.0 ⊎ IsRefusal result.0 → sink.new ≡ sink.old }
@@ -86,13 +98,13 @@ fn over_records_on<S: Source, K: Sink, M: Media + Drop + Send, B: WriteBack + Se
         Ok(opened) => opened,
         Err(ended) => return ended,
     };
-    let (served, store) = serve(alloc, &input, sink, room, store, work);
+    let (served, store) = serve::<K, Eaw<M, B>, H, W>(alloc, &input, sink, room, store, work);
     (served_status(served), store.into_media())
 }
 
 // Does work over the records of a store, under the index that its data names, and returns the store. Nothing is written if the records
 // were not taken.
-fn serve<K: Sink, S: EawStore + Drop + Send, W: CoreWork>(
+fn serve<K: Sink, S: EawStore + Drop + Send, H: Keeper, W: CoreWork>(
     alloc: Global,
     input: &[u8],
     sink: &mut K,
@@ -101,6 +113,7 @@ fn serve<K: Sink, S: EawStore + Drop + Send, W: CoreWork>(
     work: &W,
 ) -> (Result<Ended, CoreFault>, S)
     requires set { W.can_be_done work.now }
+    requires keeps { IsTrue W.reads_kept → IsTrue H.keeps }
     requires alive { IsAlive (S.view store) }
     requires free { (t : ℕ) → (S.view store).ranges t ≡ None }
     ensures served { Wrote K.tells (K.written sink.old) (K.written sink.new) (K.faults sink.old) (K.faults sink.new)
@@ -111,8 +124,10 @@ fn serve<K: Sink, S: EawStore + Drop + Send, W: CoreWork>(
 {
     let mut store = store;
     match find_form(&mut store) {
-        Ok(Form::Chain) => work_over::<K, S, KeyList, W>(alloc, input, sink, room, store, work),
-        Ok(Form::Tree) => work_over::<K, S, BTreePages, W>(alloc, input, sink, room, store, work),
+        Ok(Form::Chain) => work_over::<K, S, KeyList, H, W>(alloc, input, sink, room, store, work),
+        Ok(Form::Tree) => work_over::<K, S, BTreePages, H, W>(
+            alloc, input, sink, room, store, work,
+        ),
         Err(fault) => (Err(fault), store),
     }
 }
