@@ -6,7 +6,6 @@ mod frames;
 mod histories;
 mod keeping;
 mod lists;
-mod longs;
 mod members;
 mod mirrors;
 mod opening;
