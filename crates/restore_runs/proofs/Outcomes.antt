@@ -39,6 +39,12 @@ not_read Told left asked fault stop is long =
     go input.Failed long = (left, (λ told. refl), tt)
     go input.NoMemory long = (left, (λ told. refl), tt)
 
+-- an input is told as not read only where a read failed
+pub read_failed : (fault : InputFault) → input_stop fault ≡ ReadFault → fault ≡ input.Failed
+read_failed input.TooLong is = absurd (let no : ⊥ = cc is in no)
+read_failed input.Failed is = refl
+read_failed input.NoMemory is = absurd (let no : ⊥ = cc is in no)
+
 -- tables that were not restored
 pub not_made : (asked : RestoreNumbers) (tables : List NamedRows) (half : ℕ) (shape : Shape) (fill size : ℕ) (fault : RestoreFault) (stop : Stop) → IsHalfFor asked tables half → IsShapeFor asked half shape → fill ≡ asked.fill
     → RestoreCause shape fill tables size fault → stop ≡ restore_stop fault → MakesFrom asked tables (Err stop)

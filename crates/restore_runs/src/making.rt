@@ -1,5 +1,5 @@
 // An array is made in memory of what a source says.
-ghost use Rattle.std.specs.Prelude.{◌≡◌, ◌≤◌, ◌^◌, ◌<◌, List, ℕ, length, IsTrue, IfOk};
+ghost use Rattle.std.specs.Prelude.{◌≡◌, ◌≤◌, ◌^◌, ◌<◌, List, ℕ, length, IsTrue, IfOk, IsErrOf};
 ghost use Rattle.array_shape.specs.declared.shape.Shape.{Shape};
 ghost use Rattle.dump_text.specs.Dump.{AreTables};
 ghost use Rattle.restore_runs.specs.Making.{BeginsAsArray, Makes, MakesFrom};
@@ -34,7 +34,9 @@ pub fn make_image<S: Source>(
     asked: &RestoreNumbers,
     source: &mut S,
 ) -> Result<Made, Stop>
-    ensures { (text : List ℕ) × (IsTrue S.tells → S.left source.old ≡ text) × Makes asked.now text result }
+    ensures made { (text : List ℕ) × (IsTrue S.tells → S.left source.old ≡ text) × Makes asked.now text result }
+    // A source that promises not to fail is no reason.
+    ensures steady { IsTrue (S.steady source.old) → IsErrOf result Stop.ReadFault → ⊥ }
 {
     let text = match read_input(alloc, source) {
         Ok(text) => text,
@@ -44,7 +46,8 @@ pub fn make_image<S: Source>(
 }
 
 fn make_of_text(alloc: Global, asked: &RestoreNumbers, text: &[u8]) -> Result<Made, Stop>
-    ensures { Makes asked.now text.now result }
+    ensures made { Makes asked.now text.now result }
+    ensures read { IsErrOf result Stop.ReadFault → ⊥ }
 {
     match read_dump(alloc, text) {
         Ok(tables) => make_of(alloc, asked, tables),
