@@ -22,7 +22,7 @@ BRACKET = re.compile(r"[{}]")
 CLAUSE = re.compile(r"^\s+(ensures|requires|ghost)\b(?! use\b)(?: (\w+))?[^{;]*\{", re.M)
 BLOCK = re.compile(r"(?:pub(?:\([a-z]+\))? )?(impl|trait)\b")
 GHOST = re.compile(r" +ghost (?!use\b)")
-FUNCTION = re.compile(r"( *)(pub(?:\([a-z]+\))? |)(?:const |unsafe )?fn (\w+)")
+FUNCTION = re.compile(r'( *)(pub(?:\([a-z]+\))? |)(?:const |unsafe |extern "C" )?fn (\w+)')
 TYPE = re.compile(r"pub (?:struct|enum|trait|type|const) (\w+)")
 MEMBER = re.compile(r"    (?:pub )?([A-Za-z]\w*)\b")
 EXPORT = re.compile(r"^pub use ([^;]+);", re.M)
@@ -217,5 +217,5 @@ def rust_file(name):
 
 
 def files_of(crate, folder, ending):
-    """The paths, from crates/, of the files of a crate that lie right in a folder of it."""
-    return [str(path.relative_to(CRATES)) for path in sorted((CRATES / crate / folder).glob("*" + ending))]
+    """The paths, from crates/, of the files of a crate that lie in a folder of it."""
+    return [str(path.relative_to(CRATES)) for path in sorted((CRATES / crate / folder).rglob("*" + ending))]

@@ -1,5 +1,6 @@
 // The input of a run and the array that it works on.
 ghost use Rattle.std.specs.Prelude.{◌≡◌, ◌<◌, ◌≤◌, ℕ, [], true, false, IsTrue, IsFalse, IfOk, IfErr};
+ghost use Rattle.eaw_device.specs.Depths.{IsOfDepth};
 ghost use Rattle.eaw_device.specs.Opens.{Attached, KeepsData};
 ghost use Rattle.array_runs.specs.Input.{InputSays};
 ghost use Rattle.array_runs.specs.Opening.{IsUnread, IsUnopened, Unopened};
@@ -7,7 +8,7 @@ ghost use Rattle.array_runs.specs.Records.{OverRecords};
 ghost use Rattle.array_runs.specs.Statuses.{Counts, IsEarly};
 
 use crate::status::{Status, status_of};
-use eaw_device::{Eaw, WriteBack};
+use eaw_device::{Depth, Eaw};
 use eaw_face::EawStore;
 use outside::Source;
 use page_store::SaveRoom;
@@ -15,15 +16,16 @@ use pcm_media::Media;
 use script_run::{InputFault, read_input};
 use std::alloc::Global;
 
-/// Reads the input to its end if it is asked for, then opens the array that the medium holds, on a device that writes back so. An error
-/// returns the medium with the status that the run ends with.
-pub fn open<S: Source, M: Media, B: WriteBack>(
+/// Reads the input to its end if it is asked for, then opens the array that the medium holds, on which at most `depth` commits may wait. An
+/// error returns the medium with the status that the run ends with.
+pub fn open<S: Source, M: Media, D: Depth>(
     alloc: Global,
     reads: bool,
     source: &mut S,
     media: M,
-    write_back: B,
-) -> Result<(Vec<u8>, Eaw<M, B>), (Status, M)>
+    depth: u8,
+) -> Result<(Vec<u8>, Eaw<M, D>), (Status, M)>
+    requires { IsOfDepth D.least D.most depth }
     ensures kind { IfErr result (λ ended. IsUnopened ended.0) }
     ensures early { IfErr result (λ ended. IsEarly ended.0 → IsTrue reads × (ended.1 ≡ media)) }
     ensures unread { IsFalse reads → source.new ≡ source.old }
@@ -34,14 +36,14 @@ pub fn open<S: Source, M: Media, B: WriteBack>(
     ensures counts { IfErr result (λ ended. Counts ended.0 (S.faults source.old) (S.faults source.new) 0 0 (M.view media).faults (M.view ended.1).faults) }
     ensures kept { IfOk result (λ opened. S.faults source.new ≡ S.faults source.old) }
     ensures unopened { IsTrue M.tells → IfErr result (λ ended. Unopened (M.view media) ended.0 (M.view ended.1)) }
-    ensures attached { IfOk result (λ opened. Attached M.tells (M.view media) (⟦<Eaw<M, B> as EawStore>⟧.view opened.1)) }
-    ensures keeps { IfOk result (λ opened. KeepsData M.tells (M.view media) (⟦<Eaw<M, B> as EawStore>⟧.view opened.1).moment (⟦<Eaw<M, B> as EawStore>⟧.view opened.1).left_since) }
+    ensures attached { IfOk result (λ opened. Attached M.tells (M.view media) (⟦<Eaw<M, D> as EawStore>⟧.view opened.1)) }
+    ensures keeps { IfOk result (λ opened. KeepsData M.tells (M.view media) (⟦<Eaw<M, D> as EawStore>⟧.view opened.1).moment (⟦<Eaw<M, D> as EawStore>⟧.view opened.1).left_since) }
 {
     let input = match read_if(alloc, reads, source) {
         Ok(input) => input,
         Err(status) => return Err((status, media)),
     };
-    match open_array(alloc, media, write_back) {
+    match open_array(alloc, media, depth) {
         Ok(store) => Ok((input, store)),
         Err(ended) => Err(ended),
     }
@@ -49,14 +51,15 @@ pub fn open<S: Source, M: Media, B: WriteBack>(
 
 /// The room for the pages, the input if it is asked for, and the array that the medium holds, which has numbers for so many callers. An
 /// error returns the medium with the status that the run ends with.
-pub fn open_for<S: Source, M: Media, B: WriteBack>(
+pub fn open_for<S: Source, M: Media, D: Depth>(
     alloc: Global,
     reads: bool,
     callers: u8,
     source: &mut S,
     media: M,
-    write_back: B,
-) -> Result<(SaveRoom, Vec<u8>, Eaw<M, B>), (Status, M)>
+    depth: u8,
+) -> Result<(SaveRoom, Vec<u8>, Eaw<M, D>), (Status, M)>
+    requires { IsOfDepth D.least D.most depth }
     ensures usage { IfErr result (λ ended. ended.0 ≡ Status.Usage → 0 < callers) }
     ensures early { IfErr result (λ ended. IsEarly ended.0 → IsTrue reads × (ended.1 ≡ media)) }
     ensures unread { IsFalse reads → source.new ≡ source.old }
@@ -67,16 +70,16 @@ pub fn open_for<S: Source, M: Media, B: WriteBack>(
     ensures counts { IfErr result (λ ended. (sink : ℕ) → Counts ended.0 (S.faults source.old) (S.faults source.new) sink sink (M.view media).faults (M.view ended.1).faults) }
     ensures kept { IfOk result (λ opened. S.faults source.new ≡ S.faults source.old) }
     ensures outcome { IsTrue M.tells → IfErr result (λ ended. OverRecords true callers (λ none. ⊥) (M.view media) ended.0 (M.view ended.1) false []) }
-    ensures attached { IfOk result (λ opened. Attached M.tells (M.view media) (⟦<Eaw<M, B> as EawStore>⟧.view opened.2)) }
-    ensures keeps { IfOk result (λ opened. KeepsData M.tells (M.view media) (⟦<Eaw<M, B> as EawStore>⟧.view opened.2).moment (⟦<Eaw<M, B> as EawStore>⟧.view opened.2).left_since) }
-    ensures enough { IfOk result (λ opened. callers ≤ (⟦<Eaw<M, B> as EawStore>⟧.view opened.2).shape.numbers) }
+    ensures attached { IfOk result (λ opened. Attached M.tells (M.view media) (⟦<Eaw<M, D> as EawStore>⟧.view opened.2)) }
+    ensures keeps { IfOk result (λ opened. KeepsData M.tells (M.view media) (⟦<Eaw<M, D> as EawStore>⟧.view opened.2).moment (⟦<Eaw<M, D> as EawStore>⟧.view opened.2).left_since) }
+    ensures enough { IfOk result (λ opened. callers ≤ (⟦<Eaw<M, D> as EawStore>⟧.view opened.2).shape.numbers) }
 {
     // The room is taken first, so that a lack of memory for it leaves the medium alone.
     let room = match SaveRoom::new(alloc) {
         Ok(room) => room,
         Err(_) => return Err((Status::NoMemory, media)),
     };
-    let (input, store) = match open(alloc, reads, source, media, write_back) {
+    let (input, store) = match open(alloc, reads, source, media, depth) {
         Ok(opened) => opened,
         Err(ended) => return Err(ended),
     };
@@ -110,19 +113,20 @@ fn read_if<S: Source>(alloc: Global, reads: bool, source: &mut S) -> Result<Vec<
 }
 
 // Opens the array that the medium holds. An error returns the medium with the status that the run ends with.
-fn open_array<M: Media, B: WriteBack>(
+fn open_array<M: Media, D: Depth>(
     alloc: Global,
     media: M,
-    write_back: B,
-) -> Result<Eaw<M, B>, (Status, M)>
+    depth: u8,
+) -> Result<Eaw<M, D>, (Status, M)>
+    requires { IsOfDepth D.least D.most depth }
     ensures kind { IfErr result (λ ended. IsUnopened ended.0) }
     ensures late { IfErr result (λ ended. IsEarly ended.0 → ⊥) }
     ensures counts { IfErr result (λ ended. Counts ended.0 0 0 0 0 (M.view media).faults (M.view ended.1).faults) }
     ensures unopened { IsTrue M.tells → IfErr result (λ ended. Unopened (M.view media) ended.0 (M.view ended.1)) }
-    ensures attached { IfOk result (λ store. Attached M.tells (M.view media) (⟦<Eaw<M, B> as EawStore>⟧.view store)) }
-    ensures keeps { IfOk result (λ store. KeepsData M.tells (M.view media) (⟦<Eaw<M, B> as EawStore>⟧.view store).moment (⟦<Eaw<M, B> as EawStore>⟧.view store).left_since) }
+    ensures attached { IfOk result (λ store. Attached M.tells (M.view media) (⟦<Eaw<M, D> as EawStore>⟧.view store)) }
+    ensures keeps { IfOk result (λ store. KeepsData M.tells (M.view media) (⟦<Eaw<M, D> as EawStore>⟧.view store).moment (⟦<Eaw<M, D> as EawStore>⟧.view store).left_since) }
 {
-    match Eaw::<M, B>::attach_with(alloc, media, write_back) {
+    match Eaw::<M, D>::attach_late(alloc, media, depth) {
         Ok(store) => Ok(store),
         Err((fault, media)) => Err((status_of(fault), media)),
     }

@@ -113,7 +113,7 @@ module _ (tells : Bool) (caller : ℕ) (call : Call) (old new : CoreView) (reply
     base = steps.moves.base;
     opens = steps.opens;
     grows = step_grows;
-    doubtful = doubt_if old.state.is_dead refl (steps.step told);
+    doubtful = doubt_if old.state.is_dead refl (steps.step told).acts;
     sound = step_sound old.limits old.state caller call reply new.state sound (steps.step told);
     time = steps.time told;
     now = steps.now told;

@@ -140,4 +140,4 @@ module _ (limits : Limits) (old : State) (caller : ℕ) where
   -- Two replies to a call in one state are equal, except for `Media`, `NoMemory` and the count of a purge.
   pub one_reply : (call : Call) (one other : Reply) (new next : State) → is_by_chance one ≡ false → is_by_chance other ≡ false
       → Step limits old caller call one new → Step limits old caller call other next → one ≡ other
-  one_reply call one other new next ok ok' a b = one_if old.is_dead call one other new next ok ok' a b
+  one_reply call one other new next ok ok' a b = one_if old.is_dead call one other new next ok ok' a.acts b.acts

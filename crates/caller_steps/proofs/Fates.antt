@@ -21,7 +21,7 @@ use Rattle.caller_steps.specs.Locked.{IsFree}
 use Rattle.caller_steps.specs.Room.{Limits, Lacks, LacksAt}
 use Rattle.caller_steps.proofs.Offering.{offers_here, offers_apart, is_in, more_theirs, group_without, group_with, group_mine, offerers_once, offerer_has, offerer_is, group_history, group_names, group_base, group_dead, group_apart, group_ends, without_history, without_names, without_base, without_apart, without_ends}
 use Rattle.caller_steps.proofs.Able.{takes_within, free_outside, able_answered}
-use Rattle.caller_steps.specs.Step.{Says, Asks, AsksTable, StepAt, StepBy, StepIf, Step, Runs}
+use Rattle.caller_steps.specs.Step.{Says, Asks, AsksTable, StepAt, StepBy, StepIf, Acts, Step, Runs}
 use Rattle.caller_steps.specs.Own.{is_commit}
 use Rattle.caller_steps.specs.Fate.{is_refusal, is_media, is_committed, is_of_array, committed_by, history_after, live_with, offer_with, Stays, EndsWith, Moves}
 
@@ -154,8 +154,11 @@ module _ (limits : Limits) (old : State) (caller : ℕ) (new : State) where
   fate_if false call reply s = fate_by (old.offers caller) call reply refl s
 
   -- Each step has one of the fates.
+  pub acts_fate : (call : Call) (reply : Reply) → Acts limits old caller call reply new → Fate limits.callers old caller call reply new
+  acts_fate call reply acts = fate_if old.is_dead call reply acts
+
   pub step_fate : (call : Call) (reply : Reply) → Step limits old caller call reply new → Fate limits.callers old caller call reply new
-  step_fate call reply step = fate_if old.is_dead call reply step
+  step_fate call reply step = acts_fate call reply step.acts
 
 -- a refusal is no reply of a commit
 pub refusal_none : (reply : Reply) → is_refusal reply ≡ true → is_committed reply ≡ false

@@ -40,4 +40,4 @@ module _ (limits : Limits) (old : State) (caller : ℕ) (new : State) (holder : 
 
   -- While another caller holds a stripe of a live caller's call, the reply is `Busy`, `Dead` or `NoMemory`, and nothing changes.
   pub locks_first : (calls : Granted) (call : Call) (reply : Reply) → old.offers caller ≡ unoffered → old.live caller ≡ Some calls → has_table old.names call ≡ true → Blocks old caller call holder → Step limits old caller call reply new → IsLeft reply
-  locks_first calls call reply un is there blocks step = held_if old.is_dead calls call reply un is there blocks step
+  locks_first calls call reply un is there blocks step = held_if old.is_dead calls call reply un is there blocks step.acts

@@ -154,7 +154,7 @@ module _ (limits : Limits) (old : State) (caller : ℕ) (new : State) (alive : n
 
   -- a step leaves the index and the data
   step_reads : (call : Call) (reply : Reply) → ((other : ℕ) → HasNone (calls_of old other)) → is_write call ≡ false → Step limits old caller call reply new → new.index ≡ old.index
-  step_reads call reply none reads s = read_if old.is_dead call reply none reads s
+  step_reads call reply none reads s = read_if old.is_dead call reply none reads s.acts
 
   -- and nothing is written by a live transaction
   step_none : (call : Call) (reply : Reply) → ((other : ℕ) → HasNone (calls_of old other)) → is_write call ≡ false → Step limits old caller call reply new → (other : ℕ) → HasNone (calls_of new other)
@@ -175,7 +175,7 @@ module _ (limits : Limits) (old : State) (caller : ℕ) (new : State) (alive : n
       own false done = subst (λ (o : Option Granted). HasNone (unwrap_or o [])) (sym (moves.own done).0) (live_none (calls_of old caller) (none caller) call reply reads)
 
 module _ (limits : Limits) where
-  alive_first : (first now : State) (turns : List Turn) → Runs limits first turns now → now.is_dead ≡ false → first.is_dead ≡ false
+  pub alive_first : (first now : State) (turns : List Turn) → Runs limits first turns now → now.is_dead ≡ false → first.is_dead ≡ false
   alive_first first now turns runs alive = (either first.is_dead _ (sym (turns_dead true limits first now turns (turns_of_runs limits first now turns runs)) ∙ alive)).0
 
   runs_read : (first now : State) (turns : List Turn) → Runs limits first turns now → ((caller : ℕ) → HasNone (calls_of first caller)) → has_write turns ≡ false → now.is_dead ≡ false → now.index ≡ first.index

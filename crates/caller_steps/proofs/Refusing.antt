@@ -293,7 +293,7 @@ module _ (limits : Limits) (old : State) (caller : ℕ) (new : State) where
   left_if false call reply is s = left_by (old.offers caller) call reply s
 
   pub step_left : (call : Call) (reply : Reply) → Step limits old caller call reply new → Left limits old caller new call reply
-  step_left call reply step = left_if old.is_dead call reply refl step
+  step_left call reply step = left_if old.is_dead call reply refl step.acts
 
 -- a call that clashes with what is live of a caller clashes with what its own turns say is live
 held_by : (names : List (List ℕ)) (call : Call) (stripe : ℕ) (own : Own) (offer : state.Offer) → clash (touches names call stripe) (touched names (unwrap_or (live_in own offer) []) stripe) ≡ true

@@ -186,7 +186,7 @@ dead_if limits false old caller call reply new s is dead = absurd (true≢false 
 pub goes_of_step : (limits : Limits) (old : State) (caller : ℕ) (call : Call) (reply : Reply) (new : State) → Step limits old caller call reply new → Goes true limits old caller call reply new
 goes_of_step limits old caller call reply new step = record {
   moves = step_moves limits old caller call reply new step;
-  dead = λ dead. dead_if limits old.is_dead old caller call reply new step refl dead;
+  dead = λ dead. dead_if limits old.is_dead old caller call reply new step.acts refl dead;
   step = λ told. step;
 }
 

@@ -60,7 +60,7 @@ module _ (limits : Limits) (old new : State) (caller n : ℕ) where
       subst (λ (x : List Done × ℕ). IsCommittedAs x.0 caller x.1) (λ i. (sym (ap (λ (s : State). s.history) e) i, sym (ap number_in r) i)) there
 
   tells_if : (dead : Bool) → old.is_dead ≡ dead → IsSound old → Step limits old caller Settle (Committed n) new → IsCommittedAs new.history caller n
-  tells_if true dead sound step = absurd (true≢false (ap is_committed (subst (λ (b : Bool). StepIf limits b old caller Settle (Committed n) new) dead step).0))
+  tells_if true dead sound step = absurd (true≢false (ap is_committed (subst (λ (b : Bool). StepIf limits b old caller Settle (Committed n) new) dead step.acts).0))
   tells_if false alive sound step = settle_tells alive sound (step_fate limits old caller new Settle (Committed n) step)
 
   -- The number that a settle tells is that of a transaction of its caller's in the history.

@@ -1,9 +1,10 @@
 -- Runs whose states are shown by their data.
 use Rattle.std.proofs.Common.{◌≡◌, ℕ, List, [], ◌∷◌, ◌++◌, sym, ap, subst, ◌∙◌, IsFalse}
-use Rattle.caller_steps.specs.State.{State, Index}
-use Rattle.caller_steps.specs.Room.{Limits}
+use Rattle.caller_steps.specs.State.{State, Index, records_of}
+use Rattle.caller_steps.specs.Room.{Limits, IsShown}
 use Rattle.caller_steps.specs.Run.{Turn}
 use Rattle.caller_steps.specs.Step.{Runs, RunsShown}
+use Rattle.caller_steps.proofs.Reading.{alive_first}
 
 module _ (shows : State → Type 0) (limits : Limits) where
   pub shown_runs : (first now : State) (turns : List Turn) → RunsShown shows limits first turns now → Runs limits first turns now
@@ -23,3 +24,18 @@ module _ (shows : State → Type 0) (limits : Limits) where
       → RunsShown shows limits first xs one → RunsShown shows limits last ys other → IsFalse one.is_dead → IsFalse other.is_dead → one.index.bytes ≡ other.index.bytes → one.index ≡ other.index
   shown_index of tells one other first last xs ys begun began run ran alive living same =
       tells one (shown_end first one xs begun run alive) ∙ ap of same ∙ sym (tells other (shown_end last other ys began ran living))
+
+-- along a run whose first state its data shows, so it is of each that is not dead
+pub shown_along : (limits : Limits) (first now : State) (turns : List Turn) → IsShown limits first → Runs limits first turns now → IsFalse now.is_dead → IsShown limits now
+shown_along limits first now [] shown run alive = subst (IsShown limits) (sym run) shown
+shown_along limits first now (turn ∷ turns) shown (mid, step, runs) alive =
+    shown_along limits mid now turns (step.shown (alive_first limits mid now turns runs alive) shown) runs alive
+
+-- what one data shows is one
+pub shown_one : (limits : Limits) (one other : State) → IsShown limits one → IsShown limits other → one.index.bytes ≡ other.index.bytes
+    → (one.names ≡ other.names) × (records_of one ≡ records_of other) × (one.index ≡ other.index)
+shown_one limits one other a b same = (
+  sym a.names ∙ ap (λ (bytes : List ℕ). (limits.says bytes).names) same ∙ b.names,
+  sym a.table ∙ ap (λ (bytes : List ℕ). (limits.says bytes).table) same ∙ b.table,
+  sym a.index ∙ ap (λ (bytes : List ℕ). (limits.says bytes).index) same ∙ b.index,
+)

@@ -17,11 +17,11 @@ use Rattle.caller_steps.specs.State.{State, Index, Offer, unoffered, offered, op
 use Rattle.caller_steps.specs.Offers.{offerers, committed_group}
 use Rattle.caller_steps.specs.Locked.{IsFree}
 use Rattle.caller_steps.specs.Room.{Limits}
-use Rattle.caller_steps.specs.Step.{StepIf, Step, Runs}
+use Rattle.caller_steps.specs.Step.{StepIf, Acts, Step, Runs}
 use Rattle.caller_steps.specs.Sound.{IsOfferOf, IsSound}
 use Rattle.caller_steps.proofs.Apart.{apart_more, right-update, apart-update, live-update, offer-update, of_none, offer_longer}
 use Rattle.caller_steps.proofs.Grouped.{group_sound, one_without, doubted_sound}
-use Rattle.caller_steps.proofs.Fates.{Fate, refused, failed, began, granted, committed, doubted, aborted, given, settled, unsure, told, purged, step_fate}
+use Rattle.caller_steps.proofs.Fates.{Fate, refused, failed, began, granted, committed, doubted, aborted, given, settled, unsure, told, purged, acts_fate}
 
 -- soundness does not depend on the index
 with_index : (state : State) → IsSound state → (index : Index) → IsSound (record state { index = index })
@@ -158,13 +158,16 @@ module _ (old : State) (caller : ℕ) (sound : IsSound old) where
   fate_sound callers call reply new alive (told n has c r e) = subst IsSound (sym e) (one_without old caller sound)
   fate_sound callers call reply new alive (purged n un l c r index e) = subst IsSound (sym e) (same index old.is_dead (λ is. is))
 
-  step_sound_if : (dead : Bool) → old.is_dead ≡ dead → (limits : Limits) (call : Call) (reply : Reply) (new : State) → Step limits old caller call reply new → IsSound new
-  step_sound_if true dead limits call reply new step = subst IsSound (sym (subst (λ d. StepIf limits d old caller call reply new) dead step).1) sound
-  step_sound_if false alive limits call reply new step = fate_sound limits.callers call reply new alive (step_fate limits old caller new call reply step)
+  acts_sound_if : (dead : Bool) → old.is_dead ≡ dead → (limits : Limits) (call : Call) (reply : Reply) (new : State) → Acts limits old caller call reply new → IsSound new
+  acts_sound_if true dead limits call reply new acts = subst IsSound (sym (subst (λ d. StepIf limits d old caller call reply new) dead acts).1) sound
+  acts_sound_if false alive limits call reply new acts = fate_sound limits.callers call reply new alive (acts_fate limits old caller new call reply acts)
 
 -- A step keeps the state sound.
+pub acts_sound : (limits : Limits) (old : State) (caller : ℕ) (call : Call) (reply : Reply) (new : State) → IsSound old → Acts limits old caller call reply new → IsSound new
+acts_sound limits old caller call reply new sound acts = acts_sound_if old caller sound old.is_dead refl limits call reply new acts
+
 pub step_sound : (limits : Limits) (old : State) (caller : ℕ) (call : Call) (reply : Reply) (new : State) → IsSound old → Step limits old caller call reply new → IsSound new
-step_sound limits old caller call reply new sound step = step_sound_if old caller sound old.is_dead refl limits call reply new step
+step_sound limits old caller call reply new sound step = acts_sound limits old caller call reply new sound step.acts
 
 -- So do the calls of all callers, in any order.
 pub runs_sound : (limits : Limits) (old : State) (turns : List (ℕ × Call × Reply)) (new : State) → IsSound old → Runs limits old turns new → IsSound new

@@ -1,26 +1,33 @@
 -- How much room an array has for writes, and what calls make of its index.
-use Rattle.std.specs.Prelude.{ℕ, suc, ◌≡◌, ◌+◌, ◌-◌, ◌<◌, ◌≤◌, ◌⊎◌, Bool, false, nat_eq, List, [], ◌∷◌, length, filter, Option, Some, None, IsSome, unwrap_or}
+use Rattle.std.specs.Prelude.{ℕ, suc, ◌≡◌, ◌≢◌, ◌+◌, ◌-◌, ◌<◌, ◌≤◌, ◌⊎◌, Bool, false, nat_eq, List, [], ◌∷◌, length, filter, Option, Some, None, IsSome, unwrap_or}
 use Rattle.std.specs.FinMap.{get}
 use Rattle.std.specs.Map.{update}
 use Rattle.mars_base.specs.Room.{HaveRoom, IsFirstFull}
 use Rattle.history.specs.Key.{is_same_key, of_table}
 use Rattle.history.specs.declared.key.Key.{Key}
 use Rattle.history.specs.Log.{log_of, is_rewritten}
-use Rattle.history.specs.Writes.{Write}
+use Rattle.history.specs.Writes.{Table, Write}
 use Rattle.history.specs.declared.call.Call.{Call}
 use Rattle.history.specs.declared.call.Call.TheVariants.{Put, Del}
 use Rattle.history.specs.declared.call.Reply.{Reply}
 use Rattle.history.specs.declared.call.Reply.TheVariants.{Fine, LogFull, SlotsFull, PagesFull}
-use Rattle.caller_steps.specs.State.{State, Index, calls_of, view_of}
+use Rattle.caller_steps.specs.State.{State, Index, calls_of, records_of, view_of}
 
 -- an action of an insertion into the index: how many of its pages it takes, and how many entries of each logger
 pub record Action : Type 0 where
   pub takes : ℕ
   pub needs : ℕ → ℕ
 
+-- What data says: the names of the tables, their records, and their index. The slot that is due is the first one in the data's list of free
+-- slots, or the next one where none is free.
+pub record Said : Type 0 where
+  pub names : List (List ℕ)
+  pub table : Table
+  pub index : Index
+
 -- how many callers there may be, the slots of an array, its pages for the index, its loggers, the entries that each of them has for a
 -- caller, and the logger of each slot; and, of data and a key, whether the index keeps the key's pair as the last of a page, so that no purge
--- takes it out, and, if the index lacks the key, the actions of its insertion, one after another
+-- takes it out, and, if the index lacks the key, the actions of its insertion, one after another; and what data says
 pub record Limits : Type 0 where
   pub callers : ℕ
   pub slots : ℕ
@@ -30,6 +37,13 @@ pub record Limits : Type 0 where
   pub logger_of : ℕ → ℕ
   pub keeps : List ℕ → Key → Bool
   pub actions : List ℕ → Key → List Action
+  pub says : List ℕ → Said
+
+-- the data of a state says its names, its records and its index
+pub record IsShown (limits : Limits) (state : State) : Type 0 where
+  pub names : (limits.says state.index.bytes).names ≡ state.names
+  pub table : (limits.says state.index.bytes).table ≡ records_of state
+  pub index : (limits.says state.index.bytes).index ≡ state.index
 
 -- the key of a write has its slot on this logger
 abbrev pub is_slot_on : Limits → ℕ → Option ℕ → Bool
@@ -114,9 +128,10 @@ Lacks limits old caller (Put name key value) reply = LacksAt limits old caller (
 Lacks limits old caller (Del name key) reply = IsSeen old caller (of_table name key) × (slot : ℕ) × (old.index.slot_of (of_table name key) ≡ Some slot) × LacksAt limits old caller (of_table name key) (Some slot) reply
 Lacks limits old caller _ reply = ⊥
 
--- the index gains the key with the slot that is due, if there is one
+-- the index gains the key with the slot that is due, if there is one, which no key had
 pub record GainsKey (limits : Limits) (key : Key) (old new : Index) : Type 0 where
   pub left : old.used_slots < limits.slots
+  pub free : (other : Key) → old.slot_of other ≢ Some old.due
   pub slot_of : new.slot_of ≡ update is_same_key old.slot_of key (Some old.due)
   pub slots : new.used_slots ≡ suc old.used_slots
 

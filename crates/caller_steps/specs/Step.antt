@@ -11,7 +11,7 @@ use Rattle.caller_steps.specs.State as state
 use Rattle.caller_steps.specs.State.{State, Index, unoffered, offered, unsettled, view_of, with_live, with_offer, done_by}
 use Rattle.caller_steps.specs.Offers.{offerers, number_among, group_writes, committed_group, doubted_group}
 use Rattle.caller_steps.specs.Locked.{IsFree, IsBusyWith}
-use Rattle.caller_steps.specs.Room.{Limits, Fits, Lacks, Indexes, Settles}
+use Rattle.caller_steps.specs.Room.{Limits, IsShown, Fits, Lacks, Indexes, Settles}
 use Rattle.caller_steps.specs.Purging.{Purges}
 
 -- the most saves that a transaction may have
@@ -117,8 +117,15 @@ abbrev pub StepIf : Limits → Bool → State → ℕ → Call → Reply → Sta
 StepIf limits true old caller call reply new = Says Dead old reply new
 StepIf limits false old caller call reply new = StepBy limits (old.offers caller) old caller call reply new
 
-abbrev pub Step : Limits → State → ℕ → Call → Reply → State → Type 0
-Step limits old caller call reply new = StepIf limits old.is_dead old caller call reply new
+-- what a call does
+abbrev pub Acts : Limits → State → ℕ → Call → Reply → State → Type 0
+Acts limits old caller call reply new = StepIf limits old.is_dead old caller call reply new
+
+-- A call of a caller, its reply, and what it leaves. If the data showed the old state, then it shows the new one, unless the medium failed: so
+-- neither the slot that is due nor what a purge keeps is free between two steps, and no data but that of the records.
+pub record Step (limits : Limits) (old : State) (caller : ℕ) (call : Call) (reply : Reply) (new : State) : Type 0 where
+  pub acts : Acts limits old caller call reply new
+  pub shown : IsFalse new.is_dead → IsShown limits old → IsShown limits new
 
 -- calls of callers and their replies, one after another
 abbrev pub Runs : Limits → State → List (ℕ × Call × Reply) → State → Type 0

@@ -1,5 +1,5 @@
 // The trait of callers by turns.
-ghost use Rattle.std.specs.Prelude.{◌≡◌, ◌<◌, ℕ, Bool, IsTrue, IsFalse, IsSome, IfSome, length};
+ghost use Rattle.std.specs.Prelude.{◌≡◌, ◌<◌, ◌≤◌, ℕ, Bool, IsTrue, IsFalse, IsSome, IfSome, length, drop};
 ghost use Rattle.history.specs.Locks.{has_table};
 ghost use Rattle.history.specs.declared.call.Call.TheVariants.{Purge};
 ghost use Rattle.history.specs.declared.call.Reply.TheVariants.{Dead};
@@ -18,6 +18,9 @@ pub trait Core {
 
     /// Whether it keeps its history in memory, so that it can be read again.
     ghost keeps: { Bool };
+
+    /// Whether it gives up what need not be kept any longer. Without it what is kept is the whole history.
+    ghost forgets: { Bool };
 
     ghost view: { Self → CoreView };
 
@@ -53,10 +56,18 @@ pub trait Core {
     fn told(&self) -> u64
         ensures { result ≡ length (view self.now).state.history };
 
-    /// The transactions committed since the opening, in the order of their commits, if they are kept.
-    fn history(&self) -> Option<&[Done]>
-        ensures history { IfSome result (λ dones. dones.now ≡ (view self.now).state.history) }
-        ensures kept { IsTrue keeps → IsSome result };
+    /// The transactions committed since the opening, in the order of their commits, if they are kept: how many of the first were given up, and
+    /// those behind them.
+    fn history(&self) -> Option<(u64, &[Done])>
+        ensures first { IfSome result (λ kept. kept.0 ≤ length (view self.now).state.history) }
+        ensures history { IfSome result (λ kept. kept.1.now ≡ drop kept.0 (view self.now).state.history) }
+        ensures kept { IsTrue keeps → IsSome result }
+        ensures whole { IsFalse forgets → IfSome result (λ kept. kept.0 ≡ 0) };
+
+    /// The transactions up to number `told` need not be kept any longer. What contracts see of the core stays as it is, also its history: only
+    /// less of it may be kept from then on, if the core forgets.
+    fn forget(&mut self, told: u64)
+        ensures { self.new ≡ self.old };
 }
 
 /// A core behind a pointer, which is quick to hand on.
@@ -64,6 +75,8 @@ impl<C: Core> Core for Box<C> {
     ghost tells = { C.tells };
 
     ghost keeps = { C.keeps };
+
+    ghost forgets = { C.forgets };
 
     ghost view = { λ core. C.view core.value };
 
@@ -104,10 +117,18 @@ impl<C: Core> Core for Box<C> {
         self.as_ref().told()
     }
 
-    fn history(&self) -> Option<&[Done]>
-        ensures history { IfSome result (λ dones. dones.now ≡ (C.view self.now.value).state.history) }
+    fn history(&self) -> Option<(u64, &[Done])>
+        ensures first { IfSome result (λ kept. kept.0 ≤ length (C.view self.now.value).state.history) }
+        ensures history { IfSome result (λ kept. kept.1.now ≡ drop kept.0 (C.view self.now.value).state.history) }
         ensures kept { IsTrue C.keeps → IsSome result }
+        ensures whole { IsFalse C.forgets → IfSome result (λ kept. kept.0 ≡ 0) }
     {
         self.as_ref().history()
+    }
+
+    fn forget(&mut self, told: u64)
+        ensures { self.new ≡ self.old }
+    {
+        self.as_mut().forget(told);
     }
 }

@@ -6,10 +6,10 @@ ghost use Rattle.history.specs.Table.{Granted};
 ghost use Rattle.history.specs.declared.call.Call.{Call};
 ghost use Rattle.history.specs.declared.call.Reply.{Reply};
 ghost use Rattle.history.specs.declared.transaction.Done.{Done};
-ghost use Rattle.caller_steps.specs.State.{State, Index, unoffered, commits_of};
+ghost use Rattle.caller_steps.specs.State.{State, Index, unoffered, commits_of, records_of};
 ghost use Rattle.caller_steps.specs.Offers.{is_offered};
 ghost use Rattle.caller_steps.specs.Fate.{Stays};
-ghost use Rattle.caller_steps.specs.Room.{Limits};
+ghost use Rattle.caller_steps.specs.Room.{Limits, IsShown};
 ghost use Rattle.caller_steps.specs.Step.{Runs, RunsShown};
 ghost use Rattle.caller_steps.specs.Core.{Steps};
 ghost use Rattle.caller_steps.specs.Prefix.{Grows};
@@ -109,4 +109,11 @@ pub fn what_shown_runs_say<C: Core>()
         → IsFalse one.is_dead → IsFalse other.is_dead → one.index.bytes ≡ other.index.bytes → one.index ≡ other.index }
     ensures step { (old new : C) (caller : ℕ) (call : Call) (reply : Reply) → IsTrue C.tells → (IsFalse (C.view old).state.is_dead → (C.view old).shows (C.view old).state) → Steps C.tells caller call (C.view old) (C.view new) reply
         → RunsShown (C.view old).shows (C.view old).limits (C.view old).state ((caller, call, reply) ∷ []) (C.view new).state }
+{}
+
+/// Where its data shows the first state of a run, it shows each that is not dead: no state between two turns has a slot due, free slots, keys
+/// that a purge keeps, or records but those that its data says. What one data shows is one.
+pub fn what_data_shows()
+    ensures along { (limits : Limits) (first now : State) (turns : List Turn) → IsShown limits first → Runs limits first turns now → IsFalse now.is_dead → IsShown limits now }
+    ensures one { (limits : Limits) (one other : State) → IsShown limits one → IsShown limits other → one.index.bytes ≡ other.index.bytes → (one.names ≡ other.names) × (records_of one ≡ records_of other) × (one.index ≡ other.index) }
 {}

@@ -5,7 +5,7 @@ use crate::page_stores::{pages_over, recover};
 use crate::plain::{data_in, plain_store};
 use crate::progress::Progress;
 use case_files::{CaseFault, Image, PageLine, Placed, compare_places};
-use eaw_device::{AttachFault, Eaw, WriteBack};
+use eaw_device::{AnyDepth, Eaw};
 use pcm_media::{FusedMedia, Media, MemoryMedia};
 use std::alloc::Global;
 
@@ -147,31 +147,17 @@ fn play_attached<M: Media + Drop>(
     media: M,
     progress: &mut Progress,
 ) -> Result<(Option<usize>, M), CaseFault> {
-    match played.calls.depth {
-        0 => play_opened(alloc, played, Eaw::attach(alloc, media), progress),
-        depth if depth <= 64 => {
-            let opened = Eaw::attach_late(alloc, media, depth);
-            play_opened(alloc, played, opened, progress)
-        }
-        _ => Err(CaseFault::Opening),
+    if played.calls.depth > 64 {
+        return Err(CaseFault::Opening);
     }
-}
-
-fn play_opened<M: Media + Drop, W: WriteBack + Drop>(
-    alloc: Global,
-    played: &Played,
-    opened: Result<Eaw<M, W>, (AttachFault, M)>,
-    progress: &mut Progress,
-) -> Result<(Option<usize>, M), CaseFault> {
-    let store = match opened {
+    let store = match Eaw::<M, AnyDepth>::attach_late(alloc, media, played.calls.depth) {
         Ok(store) => store,
         Err((_, media)) => return Ok((Some(0), media)),
     };
     let mut pages = pages_over(alloc, store)?;
-    let lines = played.calls.lines;
     let failed = play(
         alloc,
-        lines,
+        played.calls.lines,
         &played.steps,
         &mut pages,
         &mut progress.report,

@@ -20,7 +20,7 @@ use Rattle.history.specs.declared.key.Key.{Key}
 use Rattle.history.specs.Writes.{Row}
 use Rattle.history.specs.Rows.{NamedRows, keyed, all_keyed, records_in}
 use Rattle.dump_text.specs.Dump.{is_same_name}
-use Rattle.dump_text.specs.Causes.{with_name}
+use Rattle.dump_text.specs.Dump.{with_name}
 use Rattle.dump_text.specs.Gathering.{IsPut, names_of, named}
 
 abbrev pub Table : Type 0

@@ -18,8 +18,8 @@ use Rattle.history.proofs.Keys.{name_decides, same_key}
 use Rattle.history_text.specs.Text.{key_text}
 use Rattle.script_run.specs.Lines.{lines_of}
 use Rattle.script_text.proofs.Fields.{same_long_fields}
-use Rattle.dump_text.specs.Dump.{IsRecord, IsDumpOf, record_words, count_words, is_same_name}
-use Rattle.dump_text.specs.Causes.{IsBehindTable, SaysNothing, IsRefused, IsRefusedAt, HasCause, DumpSays, table_words, with_name, met, tables_met}
+use Rattle.dump_text.specs.Dump.{IsRecord, IsDumpOf, record_words, count_words, is_same_name, with_name, met, tables_met}
+use Rattle.dump_text.specs.Causes.{IsBehindTable, SaysNothing, IsRefused, IsRefusedAt, HasCause, DumpSays, table_words}
 use Rattle.dump_text.specs.Again.{AreOfArray, IsReadAs, dumped}
 use Rattle.dump_text.specs.declared.fault.DumpFault.{DumpFault}
 use Rattle.dump_text.specs.declared.fault.DumpFault.TheVariants.{Line, Cut, Count, NoMemory}
@@ -183,5 +183,5 @@ module _ (records : List Entry) (are : AreOfArray records) where
   pub read_again : (result : Result (List NamedRows) DumpFault) → DumpSays (dumped records) result → IsReadAs records result
   read_again (Ok tables) dump =
       let last = last_stands dump.read (length dump.read) [] (stands_there dump.read (count_words (length dump.read)) [] dump.lines dump.proper) in
-      (subst (λ (l : List Entry). IsPermutation l (records_in tables)) last.0 dump.same, dump.are)
+      (subst (λ (l : List Entry). IsPermutation l (records_in tables)) last.0 dump.same, dump.are, dump.names ∙ ap tables_met last.0)
   read_again (Err fault) cause = not_refused_text fault cause

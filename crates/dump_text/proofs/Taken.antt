@@ -12,8 +12,8 @@ use Rattle.history.specs.declared.key.Key.{Key}
 use Rattle.history.specs.Rows.{NamedRows, records_in}
 use Rattle.history.specs.Writes.{Row}
 use Rattle.script_run.specs.Lines.{lines_of, onto_first}
-use Rattle.dump_text.specs.Dump.{IsRecord, AreTables, AreRising, IsDumpOf, record_words, count_words, is_same_name}
-use Rattle.dump_text.specs.Causes.{SaysNothing, IsShort, IsRefused, IsRefusedAt, HasCause, with_name, met, tables_met}
+use Rattle.dump_text.specs.Dump.{IsRecord, AreTables, AreRising, IsDumpOf, record_words, count_words, is_same_name, with_name, met, tables_met}
+use Rattle.dump_text.specs.Causes.{SaysNothing, IsShort, IsRefused, IsRefusedAt, HasCause}
 use Rattle.dump_text.specs.Gathering.{Adds, names_of}
 use Rattle.dump_text.specs.Taking.{HasRead, Takes, NotBehind}
 use Rattle.dump_text.specs.declared.fault.DumpFault.{DumpFault}

@@ -5,8 +5,7 @@ use Rattle.history.specs.Key.{is_same_key}
 use Rattle.history.specs.declared.key.Key.{Key}
 use Rattle.history.specs.Rows.{NamedRows, records_in}
 use Rattle.history_text.specs.Text.{record_line, number_line}
-use Rattle.dump_text.specs.Dump.{IsRecord, AreTables}
-use Rattle.dump_text.specs.Causes.{tables_met}
+use Rattle.dump_text.specs.Dump.{IsRecord, AreTables, tables_met}
 use Rattle.dump_text.specs.declared.fault.DumpFault.{DumpFault}
 use Rattle.dump_text.specs.declared.fault.DumpFault.TheVariants.{NoMemory}
 
@@ -21,7 +20,7 @@ pub record AreOfArray (records : List (Key × List ℕ)) : Type 0 where
   pub few : length (tables_met records) ≤ 8
   pub countable : length records < 2 ^ 64
 
--- just these records are read, or memory ran out
+-- just these records are read, under the names of their tables, or memory ran out
 abbrev pub IsReadAs : List (Key × List ℕ) → Result (List NamedRows) DumpFault → Type 0
-IsReadAs records (Ok tables) = IsPermutation records (records_in tables) × AreTables tables
+IsReadAs records (Ok tables) = IsPermutation records (records_in tables) × AreTables tables × (map (λ (table : NamedRows). table.0) tables ≡ tables_met records)
 IsReadAs records (Err fault) = fault ≡ NoMemory

@@ -9,7 +9,7 @@ use Rattle.history.specs.declared.key.Key.{Key}
 use Rattle.history.specs.Rows.{NamedRows}
 use Rattle.history_text.specs.Text.{key_text}
 use Rattle.script_run.specs.Lines.{lines_of}
-use Rattle.dump_text.specs.Dump.{IsRecord, IsDumpOf, record_words, count_words, is_same_name}
+use Rattle.dump_text.specs.Dump.{IsRecord, IsDumpOf, record_words, count_words, is_same_name, tables_met}
 use Rattle.dump_text.specs.declared.fault.DumpFault.{DumpFault}
 use Rattle.dump_text.specs.declared.fault.DumpFault.TheVariants.{Line, Cut, Count, NoMemory}
 use Rattle.dump_text.specs.declared.fault.LineFault.{LineFault}
@@ -45,19 +45,6 @@ IsShort line NoName = (words : List ℕ) × (line ≡ codes "rec " ++ words) × 
 IsShort line NoKey = (table rest : List ℕ) × (line ≡ codes "rec " ++ (table_words table ++ rest)) × ((key : ℕ) (behind : List ℕ) → key < 2 ^ 64 → rest ≡ decimal key ++ 32 ∷ behind → ⊥)
 IsShort line NoValue = (key : Key) × (text : List ℕ) × (line ≡ codes "rec " ++ (key_text key ++ 32 ∷ text)) × (IsValue text → ⊥)
 IsShort line _ = ⊥
-
--- the names with this one, if it is not among them
-abbrev pub with_name : List (List ℕ) → List ℕ → List (List ℕ)
-with_name names name = if list_any (is_same_name name) names then names else names ++ name ∷ []
-
--- the tables that records are of, behind these
-abbrev pub met : List (List ℕ) → List (Key × List ℕ) → List (List ℕ)
-met names [] = names
-met names (entry ∷ entries) = met (with_name names entry.0.table) entries
-
--- those of an array: `main`, and each other in the order in which records name it
-abbrev pub tables_met : List (Key × List ℕ) → List (List ℕ)
-tables_met entries = met (main_name ∷ []) entries
 
 -- Why a line behind those of these records is refused: it is no record, and short of one; or its key is one of theirs; or they are of eight
 -- tables, and it is of another.

@@ -1,8 +1,8 @@
 -- The text of a dump, its lines in any order.
-use Rattle.std.specs.Prelude.{ℕ, ◌≡◌, ◌≤◌, ◌<◌, ◌^◌, Bool, nat_eq, List, [], ◌∷◌, ◌++◌, map, length, codes, IsPermutation}
+use Rattle.std.specs.Prelude.{ℕ, ◌≡◌, ◌≤◌, ◌<◌, ◌^◌, Bool, nat_eq, if◌then◌else◌, List, [], ◌∷◌, ◌++◌, map, length, codes, IsPermutation}
 use lib.Pointwise.{pointwise}
 use Rattle.std.specs.Fmt.{decimal}
-use Rattle.std.specs.List.{All, IsDistinct}
+use Rattle.std.specs.List.{All, IsDistinct, list_any}
 use Rattle.std.specs.List.Sorted.{IsStrictlySortedBy}
 use Rattle.std.specs.Ordering.{nat_cmp}
 use Rattle.record_slots.specs.Text.{IsName, IsValue}
@@ -29,6 +29,19 @@ count_words n = codes "records " ++ decimal n
 abbrev pub is_same_name : List ℕ → List ℕ → Bool
 is_same_name one other = pointwise nat_eq one other
 
+-- the names with this one, if it is not among them
+abbrev pub with_name : List (List ℕ) → List ℕ → List (List ℕ)
+with_name names name = if list_any (is_same_name name) names then names else names ++ name ∷ []
+
+-- the tables that records are of, behind these
+abbrev pub met : List (List ℕ) → List (Key × List ℕ) → List (List ℕ)
+met names [] = names
+met names (entry ∷ entries) = met (with_name names entry.0.table) entries
+
+-- those of an array: `main`, and each other in the order in which records name it
+abbrev pub tables_met : List (Key × List ℕ) → List (List ℕ)
+tables_met entries = met (main_name ∷ []) entries
+
 -- the keys of rows rise
 abbrev pub AreRising : NamedRows → Type 0
 AreRising table = IsStrictlySortedBy nat_cmp (map (λ row. row.0) table.1)
@@ -40,10 +53,12 @@ pub record AreTables (tables : List NamedRows) : Type 0 where
   pub apart : IsDistinct is_same_name (map (λ table. table.0) tables)
   pub rising : All AreRising tables
 
--- The text's lines are those of the tables' records, in any order, and a last one that says how many these are.
+-- The text's lines are those of the tables' records, in any order, and a last one that says how many these are. The tables are `main` and those
+-- that have a record.
 pub record IsDumpOf (text : List ℕ) (tables : List NamedRows) : Type 0 where
   pub read : List (Key × List ℕ)
   pub lines : lines_of text ≡ map record_words read ++ count_words (length read) ∷ []
   pub proper : All IsRecord read
   pub same : IsPermutation read (records_in tables)
   pub are : AreTables tables
+  pub names : map (λ (table : NamedRows). table.0) tables ≡ tables_met read

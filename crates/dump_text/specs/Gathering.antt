@@ -7,7 +7,7 @@ use Rattle.history.specs.Key.{of_table}
 use Rattle.history.specs.Writes.{Row}
 use Rattle.history.specs.Rows.{NamedRows, keyed, records_in}
 use Rattle.dump_text.specs.Dump.{is_same_name}
-use Rattle.dump_text.specs.Causes.{with_name}
+use Rattle.dump_text.specs.Dump.{with_name}
 use Rattle.dump_text.specs.declared.fault.LineFault.{LineFault}
 use Rattle.dump_text.specs.declared.fault.LineFault.TheVariants.{Twice, NinthTable}
 

@@ -3,8 +3,8 @@ use Rattle.std.specs.Prelude.{ℕ, ◌≡◌, ◌≤◌, List, [], ◌∷◌, �
 use Rattle.std.specs.List.{All}
 use Rattle.history.specs.declared.key.Key.{Key}
 use Rattle.history.specs.Rows.{NamedRows, records_in}
-use Rattle.dump_text.specs.Dump.{IsRecord, record_words}
-use Rattle.dump_text.specs.Causes.{IsRefused, tables_met}
+use Rattle.dump_text.specs.Dump.{IsRecord, record_words, tables_met}
+use Rattle.dump_text.specs.Causes.{IsRefused}
 use Rattle.dump_text.specs.Gathering.{names_of}
 use Rattle.dump_text.specs.declared.fault.DumpFault.{DumpFault}
 use Rattle.dump_text.specs.declared.fault.DumpFault.TheVariants.{Line, NoMemory}

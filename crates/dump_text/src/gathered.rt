@@ -3,8 +3,7 @@ ghost use Rattle.std.specs.Prelude.{◌≡◌, ◌<◌, ℕ, List, [], ◌∷◌
 ghost use Rattle.std.specs.List.{All, list_any};
 ghost use Rattle.history.specs.Key.{main_name};
 ghost use Rattle.history.specs.Rows.{NamedRows};
-ghost use Rattle.dump_text.specs.Dump.{AreRising, is_same_name};
-ghost use Rattle.dump_text.specs.Causes.{with_name};
+ghost use Rattle.dump_text.specs.Dump.{AreRising, is_same_name, with_name};
 ghost use Rattle.dump_text.specs.Gathering.{Adds, IsPlaced, IsPut, names_of, named};
 
 use crate::fault::LineFault;

@@ -27,9 +27,11 @@ pub mod Atomic
 pub mod Looks
 pub mod Edits
 pub mod Empty
+pub mod Depths
 pub mod OpenedLemmas
 pub mod GroupBits
 pub mod JoiningCost
 pub mod Aside
 pub mod Quiet
 pub mod SettledCost
+pub mod Taped

@@ -8,5 +8,6 @@ pub mod Sound
 pub mod Laws
 pub mod Opening
 pub mod Costs
+pub mod Depths
 pub mod Groups
 pub mod Props

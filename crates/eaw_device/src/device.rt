@@ -1,5 +1,5 @@
 // The commands, over all loggers.
-ghost use Rattle.std.specs.Prelude.{◌≡◌, ◌≢◌, ◌+◌, ◌^◌, ◌≤◌, ◌<◌, ℕ, true, drop, false, None, IsTrue, IsFalse, IfOk, IfErr, OnOk, length};
+ghost use Rattle.std.specs.Prelude.{◌≡◌, ◌≢◌, ◌+◌, ◌^◌, ◌≤◌, ◌<◌, ℕ, true, drop, false, None, IsTrue, IsFalse, IfOk, IfErr, OnOk, length, nat_lt};
 ghost use Rattle.mars_base.specs.Costs.{Costs};
 ghost use Rattle.array_shape.specs.NumberSet.{has, members};
 ghost use Rattle.array_shape.specs.Parts.{parts_of_write};
@@ -10,42 +10,47 @@ ghost use Rattle.eaw_face.specs.Command.{commit_group, log_write};
 ghost use Rattle.eaw_face.specs.Does.{Does};
 ghost use Rattle.eaw_face.specs.Causes.{known};
 ghost use Rattle.eaw_device.specs.Costs.{back_cost};
+ghost use Rattle.eaw_device.specs.Depths.{IsOfDepth};
+ghost use Rattle.device_recovery.specs.Recovered.{HasNoVote};
 ghost use Rattle.eaw_device.specs.Opens.{Attached, FindsData, AttachCause, AttachLeaves, KeepsData, Opens, OpensWithin, IsBehind};
 ghost use Rattle.eaw_device.specs.Steps.{IsQuiet, LogHasCells, RefusesWrite};
 ghost use Rattle.eaw_device.specs.Props.{IsSound-prop};
 ghost use Rattle.commit_queue.specs.Deferred.{deferred_orders};
 ghost use Rattle.eaw_device.specs.Sound.{IsSound, LacksLog, LacksGroup, deferred_of, view_of};
 
+mod taped;
+
 use crate::committing::{commit_log, commit_logs};
+use crate::depth::Depth;
 use crate::fault::AttachFault;
 use crate::log::{Log, clear_logs};
 use crate::opening::open_array;
 use crate::staging::check_room;
-use crate::when::{AtOnce, Late, WriteBack};
 use array_shape::{NumberSet, Shape};
 use eaw_face::{EawFault, EawStore};
 use logger::{Logger, stage_write};
 use pcm_media::Media;
 use std::alloc::Global;
+use std::marker::{Brand, PhantomData};
 use write_back::LateData;
 
-/// The array over a medium.
+/// The array over a medium. At most so many commits as its depth says may wait for their write-back after they were answered.
 #[derive(Drop)]
-pub struct Eaw<M: Media, W: WriteBack = AtOnce> {
-    write_back: W,
+pub struct Eaw<M: Media, D: Depth = Brand> {
     media: M,
     shape: Shape,
     logs: Vec<Log>,
     late: LateData,
     is_dead: bool,
+    of: PhantomData<D>,
     ghost sound: { IsSound M.tells (M.view media) shape logs.items late is_dead } by { IsSound-prop M.tells (M.view media) shape logs.items late is_dead },
-    ghost depth: { late.queue.depth ≡ W.limit write_back },
+    ghost depth: { IsOfDepth D.least D.most late.queue.depth },
 }
 
-impl<M: Media> Eaw<M, AtOnce> {
-    /// Opens the array on the medium: reads its header, takes memory for its tables, and recovers. No number is live then.
-    /// On an error the medium is given back.
-    pub fn attach(alloc: Global, media: M) -> Result<Eaw<M, AtOnce>, (AttachFault, M)>
+impl<M: Media> Eaw<M> {
+    /// Opens the array on the medium: reads its header, takes memory for its tables, and recovers. No number is live then, and no commit
+    /// ever waits. On an error the medium is given back.
+    pub fn attach(alloc: Global, media: M) -> Result<Eaw<M>, (AttachFault, M)>
         ensures opens { IfOk result (λ eaw. Attached M.tells (M.view media) (view_of (M.view eaw.media) eaw.shape eaw.logs.items eaw.late eaw.is_dead)) }
         // An image that opens with some data is opened with that data.
         ensures found { IfOk result (λ eaw. FindsData M.tells (M.view media) (view_of (M.view eaw.media) eaw.shape eaw.logs.items eaw.late eaw.is_dead)) }
@@ -58,41 +63,20 @@ impl<M: Media> Eaw<M, AtOnce> {
         ensures kept { IfErr result (λ e. e.0 ≢ AttachFault.Media → (M.view e.1).faults ≡ (M.view media).faults) }
         ensures within { IfErr result (λ e. OpensWithin M.tells (M.view media) (M.view e.1).moment) }
         ensures early { IfErr result (λ e. e.0 ≡ AttachFault.NoMemory → (M.view e.1).moment ≡ (M.view media).moment + 1) }
+        ensures at_once { IfOk result (λ eaw. eaw.late.queue.depth ≡ 0) }
     {
-        Eaw::<M, AtOnce>::attach_with(alloc, media, AtOnce)
+        Eaw::<M, Brand>::attach_late(alloc, media, 0)
     }
 }
 
-impl<M: Media> Eaw<M, Late> {
-    /// The same, for a device on which at most `depth` commits may wait for their write-back after they were answered.
-    pub fn attach_late(alloc: Global, media: M, depth: u8) -> Result<Eaw<M, Late>, (AttachFault, M)>
-        requires some { 0 < depth }
-        requires most { depth ≤ 64 }
-        ensures opens { IfOk result (λ eaw. Attached M.tells (M.view media) (view_of (M.view eaw.media) eaw.shape eaw.logs.items eaw.late eaw.is_dead)) }
-        // An image that opens with some data is opened with that data.
-        ensures found { IfOk result (λ eaw. FindsData M.tells (M.view media) (view_of (M.view eaw.media) eaw.shape eaw.logs.items eaw.late eaw.is_dead)) }
-        ensures none_waits { IfOk result (λ eaw. deferred_of eaw.late ≡ 0) }
-        ensures cause { IfErr result (λ e. AttachCause M.tells (M.view media) (M.view e.1).faults e.0) }
-        ensures unwritten { IfErr result (λ e. AttachLeaves M.tells (M.view media) (M.view e.1) e.0) }
-        ensures keeps { IfOk result (λ eaw. KeepsData M.tells (M.view media) (M.view eaw.media).moment (M.view eaw.media).left_since) }
-        ensures keeps_on_err { IfErr result (λ e. KeepsData M.tells (M.view media) (M.view e.1).moment (M.view e.1).left_since) }
-        ensures later { IfErr result (λ e. (M.view media).faults ≤ (M.view e.1).faults) }
-        ensures kept { IfErr result (λ e. e.0 ≢ AttachFault.Media → (M.view e.1).faults ≡ (M.view media).faults) }
-        ensures within { IfErr result (λ e. OpensWithin M.tells (M.view media) (M.view e.1).moment) }
-        ensures early { IfErr result (λ e. e.0 ≡ AttachFault.NoMemory → (M.view e.1).moment ≡ (M.view media).moment + 1) }
-        ensures limit { IfOk result (λ eaw. eaw.write_back.depth ≡ depth) }
-    {
-        Eaw::<M, Late>::attach_with(alloc, media, Late::new(depth))
-    }
-}
-
-impl<M: Media, W: WriteBack> Eaw<M, W> {
-    /// The same, for a device that writes the data of a commit to its place when it is told so.
-    pub fn attach_with(
+impl<M: Media, D: Depth> Eaw<M, D> {
+    /// The same, on which at most `depth` commits may wait: if 0, none may.
+    pub fn attach_late(
         alloc: Global,
         mut media: M,
-        write_back: W,
-    ) -> Result<Eaw<M, W>, (AttachFault, M)>
+        depth: u8,
+    ) -> Result<Eaw<M, D>, (AttachFault, M)>
+        requires { IsOfDepth D.least D.most depth }
         ensures opens { IfOk result (λ eaw. Attached M.tells (M.view media) (view_of (M.view eaw.media) eaw.shape eaw.logs.items eaw.late eaw.is_dead)) }
         // An image that opens with some data is opened with that data.
         ensures found { IfOk result (λ eaw. FindsData M.tells (M.view media) (view_of (M.view eaw.media) eaw.shape eaw.logs.items eaw.late eaw.is_dead)) }
@@ -105,42 +89,51 @@ impl<M: Media, W: WriteBack> Eaw<M, W> {
         ensures kept { IfErr result (λ e. e.0 ≢ AttachFault.Media → (M.view e.1).faults ≡ (M.view media).faults) }
         ensures within { IfErr result (λ e. OpensWithin M.tells (M.view media) (M.view e.1).moment) }
         ensures early { IfErr result (λ e. e.0 ≡ AttachFault.NoMemory → (M.view e.1).moment ≡ (M.view media).moment + 1) }
-        ensures limit { IfOk result (λ eaw. eaw.write_back ≡ write_back) }
+        ensures limit { IfOk result (λ eaw. eaw.late.queue.depth ≡ depth) }
     {
-        match open_array(alloc, &mut media, write_back.depth()) {
+        match open_array(alloc, &mut media, depth) {
             Ok((shape, logs, late)) => Ok(Eaw {
-                write_back,
                 media,
                 shape,
                 logs,
                 late,
                 is_dead: false,
+                of: PhantomData,
             }),
             Err(fault) => Err((fault, media)),
         }
     }
 
+    /// How many commits may wait for their write-back.
+    pub fn depth(&self) -> u8
+        ensures depth { result ≡ self.now.late.queue.depth }
+        ensures of_type { IsOfDepth D.least D.most result }
+    {
+        self.late.depth()
+    }
+
     /// How many commits wait for their write-back: as many as there are different order numbers above 0 among the decided rows.
     pub fn deferred(&self) -> u8
         ensures many { result ≡ deferred_of self.now.late }
-        ensures most { result ≤ W.limit self.now.write_back }
-        ensures none { IsFalse W.defers → result ≡ 0 }
+        ensures most { result ≤ self.now.late.queue.depth }
+        ensures none { IsFalse (nat_lt 0 D.most) → result ≡ 0 }
         ensures counted { IsTrue M.tells → self.now.is_dead ≡ false → result ≡ length (deferred_orders self.now.shape (M.view self.now.media).content.bytes) }
     {
         self.late.len() as u8
     }
 
-    /// The medium. What live numbers have logged is given up.
+    /// The medium. What live numbers have logged is given up. If no commit may wait, no row is voted.
     pub fn into_media(self) -> M
-        ensures { IsBehind M.tells W.defers (view_of (M.view self.media) self.shape self.logs.items self.late self.is_dead) (M.view result) }
+        ensures behind { IsBehind M.tells (nat_lt 0 D.most) (view_of (M.view self.media) self.shape self.logs.items self.late self.is_dead) (M.view result) }
+        ensures quiet { self.late.queue.depth ≡ 0 → IsTrue M.tells → self.is_dead ≡ false → HasNoVote self.shape (M.view result).content.bytes }
     {
         let Eaw {
-            write_back: _,
             media,
             shape: _,
             logs: _,
             late: _,
             is_dead: _,
+            of: _,
         } = self;
         media
     }
@@ -248,10 +241,11 @@ impl<M: Media, W: WriteBack> Eaw<M, W> {
     }
 }
 
-impl<M: Media, W: WriteBack> EawStore for Eaw<M, W> {
+impl<M: Media, D: Depth> EawStore for Eaw<M, D> {
     ghost use Rattle.eaw_device.specs.Sound.{view_of};
     ghost use Rattle.eaw_device.specs.Opens.{Opens};
     ghost use Rattle.eaw_device.specs.Costs.{calls_of};
+    ghost use Rattle.std.specs.Prelude.{nat_lt};
     ghost use Rattle.eaw_device.specs.Laws.{outlines, placed, beyond, some_now, only_now, one_data, length-shown};
 
     ghost tells = { M.tells };
@@ -260,7 +254,7 @@ impl<M: Media, W: WriteBack> EawStore for Eaw<M, W> {
 
     ghost opens = { Opens };
 
-    ghost defers = { W.defers };
+    ghost defers = { nat_lt 0 D.least };
 
     ghost waiting = { λ s. deferred_of s.late };
 

@@ -7,6 +7,7 @@
 
 mod attach;
 mod committing;
+mod depth;
 mod device;
 mod fault;
 mod fresh;
@@ -14,10 +15,9 @@ mod log;
 mod making;
 mod opening;
 mod staging;
-mod when;
 
+pub use depth::{AnyDepth, Depth, SomeDepth};
 pub use device::Eaw;
 pub use fault::AttachFault;
 pub use fresh::format;
 pub use making::{FormatFault, PageSource, make};
-pub use when::{AtOnce, Late, WriteBack};

@@ -24,7 +24,7 @@ struct Replay {
 }
 
 /// The records after a history, by rising key. If a key stands twice in `base`, the first record counts.
-pub fn play(history: &[Done], base: &Tables, alloc: Global) -> Result<Tables, NoMemory>
+pub fn play(alloc: Global, history: &[Done], base: &Tables) -> Result<Tables, NoMemory>
     ensures { IfOk result (λ tables. records_in tables ≡ entries (records (table_of base.now) history.now)) }
 {
     let mut replay = Replay::new(base, alloc)?;
@@ -36,7 +36,7 @@ pub fn play(history: &[Done], base: &Tables, alloc: Global) -> Result<Tables, No
 
 /// Whether the history is legal on the records of `base`: each transaction has the next number, and its replies are those of a table that
 /// has been through the transactions before it.
-pub fn is_legal(history: &[Done], base: &Tables, alloc: Global) -> Result<bool, NoMemory>
+pub fn is_legal(alloc: Global, history: &[Done], base: &Tables) -> Result<bool, NoMemory>
     ensures { IfOk result (λ legal. IsTrue legal ↔ IsLegal (table_of base.now) history.now) }
 {
     let mut replay = Replay::new(base, alloc)?;

@@ -28,7 +28,8 @@ use Rattle.mars_core.specs.Seats.{Seats, live_in, bare}
 use Rattle.history.specs.Locks.{has_table}
 use Rattle.mars_core.specs.TableCall.{number_for}
 use Rattle.mars_core.specs.Works.{IsShown, IsSaveRefusal, Works, IsAnswered, Unmade, Made}
-use Rattle.mars_core.proofs.Answering.{IndexLaws, has_asked, did, did_unkept, granted_keeps, granted_steps, refused_keeps, refused_steps}
+use Rattle.record_table.proofs.Sharing.{Laws}
+use Rattle.mars_core.proofs.Answering.{has_asked, did, did_unkept, granted_keeps, granted_steps, refused_keeps, refused_steps}
 use Rattle.mars_core.proofs.Mirroring.{IsOfTable}
 use Rattle.mars_core.proofs.Prefixes.{StoreLaws}
 use Rattle.mars_core.proofs.Staying.{update_same, free_before, busy_before, save_refused, table_refused, memory_refused, busy_refused}
@@ -129,7 +130,7 @@ module _ (tells : Bool) (Opens : Shape → List ℕ → List ℕ → Type 0) (in
       (busy_refused tells Opens index p s shows count rows kept alive tells_writes t call calls is un of saves new same (there_is table asked) holder (busy_before s (bare mid) t x out same_names call holder busy))
 
   -- the call was made
-  module _ (one : (shape : Shape) (image a b : List ℕ) → Opens shape image a → Opens shape image b → a ≡ b) (laws : IndexLaws index) (q : PagesView) (old_laws : StoreLaws tells Opens p.store) (new_laws : StoreLaws tells Opens q.store)
+  module _ (one : (shape : Shape) (image a b : List ℕ) → Opens shape image a → Opens shape image b → a ≡ b) (laws : Laws index) (q : PagesView) (old_laws : StoreLaws tells Opens p.store) (new_laws : StoreLaws tells Opens q.store)
       (new : State) (shows_new : ShowsPages index q new) (names : new.names ≡ s.names) (offers : new.offers ≡ s.offers) (base : new.base ≡ s.base) (history : new.history ≡ s.history) (doubt : new.doubt ≡ s.doubt) (count' : ℕ) (same_count : count' ≡ count)
       (left : Granted) (put : new.live ≡ update nat_eq s.live t (Some left)) (answer : Reply) (made : Made tells (Opens p.store.shape) index (length (p.counts t)) mid t calls call p q left answer) where
     free : IsFree s t call

@@ -24,7 +24,7 @@ use Rattle.record_table.specs.State.{TableState}
 use Rattle.record_table.specs.Faults.{reply_to}
 use Rattle.record_table.specs.Causes.{Cause, IsSavedOut, IsScan}
 use Rattle.record_table.specs.Calls.{Replies, table_after, after, saves_after}
-use Rattle.record_table.specs.Does.{Does, OpensWith, Indexed, IsQuiet, is_failed}
+use Rattle.record_table.specs.Does.{Does, OpensWith, OpensAs, Indexed, IsQuiet, is_failed}
 use Rattle.record_table.specs.Shown.{state_of, pairs_of, keys_of}
 use Rattle.record_table.specs.Shown as shown
 use Rattle.record_table.specs.declared.fault.TableFault.{TableFault}
@@ -32,7 +32,7 @@ use Rattle.record_table.specs.declared.fault.TableFault.TheVariants.{SlotsFull, 
 use Rattle.caller_steps.specs.State.{State, unoffered, Index, calls_of, records_of}
 use Rattle.caller_steps.specs.Locked.{IsFree}
 use Rattle.caller_steps.specs.Room.{Limits, Indexes}
-use Rattle.caller_steps.specs.Step.{Asks, Step, uses_index}
+use Rattle.caller_steps.specs.Step.{Asks, Acts, uses_index}
 use Rattle.caller_steps.specs.Fate.{is_refusal, is_media, is_committed}
 use Rattle.caller_steps.specs.Prefix.{HasPrefixOf}
 use Rattle.caller_steps.specs.Core.{IsSafe, Steps}
@@ -41,13 +41,13 @@ use Rattle.caller_steps.specs.Offers.{may_do}
 use Rattle.caller_steps.proofs.Able.{takes_within}
 use Rattle.caller_steps.proofs.Causing.{call_cause}
 use Rattle.caller_steps.proofs.Holding.{AreNamed}
-use Rattle.caller_steps.proofs.Sound.{step_sound, history_whole}
+use Rattle.caller_steps.proofs.Sound.{acts_sound}
 use Rattle.record_slots.specs.Names.{names_in}
 use Rattle.record_slots.specs.Places.{version_of, tables_of}
 use Rattle.record_table.specs.Names.{names_of}
 use Rattle.history.specs.Locks.{has_table}
 use Rattle.mars_core.specs.TableCall.{number_for}
-use Rattle.mars_core.specs.Over.{limits_of, index_of, index_with}
+use Rattle.mars_core.specs.Over.{limits_of, index_of, index_with, OpensWithTables}
 use Rattle.mars_core.specs.Held.{core_over}
 use Rattle.mars_core.specs.Kept.{Mirrors, HasHeld, IsTied, IsKept}
 use Rattle.mars_core.specs.Works.{HasSaves, IsShown}
@@ -59,11 +59,9 @@ use Rattle.mars_core.proofs.Saving.{saves_in, saves_same, saves_one, saves_grant
 use Rattle.mars_core.proofs.Causes.{no_refusal, of_table_cause, granted_cause, fault_cause}
 use Rattle.mars_core.proofs.Idle.{no_calls, idle_after, idle_still}
 use Rattle.mars_core.proofs.Prefixes.{StoreLaws, sound_after, safe_dead, safe_alive}
+use Rattle.record_table.proofs.Sharing.{Laws}
+use Rattle.record_table.proofs.SlotParts.{one_slot}
 use Rattle.mars_core.proofs.Stepping.{ShowsPages, or_false, or_true, media_none, moves_refused, moves_granted, step_of, may_table, shows_tied, asks_at, steps_of, time_same, counts_is, saves_at, returns_at, enters_at}
-
--- what is known about an index
-pub record IndexLaws (index : below.Index) : Type 0 where
-  pub counts : (bytes : List ℕ) → index.sound bytes → below.HasCounts bytes
 
 refusal_of : (f : TableFault) → is_refusal (reply_to f) ≡ true
 refusal_of (SlotsFull n) = refl
@@ -161,6 +159,8 @@ pub record Did (tells : Bool) (Opens : List ℕ → List ℕ → Type 0) (index 
   pub others : (u : ℕ) → u ≢ t → new.store.ranges u ≡ old.store.ranges u
   pub time : IsTrue tells → IsAlive old.store
       → LeavesOnly (λ image. OpensWith Opens index image (state_of index old).table ⊎ OpensWith Opens index image (table_after t call (state_of index old))) old.store new.store
+  pub named : IsTrue tells → IsAlive old.store
+      → LeavesOnly (λ image. OpensAs Opens index image old.store.state.bytes (state_of index old).table ⊎ OpensAs Opens index image old.store.state.bytes (table_after t call (state_of index old))) old.store new.store
 
 pub did : (tells : Bool) (Opens : List ℕ → List ℕ → Type 0) (index : below.Index) (table t : ℕ) (call : Call) (old new : PagesView) (result : Result Reply TableFault) → Does tells Opens index table t call old new result
     → Did tells Opens index table t call old new result
@@ -181,6 +181,7 @@ did tells Opens index table t call old new result does = record {
   tables = does.tables;
   others = λ u ne. (does.others u ne).0;
   time = does.time;
+  named = does.named;
 }
   where
     counted : (r : Result Reply TableFault) → OnErr r (new.counts ≡ old.counts) → OnErr r ((u : ℕ) → length (new.counts u) ≡ length (old.counts u))
@@ -227,6 +228,7 @@ did_unkept tells Opens index table t call old new rows alive kind does = record 
   tables = λ told _. does.tables told refl;
   others = λ u ne. (does.others u ne).0;
   time = does.time;
+  named = does.named;
 }
   where
     scan : (name : List ℕ) × (low : ℕ) × (high : ℕ) × (call ≡ Scan name low high)
@@ -265,7 +267,7 @@ has_none names Begin is = absurd (cc)
 mirrors_same : (b : TableState) (s new : State) → records_of new ≡ records_of s → new.live ≡ s.live → Mirrors b s → Mirrors b new
 mirrors_same b s new same live m = record { table = m.table ∙ sym same; logs = λ u. m.logs u ∙ ap (λ (f : ℕ → Option Granted). log_of (unwrap_or (f u) [])) (sym live) }
 
-module _ (tells : Bool) (Opens : Shape → List ℕ → List ℕ → Type 0) (index : below.Index) (one : (shape : Shape) (image a b : List ℕ) → Opens shape image a → Opens shape image b → a ≡ b) (laws : IndexLaws index)
+module _ (tells : Bool) (Opens : Shape → List ℕ → List ℕ → Type 0) (index : below.Index) (one : (shape : Shape) (image a b : List ℕ) → Opens shape image a → Opens shape image b → a ≡ b) (laws : Laws index)
     (p q : PagesView) (old_laws : StoreLaws tells Opens p.store) (new_laws : StoreLaws tells Opens q.store) (s new : State) (shows : ShowsPages index p s) (shows_new : ShowsPages index q new)
     (names : new.names ≡ s.names) (offers : new.offers ≡ s.offers) (base : new.base ≡ s.base) (history : new.history ≡ s.history) (doubt : new.doubt ≡ s.doubt) (count count' : ℕ) (same_count : count' ≡ count) (rows : List NamedRows)
     (kept : IsKept tells Opens index p count rows s) (alive : IsAlive p.store) (tells_writes : IsShown tells index p) (table t : ℕ) (call : Call) (of : IsOfTable call) (asked : number_for s.names call ≡ Some table)
@@ -305,9 +307,9 @@ module _ (tells : Bool) (Opens : Shape → List ℕ → List ℕ → Type 0) (in
       within living = is_within p.store.shape q.store.state.bytes (keys_of index q.store.state.bytes)
           (subst (λ (h : Shape). length q.store.state.bytes ≡ data_len h) works.shape (new_laws.long told)) (laws.counts q.store.state.bytes (sound_new living)) refl refl
 
-      time : LeavesOnly (HasPrefixOf (OpensWith (Opens q.store.shape) index) new (length s.history)) p.store q.store
-      time = time_same tells Opens index p q s new (state_of index p).table (table_after t call (state_of index p)) (history_whole s tied.sound) works.shape tied.mirrors.table
-          (same_table (state_of index p) t call of ∙ tied.mirrors.table) base history (works.time told alive)
+      time : LeavesOnly (HasPrefixOf (OpensWithTables (Opens q.store.shape) index new.names) new (length s.history)) p.store q.store
+      time = time_same tells Opens index p q s new (state_of index p).table (table_after t call (state_of index p)) tied works.shape tied.mirrors.table
+          (same_table (state_of index p) t call of ∙ tied.mirrors.table) names base history (works.named told alive)
 
   -- the call has the saves that it needs, and the table is there, so the state does not refuse it
   may : may_do s t call ≡ true
@@ -337,7 +339,7 @@ module _ (tells : Bool) (Opens : Shape → List ℕ → List ℕ → Type 0) (in
       indexes = subst (λ (x : Index). Indexes (limits_of index p.store.shape) call answer x new.index) (sym shows.indexed)
           (subst (λ (x : Index). Indexes (limits_of index p.store.shape) call answer (index_of index p.store.state.bytes) x) (sym shows_new.indexed)
           (subst (λ (ns : List (List ℕ)). Indexes (limits_of index p.store.shape) call answer (index_of index p.store.state.bytes) (index_with ns q.store.state.bytes (keys_of index q.store.state.bytes))) (sym (names_same (Ok answer) told refl works))
-          (indexes_granted index p.store.shape table (names_of p.store.state.bytes) p.store.state.bytes q.store.state.bytes (keys_of index p.store.state.bytes) (keys_of index q.store.state.bytes) (within told (Ok answer) works living) call answer answer of
+          (indexes_granted index p.store.shape table (names_of p.store.state.bytes) p.store.state.bytes q.store.state.bytes (keys_of index p.store.state.bytes) (keys_of index q.store.state.bytes) (within told (Ok answer) works living) (one_slot index laws q.store.state.bytes (sound_new told (Ok answer) works living)) call answer answer of
           (λ inserts. works.quiet told refl (quiet_of index p t call of inserts))
           (λ name key value e. subst (λ (c : Call). Replies (state_of index p) t c answer) e (works.replies told)) (works.indexed told alive refl))))
 
@@ -353,7 +355,7 @@ module _ (tells : Bool) (Opens : Shape → List ℕ → List ℕ → Type 0) (in
         ),
       ))
 
-      step : Step (limits_of index p.store.shape) s t call answer new
+      step : Acts (limits_of index p.store.shape) s t call answer new
       step = step_of (limits_of index p.store.shape) (Some calls) s new t call answer living_state is un
           (asks_at (limits_of index p.store.shape) calls s new t call answer of there (saves_at index table p s shows (tied told).mirrors (tells_writes.held told alive) t (right told) call has) asks)
 
@@ -363,7 +365,7 @@ module _ (tells : Bool) (Opens : Shape → List ℕ → List ℕ → Type 0) (in
         version = works.version told refl (tied told).version;
         named = names ∙ (tied told).named ∙ sym (names_same (Ok answer) told refl works);
         mirrors = subst (λ (b : TableState). Mirrors b new) (sym (works.done told)) (mirrors_granted (state_of index p) s (tied told).mirrors new t calls call answer is live same_records of);
-        sound = step_sound (limits_of index p.store.shape) s t call answer new (tied told).sound step;
+        sound = acts_sound (limits_of index p.store.shape) s t call answer new (tied told).sound step;
         room = subst (λ (h : Shape). HasHeld (limits_of index h) new) (sym works.shape)
             (room_granted (limits_of index p.store.shape) s (named told) (tied told).room new.index (indexes_slots (limits_of index p.store.shape) call answer s.index new.index indexes) t calls is new call answer refl live
             (enters_at index table p s shows (tied told).mirrors (tells_writes.held told alive) t (right told) call answer new.index of (works.cause.2 told) (works.replies told) indexes)
@@ -388,7 +390,7 @@ module _ (tells : Bool) (Opens : Shape → List ℕ → List ℕ → Type 0) (in
     granted_steps = steps_of tells Opens index p q s new t call answer works.shape
         (moves_granted p.store.shape.numbers s new t calls call answer names base history dead_same offers un is live of granted plain)
         (asked_cause answer (granted_cause (limits_of index p.store.shape) s t call answer free granted (subst (λ (n : ℕ). IsOfKind n call answer) count_is kind))) (λ failed. absurd (false≢true (sym (media_none answer granted) ∙ failed)))
-        (λ _. (works.faults refl).1) step (λ told. time told (Ok answer) works) safe_new (λ told _ _. shows_tied index q new shows_new.indexed (tied_new told))
+        (λ _. (works.faults refl).1) step (λ told. time told (Ok answer) works) safe_new (inr (λ told _. shows_tied index q new shows_new.indexed (tied_new told)))
 
   -- the call was refused
   module _ (f : TableFault) (works : Did tells (Opens p.store.shape) index table t call p q (Err f)) (live : new.live ≡ s.live) where
@@ -407,7 +409,7 @@ module _ (tells : Bool) (Opens : Shape → List ℕ → List ℕ → Type 0) (in
         indexes_still = subst (λ (x : Index). Indexes (limits_of index p.store.shape) call (reply_to f) x new.index) (sym shows.indexed)
             (subst (λ (x : Index). Indexes (limits_of index p.store.shape) call (reply_to f) (index_of index p.store.state.bytes) x) (sym shows_new.indexed)
             (subst (λ (ns : List (List ℕ)). Indexes (limits_of index p.store.shape) call (reply_to f) (index_of index p.store.state.bytes) (index_with ns q.store.state.bytes (keys_of index q.store.state.bytes))) (sym (names_same (Err f) told well works))
-            (indexes_refused index p.store.shape table (names_of p.store.state.bytes) p.store.state.bytes q.store.state.bytes (keys_of index p.store.state.bytes) (keys_of index q.store.state.bytes) (within told (Err f) works living_still) Reply call f of (asked_below told)
+            (indexes_refused index p.store.shape table (names_of p.store.state.bytes) p.store.state.bytes q.store.state.bytes (keys_of index p.store.state.bytes) (keys_of index q.store.state.bytes) (within told (Err f) works living_still) (one_slot index laws q.store.state.bytes (sound_new told (Err f) works living_still)) Reply call f of (asked_below told)
             (λ inserts. works.quiet told well (quiet_of index p t call of inserts)) well (works.indexed told alive well))))
 
         -- for its cause
@@ -447,7 +449,7 @@ module _ (tells : Bool) (Opens : Shape → List ℕ → List ℕ → Type 0) (in
             inl (refl, changed ∙ ap (λ (x : Index). record s { index = x }) (scan_same (limits_of index p.store.shape) call reply.NoMemory s.index new.index cause.1 made))
         asks_fault Media well cause made = absurd (false≢true (sym well))
 
-        step_still : Step (limits_of index p.store.shape) s t call (reply_to f) new
+        step_still : Acts (limits_of index p.store.shape) s t call (reply_to f) new
         step_still = step_of (limits_of index p.store.shape) (Some calls) s new t call (reply_to f) living_state is un
             (asks_at (limits_of index p.store.shape) calls s new t call (reply_to f) of there (saves_at index table p s shows (tied told).mirrors (tells_writes.held told alive) t (right told) call has) (asks_fault f well works.cause indexes_still))
 
@@ -457,7 +459,7 @@ module _ (tells : Bool) (Opens : Shape → List ℕ → List ℕ → Type 0) (in
           version = works.version told well (tied told).version;
           named = names ∙ (tied told).named ∙ sym (names_same (Err f) told well works);
           mirrors = subst (λ (b : TableState). Mirrors b new) (sym (works.refused told well)) (mirrors_same (state_of index p) s new same_records live (tied told).mirrors);
-          sound = step_sound (limits_of index p.store.shape) s t call (reply_to f) new (tied told).sound step_still;
+          sound = acts_sound (limits_of index p.store.shape) s t call (reply_to f) new (tied told).sound step_still;
           room = subst (λ (h : Shape). HasHeld (limits_of index h) new) (sym works.shape) (subst (HasHeld (limits_of index p.store.shape)) (sym changed)
               (index_room (limits_of index p.store.shape) s (named told) (tied told).room new.index (indexes_slots (limits_of index p.store.shape) call (reply_to f) s.index new.index indexes_still)));
         }
@@ -479,20 +481,20 @@ module _ (tells : Bool) (Opens : Shape → List ℕ → List ℕ → Type 0) (in
       well_steps = steps_of tells Opens index p q s new t call (reply_to f) works.shape
           (moves_refused p.store.shape.numbers s new t call (reply_to f) names base history live offers (dead_still ∙ sym (ap (λ (b : Bool). s.is_dead || b) (media_of f well) ∙ or_false s.is_dead)) (refusal_of f) (plain_of f))
           (asked_cause (reply_to f) (fault_cause tells index table p s t call alive (saved_out p t call of saves) free f works.cause (λ media. absurd (false≢true (sym well ∙ ap is_failed media)))))
-          (λ failed. absurd (false≢true (sym (media_of f well) ∙ failed))) (λ _. (works.faults well).1) step_still (λ told. time told (Err f) works) safe_still (λ told _ _. shows_tied index q new shows_new.indexed (tied_still told))
+          (λ failed. absurd (false≢true (sym (media_of f well) ∙ failed))) (λ _. (works.faults well).1) step_still (λ told. time told (Err f) works) safe_still (inr (λ told _. shows_tied index q new shows_new.indexed (tied_still told)))
 
   -- the medium failed
   module _ (works : Did tells (Opens p.store.shape) index table t call p q (Err Media)) (due : IsTrue (uses_index call)) (live : new.live ≡ s.live) where
     died : new.is_dead ≡ true
     died = shows_new.dead ∙ (works.dies refl).0
 
-    step_failed : IsTrue tells → Step (limits_of index p.store.shape) s t call reply.Media new
+    step_failed : IsTrue tells → Acts (limits_of index p.store.shape) s t call reply.Media new
     step_failed told = step_of (limits_of index p.store.shape) (Some calls) s new t call reply.Media living_state is un
         (asks_at (limits_of index p.store.shape) calls s new t call reply.Media of there (saves_at index table p s shows (tied told).mirrors (tells_writes.held told alive) t (right told) call has)
         (inr (inr (free, inr (inr (due, (refl, new.index, λ i. record { names = names i; base = base i; history = history i; live = live i; offers = offers i; doubt = doubt i; is_dead = died i; index = new.index })))))))
 
     safe_failed : IsTrue tells → IsSafe (core_over Opens index q.store new) q.store.moment (length new.history)
-    safe_failed told = safe_dead tells Opens index one p q old_laws new_laws told works.shape alive (tied told).index_sound s new (history_whole s (tied told).sound) (tied told).mirrors.table base history (time told (Err Media) works)
+    safe_failed told = safe_dead tells Opens index one p q old_laws new_laws told works.shape alive (tied told).index_sound s new (tied told) names base history (time told (Err Media) works)
 
     media_keeps : IsKept tells Opens index q count' rows new
     media_keeps = record {
@@ -507,7 +509,7 @@ module _ (tells : Bool) (Opens : Shape → List ℕ → List ℕ → Type 0) (in
     media_steps : Steps tells t call (core_over Opens index p.store s) (core_over Opens index q.store new) reply.Media
     media_steps = steps_of tells Opens index p q s new t call reply.Media works.shape
         (moves_refused p.store.shape.numbers s new t call reply.Media names base history live offers (died ∙ sym (or_true s.is_dead)) refl refl) (asked_cause reply.Media (free, inr due))
-        (λ _. (works.dies refl).1) (λ kept. absurd (false≢true (sym kept))) step_failed (λ told. time told (Err Media) works) safe_failed (λ told _ living. absurd (false≢true (sym living ∙ died)))
+        (λ _. (works.dies refl).1) (λ kept. absurd (false≢true (sym kept))) step_failed (λ told. time told (Err Media) works) safe_failed (inr (λ told living. absurd (false≢true (sym living ∙ died))))
 
   module _ (f : TableFault) (works : Did tells (Opens p.store.shape) index table t call p q (Err f)) (due : (let r : Result Reply TableFault = Err f in IsErrOf r Media → IsTrue (uses_index call))) (live : new.live ≡ s.live) where
     pub refused_keeps : IsKept tells Opens index q count' rows new

@@ -33,7 +33,7 @@ use Rattle.page_store.specs.Removes.{IsLogFull}
 use Rattle.page_store.specs.Shown.{PagesView}
 use Rattle.record_table.proofs.Moving.{shown_same}
 use Rattle.record_table.proofs.Putting.{filter_short}
-use Rattle.record_table.specs.Does.{OpensWith, is_failed}
+use Rattle.record_table.specs.Does.{OpensAs, is_failed}
 use Rattle.record_table.specs.Removing.{IsAbsent, IsUnwritten, IsNextAbsent, SearchCause, IsKept, removal_in, Loses, Removes}
 use Rattle.record_table.specs.Shown.{table_of, state_of, keys_of}
 use Rattle.record_table.specs.State.{TableState}
@@ -327,7 +327,7 @@ module _ (tells : Bool) (Opens : List ℕ → List ℕ → Type 0) (index : belo
         saves = λ _. removes.saves;
         sound = removes.sound;
         tried = λ told. tried_so new r told removes;
-        time = λ told. removes.time told alive;
+        time = λ told. removes.named told alive;
       }
 
 -- A purge that has passed some keys, and has taken n keys out.
@@ -338,9 +338,10 @@ pub record Going (tells : Bool) (Opens : List ℕ → List ℕ → Type 0) (inde
   pub ranges : (u : ℕ) → listed (now.store.ranges u) ≡ listed (old.store.ranges u)
   pub saves : now.counts ≡ old.counts
   pub ready : IsTrue tells → IsReady index seats t now
+  pub named : IsTrue tells → names_of now.store.state.bytes ≡ names_of old.store.state.bytes
   pub state : IsTrue tells → state_of index now ≡ state_of index old
   pub cleared : IsTrue tells → Cleared index seats Passed n old.store.state.bytes now.store.state.bytes
-  pub time : IsTrue tells → LeavesOnly (λ image. OpensWith Opens index image (state_of index old).table) old.store now.store
+  pub time : IsTrue tells → LeavesOnly (λ image. OpensAs Opens index image old.store.state.bytes (state_of index old).table) old.store now.store
   pub mirrors : Mirrors tells old.store now.store
 
 -- a further refusal
@@ -357,6 +358,7 @@ module _ (tells : Bool) (Opens : List ℕ → List ℕ → Type 0) (index : belo
     ranges = λ u. refl;
     saves = refl;
     ready = ready;
+    named = λ told. refl;
     state = λ told. refl;
     cleared = λ told. cleared_none index seats old.store.state.bytes Passed none;
     time = λ told. stays old.store.moment old.store.left_since _;
@@ -369,11 +371,13 @@ module _ (tells : Bool) (Opens : List ℕ → List ℕ → Type 0) (index : belo
     same_table : IsTrue tells → table_of index mid.store.state.bytes ≡ table_of index old.store.state.bytes
     same_table told = ap (λ (s : TableState). s.table) (going.state told)
 
-    look_time : (new : PagesView) (failed : Bool) → Looks tells Opens failed mid new → IsTrue tells → LeavesOnly (λ image. OpensWith Opens index image (state_of index old).table) old.store new.store
+    look_time : (new : PagesView) (failed : Bool) → Looks tells Opens failed mid new → IsTrue tells → LeavesOnly (λ image. OpensAs Opens index image old.store.state.bytes (state_of index old).table) old.store new.store
     look_time new failed looks told = then (going.time told) (weaker (λ image opens. record {
       bytes = mid.store.state.bytes;
       opened = opens;
       sound = (going.ready told).sound;
+      version = λ _. (going.ready told).version;
+      named = going.named told;
       shows = same_table told;
     }) (looks.time told living))
 
@@ -396,6 +400,7 @@ module _ (tells : Bool) (Opens : List ℕ → List ℕ → Type 0) (index : belo
             logs = λ u. ap (λ (s : TableState). s.logs u) (shown_same index mid new (still.state told) looks.saves) ∙ was.logs u;
             slots = subst (λ (x : List ℕ × Shape). used_slots x.0 ≤ slots_of x.1) (λ i. (sym (bytes told) i, sym looks.shape i)) was.slots;
           };
+          named = λ told. ap names_of (bytes told) ∙ going.named told;
           state = λ told. shown_same index mid new (still.state told) looks.saves ∙ going.state told;
           cleared = λ told. subst (λ (d : List ℕ). Cleared index seats Passed n old.store.state.bytes d) (sym (bytes told)) (going.cleared told);
           time = look_time new false looks;
@@ -457,9 +462,16 @@ module _ (tells : Bool) (Opens : List ℕ → List ℕ → Type 0) (index : belo
       time = going.time;
     }
 
-    later_time : (new : PagesView) → (IsTrue tells → LeavesOnly (λ image. OpensWith Opens index image (state_of index mid).table) mid.store new.store) → IsTrue tells
-        → LeavesOnly (λ image. OpensWith Opens index image (state_of index old).table) old.store new.store
-    later_time new time told = then (going.time told) (weaker (λ image opens. subst (λ (s : TableState). OpensWith Opens index image s.table) (going.state told) opens) (time told))
+    later_time : (new : PagesView) → (IsTrue tells → LeavesOnly (λ image. OpensAs Opens index image mid.store.state.bytes (state_of index mid).table) mid.store new.store) → IsTrue tells
+        → LeavesOnly (λ image. OpensAs Opens index image old.store.state.bytes (state_of index old).table) old.store new.store
+    later_time new time told = then (going.time told) (weaker (λ image opens. record {
+      bytes = opens.bytes;
+      opened = opens.opened;
+      sound = opens.sound;
+      version = λ _. opens.version (going.ready told).version;
+      named = opens.named ∙ going.named told;
+      shows = opens.shows ∙ same_table told;
+    }) (time told))
 
     cause_of : (T : Type 0) (f : TableFault) → (let r : Result T TableFault = Err f in ClearCause tells r) → ClearCause tells (refusal f)
     cause_of T Media cause = tt
@@ -508,6 +520,7 @@ module _ (tells : Bool) (Opens : List ℕ → List ℕ → Type 0) (index : belo
                 logs = λ u. ap (λ (s : TableState). s.logs u) (tries.state told refl) ∙ r.logs u;
                 slots = omega (arith, r.slots, fewer_slots was (tries.tried told), ap slots_of tries.shape);
               };
+              named = λ told. ap names_in (tries.tables told refl) ∙ going.named told;
               state = λ told. tries.state told refl ∙ going.state told;
               cleared = λ told. cleared_then index seats old.store.state.bytes mid.store.state.bytes Passed n (going.cleared told) new.store.state.bytes (λ one. one ≡ key) (one_if was) (one_more told) (same_table told) (table_still told)
                   (λ one other passed is. subst (ComesBefore seats.names one) (sym is) (before told one passed));
@@ -554,6 +567,7 @@ module _ (tells : Bool) (Opens : List ℕ → List ℕ → Type 0) (index : belo
           ranges = λ u. clears.ranges refl u ∙ going.ranges u;
           saves = clears.saves refl ∙ going.saves;
           ready = λ told. clears.ready told;
+          named = λ told. (clears.ready told).named ∙ sym (going.ready told).named ∙ going.named told;
           state = λ told. clears.state told refl ∙ going.state told;
           cleared = λ told. cleared_then index seats old.store.state.bytes mid.store.state.bytes Passed n (going.cleared told) new.store.state.bytes More m (clears.cleared told) (same_table told) (table_after told) (before told);
           time = later_time new clears.time;
@@ -593,6 +607,7 @@ going_to tells Opens index seats t n n' Passed Other old now count passed among 
   ranges = going.ranges;
   saves = going.saves;
   ready = going.ready;
+  named = going.named;
   state = going.state;
   cleared = λ told. subst (λ (k : ℕ). Cleared index seats Other k old.store.state.bytes now.store.state.bytes) (sym (count told))
       (cleared_as index seats old.store.state.bytes now.store.state.bytes Passed n (going.cleared told) Other (passed told) (among told));

@@ -28,7 +28,7 @@ use Rattle.history.proofs.Pending.{left_is_written}
 use Rattle.record_table.specs.State.{TableState, seen_by}
 use Rattle.record_table.specs.Causes.{Cause}
 use Rattle.record_table.specs.Calls.{after}
-use Rattle.record_table.specs.Does.{Does, OpensWith}
+use Rattle.record_table.specs.Does.{Does, OpensAs}
 use Rattle.record_table.specs.Shown.{state_of}
 use Rattle.record_table.specs.declared.fault.TableFault.{TableFault}
 use Rattle.record_table.specs.declared.fault.TableFault.TheVariants as fault
@@ -36,20 +36,20 @@ use Rattle.caller_steps.specs.State.{State, Index, Offer, unoffered, calls_of, c
 use Rattle.caller_steps.proofs.Able.{takes_within}
 use Rattle.caller_steps.proofs.Offering.{more_theirs}
 use Rattle.caller_steps.specs.Room.{Settles}
-use Rattle.caller_steps.specs.Step.{Step}
+use Rattle.caller_steps.specs.Step.{Acts}
 use Rattle.caller_steps.specs.Prefix.{HasPrefix, HasPrefixOf}
 use Rattle.caller_steps.specs.Core.{IsSafe, Steps}
 use Rattle.caller_steps.proofs.Causing.{call_cause}
 use Rattle.mars_core.proofs.Saving.{saves_one}
-use Rattle.caller_steps.proofs.Sound.{step_sound, history_whole, one_more_whole}
+use Rattle.caller_steps.proofs.Sound.{acts_sound, history_whole, one_more_whole}
 use Rattle.record_slots.specs.Names.{names_in}
-use Rattle.mars_core.specs.Over.{limits_of, index_with}
+use Rattle.mars_core.specs.Over.{limits_of, index_with, OpensWithTables}
 use Rattle.mars_core.specs.Held.{core_over}
 use Rattle.mars_core.specs.Kept.{Mirrors, HasHeld, IsTied, IsKept}
 use Rattle.mars_core.proofs.Mirroring.{with_one_here, mirrors_at, apart}
 use Rattle.mars_core.proofs.Entering.{room_empty}
 use Rattle.mars_core.proofs.Idle.{idle_after}
-use Rattle.mars_core.proofs.Prefixes.{StoreLaws, prefix_all, prefix_more, sound_after, safe_dead, safe_alive}
+use Rattle.mars_core.proofs.Prefixes.{StoreLaws, opens_tied, prefix_all, prefix_more, sound_after, safe_dead, safe_alive}
 use Rattle.mars_core.proofs.Stepping.{shows_tied, ShowsPages, or_false, or_true, step_of, steps_of, steps_same, time_same}
 
 -- what was pushed last is what is removed
@@ -132,23 +132,23 @@ module _ (tells : Bool) (Opens : Shape → List ℕ → List ℕ → Type 0) (in
       whole_more : AreWhole (length (s.history ++ done ∷ [])) (s.history ++ done ∷ [])
       whole_more = subst (λ (d : Done). AreWhole (length (s.history ++ d ∷ [])) (s.history ++ d ∷ [])) (sym done_is) (one_more_whole s t tied.sound calls at)
 
-      time_commit : new.history ++ new.doubt ≡ s.history ++ done ∷ [] → LeavesOnly (HasPrefixOf (OpensWith (Opens q.store.shape) index) new (length s.history)) p.store q.store
-      time_commit list = weaker go (does.time told alive)
+      time_commit : new.history ++ new.doubt ≡ s.history ++ done ∷ [] → LeavesOnly (HasPrefixOf (OpensWithTables (Opens q.store.shape) index new.names) new (length s.history)) p.store q.store
+      time_commit list = weaker go (does.named told alive)
         where
-          opened : (image : List ℕ) (C : Table) → OpensWith (Opens p.store.shape) index image C → OpensWith (Opens q.store.shape) index image C
-          opened image C o = subst (λ (h : Shape). OpensWith (Opens h) index image C) (sym does.shape) o
+          opened : (image : List ℕ) (C : Table) → OpensAs (Opens p.store.shape) index image p.store.state.bytes C → OpensWithTables (Opens q.store.shape) index new.names image C
+          opened = opens_tied Opens index p s tied q.store.shape does.shape new.names names
 
-          turned : (image : List ℕ) → HasPrefix (OpensWith (Opens q.store.shape) index) s.base (s.history ++ done ∷ []) (length s.history) image
-              → HasPrefixOf (OpensWith (Opens q.store.shape) index) new (length s.history) image
-          turned image has = subst (λ (b : Table). HasPrefix (OpensWith (Opens q.store.shape) index) b (new.history ++ new.doubt) (length s.history) image) (sym base)
-              (subst (λ (hs : List Done). HasPrefix (OpensWith (Opens q.store.shape) index) s.base hs (length s.history) image) (sym list) has)
+          turned : (image : List ℕ) → HasPrefix (OpensWithTables (Opens q.store.shape) index new.names) s.base (s.history ++ done ∷ []) (length s.history) image
+              → HasPrefixOf (OpensWithTables (Opens q.store.shape) index new.names) new (length s.history) image
+          turned image has = subst (λ (b : Table). HasPrefix (OpensWithTables (Opens q.store.shape) index new.names) b (new.history ++ new.doubt) (length s.history) image) (sym base)
+              (subst (λ (hs : List Done). HasPrefix (OpensWithTables (Opens q.store.shape) index new.names) s.base hs (length s.history) image) (sym list) has)
 
-          go : (image : List ℕ) → OpensWith (Opens p.store.shape) index image (state_of index p).table ⊎ OpensWith (Opens p.store.shape) index image (seen_by (state_of index p) t)
-              → HasPrefixOf (OpensWith (Opens q.store.shape) index) new (length s.history) image
-          go image (inl o) = turned image (prefix_all (OpensWith (Opens q.store.shape) index) image s.base s.history (done ∷ []) (history_whole s tied.sound)
-              (subst (λ (table : Table). OpensWith (Opens q.store.shape) index image table) tied.mirrors.table (opened image (state_of index p).table o)))
-          go image (inr o) = turned image (prefix_more (OpensWith (Opens q.store.shape) index) image s.base s.history (done ∷ []) whole_more
-              (subst (λ (table : Table). OpensWith (Opens q.store.shape) index image table) seen_left (opened image (seen_by (state_of index p) t) o)))
+          go : (image : List ℕ) → OpensAs (Opens p.store.shape) index image p.store.state.bytes (state_of index p).table ⊎ OpensAs (Opens p.store.shape) index image p.store.state.bytes (seen_by (state_of index p) t)
+              → HasPrefixOf (OpensWithTables (Opens q.store.shape) index new.names) new (length s.history) image
+          go image (inl o) = turned image (prefix_all (OpensWithTables (Opens q.store.shape) index new.names) image s.base s.history (done ∷ []) (history_whole s tied.sound)
+              (subst (λ (table : Table). OpensWithTables (Opens q.store.shape) index new.names image table) tied.mirrors.table (opened image (state_of index p).table o)))
+          go image (inr o) = turned image (prefix_more (OpensWithTables (Opens q.store.shape) index new.names) image s.base s.history (done ∷ []) whole_more
+              (subst (λ (table : Table). OpensWithTables (Opens q.store.shape) index new.names image table) seen_left (opened image (seen_by (state_of index p) t) o)))
 
   module _ (done : Done) (done_is : done ≡ done_by s t calls) (k : ℕ) (does : Does tells (Opens p.store.shape) index 0 t Commit p q (Ok (Committed k)))
       (live : new.live ≡ update nat_eq s.live t None) (history : new.history ≡ s.history ++ done ∷ []) (doubt : new.doubt ≡ s.doubt) where
@@ -174,7 +174,7 @@ module _ (tells : Bool) (Opens : Shape → List ℕ → List ℕ → Type 0) (in
         none = λ none. shows_new.indexed ∙ (λ i. index_with (names_in (does.tables told refl i)) (does.quiet told refl (writes_are ∙ none) i) (does.indexed told alive refl i)) ∙ sym shows.indexed;
       }
 
-      step : Step (limits_of index p.store.shape) s t Commit (Committed (length s.history + 1)) new
+      step : Acts (limits_of index p.store.shape) s t Commit (Committed (length s.history + 1)) new
       step = step_of (limits_of index p.store.shape) (Some calls) s new t Commit (Committed (length s.history + 1)) living_state is un
           (inr (inl (refl, new.index, settles, λ i. record { names = names i; base = base i; history = longer i; live = live i; offers = offers i; doubt = doubt i; is_dead = dead_same i; index = new.index })))
 
@@ -188,7 +188,7 @@ module _ (tells : Bool) (Opens : Shape → List ℕ → List ℕ → Type 0) (in
             mirrors = subst (λ (b : TableState). Mirrors b new) (sym (does.done told)) (mirrors_at (state_of index p) s was.mirrors (after t Commit (Committed k) (state_of index p)) new t None live
                 (seen_left done done_is (Ok (Committed k)) does live told ∙ (λ i. records (sym base i) (sym history i)))
                 (with_one_here (state_of index p).logs t (record { writes = []; saved = [] })) (apart (state_of index p) t Commit (Committed k)));
-            sound = step_sound (limits_of index p.store.shape) s t Commit (Committed (length s.history + 1)) new was.sound step;
+            sound = acts_sound (limits_of index p.store.shape) s t Commit (Committed (length s.history + 1)) new was.sound step;
             room = subst (λ (h : Shape). HasHeld (limits_of index h) new) (sym does.shape) (room_empty (limits_of index p.store.shape) s new t None refl was.room (ap (λ (x : Index). x.slot_of) keys_same) live);
           }
 
@@ -224,7 +224,7 @@ module _ (tells : Bool) (Opens : Shape → List ℕ → List ℕ → Type 0) (in
           });
           refused = λ refusal _. absurd (false≢true refusal);
         }) (call_cause (limits_of index p.store.shape) s t Commit living_state (takes_within s t calls un is) refl refl (Committed (length s.history + 1)) refl) (λ failed. absurd (false≢true failed)) (λ _. (does.faults refl).1) step
-        (λ told. time_commit done done_is (Ok (Committed k)) does live told (no_doubt told)) safe_new (λ told _ _. shows_tied index q new shows_new.indexed (tied_new told)))
+        (λ told. time_commit done done_is (Ok (Committed k)) does live told (no_doubt told)) safe_new (inr (λ told _. shows_tied index q new shows_new.indexed (tied_new told))))
 
   -- the medium failed in the commit
   module _ (done : Done) (done_is : done ≡ done_by s t calls) (does : Does tells (Opens p.store.shape) index 0 t Commit p q (Err fault.Media))
@@ -239,7 +239,7 @@ module _ (tells : Bool) (Opens : Shape → List ℕ → List ℕ → Type 0) (in
     doubtful : new.history ++ new.doubt ≡ s.history ++ done ∷ []
     doubtful = λ i. history i ++ doubt i
 
-    step_doubt : IsTrue tells → Step (limits_of index p.store.shape) s t Commit reply.Media new
+    step_doubt : IsTrue tells → Acts (limits_of index p.store.shape) s t Commit reply.Media new
     step_doubt told = step_of (limits_of index p.store.shape) (Some calls) s new t Commit reply.Media living_state is un (inr (inr (
       wrote told,
       refl,
@@ -247,11 +247,11 @@ module _ (tells : Bool) (Opens : Shape → List ℕ → List ℕ → Type 0) (in
       λ i. record { names = names i; base = base i; history = history i; live = live i; offers = offers i; doubt = (doubt ∙ ap (λ (d : Done). d ∷ []) done_is) i; is_dead = died i; index = new.index },
     )))
 
-    time_doubt : IsTrue tells → LeavesOnly (HasPrefixOf (OpensWith (Opens q.store.shape) index) new (length s.history)) p.store q.store
+    time_doubt : IsTrue tells → LeavesOnly (HasPrefixOf (OpensWithTables (Opens q.store.shape) index new.names) new (length s.history)) p.store q.store
     time_doubt told = time_commit done done_is (Err fault.Media) does live told doubtful
 
     safe_doubt : IsTrue tells → IsSafe (core_over Opens index q.store new) q.store.moment (length new.history)
-    safe_doubt told = let was = kept.tied told alive in safe_dead tells Opens index one p q old_laws new_laws told does.shape alive was.index_sound s new (history_whole s was.sound) was.mirrors.table base history (time_doubt told)
+    safe_doubt told = let was = kept.tied told alive in safe_dead tells Opens index one p q old_laws new_laws told does.shape alive was.index_sound s new was names base history (time_doubt told)
 
     pub doubted_keeps : IsKept tells Opens index q count' rows new
     doubted_keeps = record {
@@ -277,7 +277,7 @@ module _ (tells : Bool) (Opens : Shape → List ℕ → List ℕ → Type 0) (in
         mine = ap (commits_of other) history;
       });
       refused = λ _ well. absurd (false≢true (sym well));
-    }) (call_cause (limits_of index p.store.shape) s t Commit living_state (takes_within s t calls un is) refl refl reply.Media tt) (λ _. (does.dies refl).1) (λ well. absurd (false≢true (sym well))) step_doubt time_doubt safe_doubt (λ told _ living. absurd (false≢true (sym living ∙ died)))
+    }) (call_cause (limits_of index p.store.shape) s t Commit living_state (takes_within s t calls un is) refl refl reply.Media tt) (λ _. (does.dies refl).1) (λ well. absurd (false≢true (sym well))) step_doubt time_doubt safe_doubt (inr (λ told living. absurd (false≢true (sym living ∙ died))))
 
   -- an abort
   module _ (history : new.history ≡ s.history) (doubt : new.doubt ≡ s.doubt) where
@@ -292,7 +292,7 @@ module _ (tells : Bool) (Opens : Shape → List ℕ → List ℕ → Type 0) (in
         index_alike : new.index ≡ s.index
         index_alike = shows_new.indexed ∙ (λ i. index_with (names_in (does.tables told refl i)) (does.quiet told refl tt i) (does.indexed told alive refl i)) ∙ sym shows.indexed
 
-        step_abort : Step (limits_of index p.store.shape) s t Abort Fine new
+        step_abort : Acts (limits_of index p.store.shape) s t Abort Fine new
         step_abort = step_of (limits_of index p.store.shape) (Some calls) s new t Abort Fine living_state is un
             (refl, λ i. record { names = names i; base = base i; history = history i; live = live i; offers = offers i; doubt = doubt i; is_dead = dead_alike i; index = index_alike i })
 
@@ -306,16 +306,16 @@ module _ (tells : Bool) (Opens : Shape → List ℕ → List ℕ → Type 0) (in
               mirrors = subst (λ (b : TableState). Mirrors b new) (sym (does.done told)) (mirrors_at (state_of index p) s was.mirrors (after t Abort Fine (state_of index p)) new t None live
                   (was.mirrors.table ∙ (λ i. records (sym base i) (sym history i)))
                   (with_one_here (state_of index p).logs t (record { writes = []; saved = [] })) (apart (state_of index p) t Abort Fine));
-              sound = step_sound (limits_of index p.store.shape) s t Abort Fine new was.sound step_abort;
+              sound = acts_sound (limits_of index p.store.shape) s t Abort Fine new was.sound step_abort;
               room = subst (λ (h : Shape). HasHeld (limits_of index h) new) (sym does.shape) (room_empty (limits_of index p.store.shape) s new t None refl was.room (ap (λ (x : Index). x.slot_of) index_alike) live);
             }
 
         safe_abort : IsSafe (core_over Opens index q.store new) q.store.moment (length new.history)
         safe_abort = safe_alive tells Opens index q new_laws new told lives tied_abort
 
-        time_abort : LeavesOnly (HasPrefixOf (OpensWith (Opens q.store.shape) index) new (length s.history)) p.store q.store
+        time_abort : LeavesOnly (HasPrefixOf (OpensWithTables (Opens q.store.shape) index new.names) new (length s.history)) p.store q.store
         time_abort = let was = kept.tied told alive in
-            time_same tells Opens index p q s new (state_of index p).table (state_of index p).table (history_whole s was.sound) does.shape was.mirrors.table was.mirrors.table base history (does.time told alive)
+            time_same tells Opens index p q s new (state_of index p).table (state_of index p).table was does.shape was.mirrors.table was.mirrors.table names base history (does.named told alive)
 
       pub aborted_keeps : q.store.ranges t ≡ None → IsKept tells Opens index q count' rows new
       aborted_keeps free = record {
@@ -341,7 +341,7 @@ module _ (tells : Bool) (Opens : Shape → List ℕ → List ℕ → Type 0) (in
           mine = ap (commits_of other) history;
         });
         refused = λ refusal _. absurd (false≢true refusal);
-      }) (call_cause (limits_of index p.store.shape) s t Abort living_state (takes_within s t calls un is) refl refl Fine refl) (λ failed. absurd (false≢true failed)) (λ _. (does.faults refl).1) step_abort time_abort safe_abort (λ told _ _. shows_tied index q new shows_new.indexed (tied_abort told))
+      }) (call_cause (limits_of index p.store.shape) s t Abort living_state (takes_within s t calls un is) refl refl Fine refl) (λ failed. absurd (false≢true failed)) (λ _. (does.faults refl).1) step_abort time_abort safe_abort (inr (λ told _. shows_tied index q new shows_new.indexed (tied_abort told)))
 
 -- a commit for which the history has no memory
 pub unkept : (tells : Bool) (Opens : Shape → List ℕ → List ℕ → Type 0) (index : below.Index) (p : PagesView) (s new : State) (shows : ShowsPages index p s) (count : ℕ) (rows : List NamedRows)

@@ -15,12 +15,11 @@ use Rattle.history.specs.declared.transaction.Done.{Done}
 use Rattle.std.specs.Prelude.{Option}
 use Rattle.page_store.specs.Index.{Index}
 use Rattle.page_store.specs.Shown.{PagesView}
-use Rattle.record_table.specs.Does.{OpensWith}
 use Rattle.record_table.specs.State.{TableState}
 use Rattle.record_table.proofs.Moving.{shown_same}
 use Rattle.caller_steps.specs.State.{State, Offer}
 use Rattle.caller_steps.specs.Prefix.{HasPrefixOf}
-use Rattle.mars_core.specs.Over.{limits_of, index_of}
+use Rattle.mars_core.specs.Over.{limits_of, index_of, OpensWithTables}
 use Rattle.mars_core.specs.Held.{state_at}
 use Rattle.mars_core.specs.Kept.{HasHeld, IsKept}
 
@@ -53,7 +52,7 @@ module _ (tells : Bool) (Opens : Shape → List ℕ → List ℕ → Type 0) (in
               room = subst (λ (h : Shape). HasHeld (limits_of index h) s) (sym gives.shape) tied.room;
             };
         safe = λ told image left.
-            subst (λ (h : Shape). HasPrefixOf (OpensWith (Opens h) index) s (length history) image) (sym gives.shape)
+            subst (λ (h : Shape). HasPrefixOf (OpensWithTables (Opens h) index names) s (length history) image) (sym gives.shape)
             (kept.safe told image (subst (λ (m : ℕ). p.store.left_since m image) gives.moment ((gives.left q.store.moment image).0 left)));
       })
 

@@ -1,5 +1,5 @@
 -- What a call does to the index, as callers see it.
-use Rattle.std.proofs.Common.{◌≡◌, ◌≤◌, ◌⊎◌, ℕ, inl, inr, List, length, Option, Some, None, unwrap_or, Result, Ok, Err, refl, sym, ap, subst, ◌∙◌, arith}
+use Rattle.std.proofs.Common.{◌≡◌, ◌≢◌, ◌≤◌, ◌⊎◌, ℕ, inl, inr, List, length, Option, Some, None, unwrap_or, Result, Ok, Err, refl, sym, ap, subst, ◌∙◌, arith}
 use Rattle.std.specs.Prelude.{IsFalse, IsSome}
 use Rattle.record_slots.specs.Places.{used_slots, next_page}
 use Rattle.array_shape.specs.declared.shape.Shape.{Shape}
@@ -19,7 +19,8 @@ use Rattle.record_table.specs.declared.fault.TableFault.{TableFault}
 use Rattle.record_table.specs.declared.fault.TableFault.TheVariants.{SlotsFull, PagesFull, SavesFull, LogFull, Media, Dead, Damaged, NoMemory}
 use Rattle.caller_steps.specs.State.{Index}
 use Rattle.caller_steps.specs.Room.{Limits, GainsKey, KeepsKeys, TakesPages, Inserts, IndexesAt, Indexes}
-use Rattle.caller_steps.proofs.AtKeys.{at_key}
+use Rattle.caller_steps.proofs.AtKeys.{at_key, at_other_key}
+use Rattle.history.proofs.Keys.{cases_key}
 use Rattle.record_slots.specs.Names.{number_of}
 use Rattle.mars_core.specs.TableCall.{number_for}
 use Rattle.mars_core.specs.Over.{limits_of, level_of, index_with}
@@ -40,7 +41,11 @@ abbrev pub InsertsNone : Keys → Call → Type 0
 InsertsNone keys (Put name key value) = IsSome (keys.slot_of (of_table name key))
 InsertsNone keys call = Unit {0}
 
-module _ (index : below.Index) (shape : Shape) (table : ℕ) (names : List (List ℕ)) (a b : List ℕ) (old new : Keys) (within : IsWithin shape new) where
+some_none : {X : Type 0} (slot : ℕ) → Some slot ≡ None → X
+some_none slot e = absurd (cc)
+
+module _ (index : below.Index) (shape : Shape) (table : ℕ) (names : List (List ℕ)) (a b : List ℕ) (old new : Keys) (within : IsWithin shape new)
+    (once : (one other : Key) (slot : ℕ) → new.slot_of one ≡ Some slot → new.slot_of other ≡ Some slot → one ≡ other) where
   both : new ≡ old → b ≡ a → index_with names b new ≡ index_with names a old
   both keys bytes = λ i. index_with names (bytes i) (keys i)
 
@@ -54,9 +59,19 @@ module _ (index : below.Index) (shape : Shape) (table : ℕ) (names : List (List
   keeps : tables.KeepsKeys old new → KeepsKeys (index_with names a old) (index_with names b new)
   keeps k = record { slot_of = k.slot_of; slots = k.slots; due = k.due }
 
-  gains : (key : Key) → tables.GainsKey key old new → GainsKey (limits_of index shape) key (index_with names a old) (index_with names b new)
-  gains key g = record {
+  -- no key had the slot that was due
+  was_free : (key : Key) → old.slot_of key ≡ None → tables.GainsKey key old new → (other : Key) → old.slot_of other ≢ Some old.due
+  was_free key none g other had = elim (cases_key key other) [
+    | inl same ↦ some_none old.due (sym had ∙ ap old.slot_of (sym same) ∙ none)
+    | inr apart ↦
+        apart (once key other old.due (ap (λ (f : Key → Option ℕ). f key) g.slot_of ∙ at_key old.slot_of key (Some old.due))
+        (ap (λ (f : Key → Option ℕ). f other) g.slot_of ∙ at_other_key old.slot_of key (Some old.due) other (λ e. apart (sym e)) ∙ had))
+  ]
+
+  gains : (key : Key) → old.slot_of key ≡ None → tables.GainsKey key old new → GainsKey (limits_of index shape) key (index_with names a old) (index_with names b new)
+  gains key none g = record {
     left = omega (arith, g.slots, within.slots);
+    free = was_free key none g;
     slot_of = g.slot_of;
     slots = g.slots;
   }
@@ -65,7 +80,7 @@ module _ (index : below.Index) (shape : Shape) (table : ℕ) (names : List (List
       → (let r : Result T TableFault = Err f in IndexedAt table key o old new r) → IndexesAt (limits_of index shape) key o (reply_to f) (index_with names a old) (index_with names b new)
   refused_at T key asked (Some slot) is quiet f well same = both same (quiet refl)
   refused_at T key asked None is quiet (LogFull g h n) well (t, inl k) = (takes t, inl (keeps k))
-  refused_at T key asked None is quiet (LogFull g h n) well (t, inr k) = (takes t, inr (gains key k))
+  refused_at T key asked None is quiet (LogFull g h n) well (t, inr k) = (takes t, inr (gains key is k))
   refused_at T key asked None is quiet (PagesFull n) well (t, k, inl few) = (takes t, keeps k, inl few)
   refused_at T key asked None is quiet (PagesFull n) well (t, k, inr high) = (takes t, keeps k, inr (subst (λ (o : Option ℕ). 7 ≤ level_of new o) (sym asked) high))
   refused_at T key asked None is quiet (SlotsFull n) well (t, k) = (takes t, keeps k)
@@ -78,7 +93,7 @@ module _ (index : below.Index) (shape : Shape) (table : ℕ) (names : List (List
   granted_at : {T : Type 0} (key : Key) (o : Option ℕ) → old.slot_of key ≡ o → (IsSome o → b ≡ a) → (answer : T)
       → (let r : Result T TableFault = Ok answer in IndexedAt table key o old new r) → IndexesAt (limits_of index shape) key o Fine (index_with names a old) (index_with names b new)
   granted_at key (Some slot) is quiet answer same = both same (quiet refl)
-  granted_at key None is quiet answer (t, k) = (takes t, gains key k)
+  granted_at key None is quiet answer (t, k) = (takes t, gains key is k)
 
   -- a refusal
   pub indexes_refused : (T : Type 0) (call : Call) (f : TableFault) → IsOfTable call → number_for names call ≡ Some table → (InsertsNone old call → b ≡ a) → (let r : Result T TableFault = Err f in IsFalse (is_failed r))

@@ -26,3 +26,4 @@ pub mod Naming
 pub mod Purged
 pub mod Tabled
 pub mod GivingUp
+pub mod Quiet

@@ -14,7 +14,6 @@ use Rattle.history.specs.declared.transaction.Done.{Done}
 use Rattle.history.proofs.Keys.{key_cmp_total}
 use Rattle.history.proofs.Agreeing.{same_table}
 use Rattle.record_table.specs.State.{TableState}
-use Rattle.record_table.specs.Does.{OpensWith}
 use Rattle.record_slots.specs.Names.{names_in}
 use Rattle.record_table.specs.Names.{names_of}
 use Rattle.record_table.specs.Shown.{state_of}
@@ -23,7 +22,7 @@ use Rattle.record_table.specs.Upgrading.{upgraded, Upgrades}
 use Rattle.caller_steps.specs.State.{State, unoffered, calls_of, opened}
 use Rattle.caller_steps.specs.Sound.{IsSound}
 use Rattle.caller_steps.proofs.Sound.{opened_sound}
-use Rattle.mars_core.specs.Over.{limits_of, index_of, Begins}
+use Rattle.mars_core.specs.Over.{limits_of, index_of, Begins, OpensWithTables}
 use Rattle.mars_core.specs.Held.{core_over, state_at}
 use Rattle.mars_core.specs.Kept.{Mirrors, HasHeld, IsTied, IsKept}
 use Rattle.mars_core.specs.Seats.{Seats, live_in, offers_in}
@@ -103,7 +102,10 @@ module _ (tells : Bool) (Opens : Shape → List ℕ → List ℕ → Type 0) (in
       faults = refl;
       moment = refl;
       left = λ since image. (λ left. left, λ left. left);
-      opens_to = λ image table. (λ o. subst (λ (h : Shape). OpensWith (Opens h) index image table) (sym upgrades.shape) o, λ o. subst (λ (h : Shape). OpensWith (Opens h) index image table) upgrades.shape o);
+      opens_to = λ image table. (
+        λ o. subst (λ (h : Shape). OpensWithTables (Opens h) index seats.names image table) (sym upgrades.shape) o,
+        λ o. subst (λ (h : Shape). OpensWithTables (Opens h) index seats.names image table) upgrades.shape o,
+      );
       dead = refl;
       keys = λ told. refl;
       sound = λ told _. upgrades.sound told;

@@ -10,12 +10,12 @@ use Rattle.history.specs.Writes.{Table}
 use Rattle.history.specs.Legal.{records}
 use Rattle.history.specs.Groups.{AreWhole}
 use Rattle.history.specs.declared.transaction.Done.{Done}
-use Rattle.record_table.specs.Does.{OpensWith}
-use Rattle.record_table.specs.Shown.{table_of}
-use Rattle.caller_steps.specs.State.{State, records_of}
+use Rattle.record_table.specs.Does.{OpensWith, OpensAs}
+use Rattle.caller_steps.specs.State.{State}
 use Rattle.caller_steps.specs.Prefix.{HasPrefix, HasPrefixOf}
 use Rattle.caller_steps.specs.Core.{IsSafe}
 use Rattle.caller_steps.proofs.Sound.{history_whole}
+use Rattle.mars_core.specs.Over.{OpensWithTables}
 use Rattle.mars_core.specs.Held.{core_over}
 use Rattle.mars_core.specs.Kept.{IsTied}
 
@@ -63,6 +63,18 @@ module _ (Op : List ℕ → Table → Type 0) (image : List ℕ) where
     opens = subst (λ (hs : List Done). Op image (records base hs)) (sym (take_all (history ++ more))) opens;
   }
 
+-- What opens as the data of a core's store has the tables that its callers ask for.
+pub opens_tied : (Opens : Shape → List ℕ → List ℕ → Type 0) (index : Index) (p : PagesView) (s : State) → IsTied index p s → (shape : Shape) → shape ≡ p.store.shape → (names : List (List ℕ)) → names ≡ s.names
+    → (image : List ℕ) (table : Table) → OpensAs (Opens p.store.shape) index image p.store.state.bytes table → OpensWithTables (Opens shape) index names image table
+opens_tied Opens index p s tied shape shapes names same image table opens = record {
+  bytes = opens.bytes;
+  opened = subst (λ (h : Shape). Opens h image opens.bytes) (sym shapes) opens.opened;
+  sound = opens.sound;
+  version = opens.version tied.version;
+  named = opens.named ∙ sym tied.named ∙ sym same;
+  shows = opens.shows;
+}
+
 module _ (tells : Bool) (Opens : Shape → List ℕ → List ℕ → Type 0) (index : Index) (one : (shape : Shape) (image a b : List ℕ) → Opens shape image a → Opens shape image b → a ≡ b)
     (p q : PagesView) (old_laws : StoreLaws tells Opens p.store) (new_laws : StoreLaws tells Opens q.store) (told : IsTrue tells) (shape : q.store.shape ≡ p.store.shape)
     (alive : IsAlive p.store) (sound : index.sound p.store.state.bytes) where
@@ -84,26 +96,36 @@ module _ (tells : Bool) (Opens : Shape → List ℕ → List ℕ → Type 0) (in
         go image now (inr (inr o)) = from image o.bytes now o.opened o.sound
 
   -- If the medium failed, what may be left now is what might have been left before or within the call.
-  pub safe_dead : (s new : State) → AreWhole (length s.history) s.history → table_of index p.store.state.bytes ≡ records_of s → new.base ≡ s.base → new.history ≡ s.history
-      → LeavesOnly (HasPrefixOf (OpensWith (Opens q.store.shape) index) new (length s.history)) p.store q.store
+  pub safe_dead : (s new : State) → IsTied index p s → new.names ≡ s.names → new.base ≡ s.base → new.history ≡ s.history
+      → LeavesOnly (HasPrefixOf (OpensWithTables (Opens q.store.shape) index new.names) new (length s.history)) p.store q.store
       → IsSafe (core_over Opens index q.store new) q.store.moment (length new.history)
-  safe_dead s new whole table base history time image left =
-      subst (λ (hs : List Done). HasPrefix (OpensWith (Opens q.store.shape) index) new.base (new.history ++ new.doubt) (length hs) image) (sym history)
+  safe_dead s new tied names base history time image left =
+      subst (λ (hs : List Done). HasPrefix (OpensWithTables (Opens q.store.shape) index new.names) new.base (new.history ++ new.doubt) (length hs) image) (sym history)
       (go (time.only p.store.moment image (omega arith) (new_laws.counts told p.store.moment image time.later left)))
     where
-      shows : table_of index p.store.state.bytes ≡ records new.base new.history
-      shows = table ∙ (λ i. records (sym base i) (sym history i))
-
-      go : (p.store.left_since p.store.moment image) ⊎ HasPrefixOf (OpensWith (Opens q.store.shape) index) new (length s.history) image
-          → HasPrefix (OpensWith (Opens q.store.shape) index) new.base (new.history ++ new.doubt) (length s.history) image
+      go : (p.store.left_since p.store.moment image) ⊎ HasPrefixOf (OpensWithTables (Opens q.store.shape) index new.names) new (length s.history) image
+          → HasPrefix (OpensWithTables (Opens q.store.shape) index new.names) new.base (new.history ++ new.doubt) (length s.history) image
       go (inl past) =
           let opened = subst (λ (h : Shape). Opens h image p.store.state.bytes) (sym shape) (old_laws.only told alive image past) in
-          subst (λ (hs : List Done). HasPrefix (OpensWith (Opens q.store.shape) index) new.base (new.history ++ new.doubt) (length hs) image) history
-          (prefix_all (OpensWith (Opens q.store.shape) index) image new.base new.history new.doubt (subst (λ (hs : List Done). AreWhole (length hs) hs) (sym history) whole) (record { bytes = p.store.state.bytes; opened = opened; sound = sound; shows = shows }))
+          subst (λ (hs : List Done). HasPrefix (OpensWithTables (Opens q.store.shape) index new.names) new.base (new.history ++ new.doubt) (length hs) image) history
+          (prefix_all (OpensWithTables (Opens q.store.shape) index new.names) image new.base new.history new.doubt (subst (λ (hs : List Done). AreWhole (length hs) hs) (sym history) (history_whole s tied.sound)) (record {
+            bytes = p.store.state.bytes;
+            opened = opened;
+            sound = sound;
+            version = tied.version;
+            named = sym tied.named ∙ sym names;
+            shows = tied.mirrors.table ∙ (λ i. records (sym base i) (sym history i));
+          }))
       go (inr has) = has
 
--- While the store lives, whatever may be left now opens with the records of the history.
+-- While the store lives, whatever may be left now opens with the records of the history, in its tables.
 pub safe_alive : (tells : Bool) (Opens : Shape → List ℕ → List ℕ → Type 0) (index : Index) (q : PagesView) (laws : StoreLaws tells Opens q.store) (s : State) → IsTrue tells → IsAlive q.store → IsTied index q s
     → IsSafe (core_over Opens index q.store s) q.store.moment (length s.history)
-safe_alive tells Opens index q laws s told alive tied image left = prefix_all (OpensWith (Opens q.store.shape) index) image s.base s.history s.doubt (history_whole s tied.sound)
-    (record { bytes = q.store.state.bytes; opened = laws.only told alive image left; sound = tied.index_sound; shows = tied.mirrors.table })
+safe_alive tells Opens index q laws s told alive tied image left = prefix_all (OpensWithTables (Opens q.store.shape) index s.names) image s.base s.history s.doubt (history_whole s tied.sound) (record {
+  bytes = q.store.state.bytes;
+  opened = laws.only told alive image left;
+  sound = tied.index_sound;
+  version = tied.version;
+  named = sym tied.named;
+  shows = tied.mirrors.table;
+})

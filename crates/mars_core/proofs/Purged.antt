@@ -24,7 +24,6 @@ use Rattle.record_table.specs.Names.{names_of}
 use Rattle.record_table.specs.Faults.{reply_to}
 use Rattle.record_table.proofs.Joint.{tables_apart}
 use Rattle.caller_steps.proofs.AtKeys.{at_other_key}
-use Rattle.caller_steps.proofs.Sound.{history_whole}
 use Rattle.history.specs.Log.{log_of}
 use Rattle.history.specs.Rows.{NamedRows}
 use Rattle.history.specs.Writes.{Table, Write, is_of}
@@ -33,7 +32,7 @@ use Rattle.history.specs.declared.call.Call.{Call}
 use Rattle.history.specs.declared.call.Call.TheVariants.{Purge}
 use Rattle.history.specs.declared.call.Reply.{Reply}
 use Rattle.history.specs.declared.call.Reply.TheVariants as reply
-use Rattle.record_table.specs.Does.{OpensWith, is_failed}
+use Rattle.record_table.specs.Does.{is_failed}
 use Rattle.record_table.specs.Shown.{table_of, state_of, pairs_of, keys_of}
 use Rattle.record_table.specs.Shown as shown
 use Rattle.record_table.specs.State.{TableState}
@@ -50,21 +49,21 @@ use Rattle.caller_steps.proofs.Trying.{each_as}
 use Rattle.caller_steps.specs.Offers.{is_unoffered, is_engaged}
 use Rattle.caller_steps.specs.Fate.{is_busy, is_media, Moves}
 use Rattle.caller_steps.specs.Run.{is_purge}
-use Rattle.caller_steps.specs.Step.{Step}
+use Rattle.caller_steps.specs.Step.{Acts}
 use Rattle.caller_steps.proofs.Fates as fates
 use Rattle.caller_steps.proofs.Fates.{fate_moves}
 use Rattle.caller_steps.specs.Room.{Limits, is_slot_on, is_write_on, held_on}
 use Rattle.caller_steps.specs.State.{State, Index, unoffered}
 use Rattle.mars_core.specs.Held.{core_over, state_at}
 use Rattle.mars_core.specs.Kept.{IsTied, IsKept}
-use Rattle.mars_core.specs.Over.{limits_of, index_of, keeps_at, keeps_in}
+use Rattle.mars_core.specs.Over.{limits_of, index_of, keeps_at, keeps_in, OpensWithTables}
 use Rattle.mars_core.specs.Purging.{IsOfFirst, IsTouchedIn, Keeps, AreFreeIn, Tried, Trail, IsReady, ClearCause, Clears}
 use Rattle.mars_core.specs.TableCall.{call_of}
 use Rattle.mars_core.specs.declared.table_call.TableCall.{TableCall}
 use Rattle.mars_core.specs.declared.table_call.TableCall.TheVariants as asks
 use Rattle.mars_core.specs.Seats.{Seats, live_in, offers_in, calls_at}
 use Rattle.mars_core.proofs.Answered.{fault_plain}
-use Rattle.mars_core.proofs.Answering.{IndexLaws}
+use Rattle.record_table.proofs.Sharing.{Laws}
 use Rattle.mars_core.proofs.Clearing.{one_name, loses_one}
 use Rattle.record_table.specs.Names.{IsCalled}
 use Rattle.record_table.specs.Removing as removing
@@ -119,19 +118,19 @@ entry_at (entry ∷ entries) zero name is = (entry, refl, one_name entry.name na
 entry_at (entry ∷ entries) (suc j) name is = entry_at entries j name is
 
 -- in sound data a table's name has the table's number, since no other table has the name
-numbered : (index : below.Index) (laws : IndexLaws index) (bytes : List ℕ) → index.sound bytes → (table : ℕ) (name : List ℕ) → slice_get (names_of bytes) table ≡ Some name → number_of (names_of bytes) name ≡ Some table
+numbered : (index : below.Index) (laws : Laws index) (bytes : List ℕ) → index.sound bytes → (table : ℕ) (name : List ℕ) → slice_get (names_of bytes) table ≡ Some name → number_of (names_of bytes) name ≡ Some table
 numbered index laws bytes sound table name called = first_is (names_of bytes) name table called (λ k lt again.
     let one = entry_at (tables_of bytes) k name again in
     let other = entry_at (tables_of bytes) table name called in
     tables_apart bytes (laws.counts bytes sound) k table one.0 other.0 lt one.1 other.1 (one.2 ∙ sym other.2))
 
 -- a key that an index keeps is one of those that callers know to be kept
-keeps_told : (index : below.Index) (laws : IndexLaws index) (bytes : List ℕ) → index.sound bytes → (key : Key) → Keeps index bytes key → keeps_in index bytes key ≡ true
+keeps_told : (index : below.Index) (laws : Laws index) (bytes : List ℕ) → index.sound bytes → (key : Key) → Keeps index bytes key → keeps_in index bytes key ≡ true
 keeps_told index laws bytes sound key (table, called, kept) =
     ap (keeps_at index bytes key.key) (numbered index laws bytes sound table key.table called) ∙ ap (λ (o : Option (List ℕ)). not (is_some o)) kept
 
 -- and one that it does not keep is not
-keeps_not : (index : below.Index) (laws : IndexLaws index) (bytes : List ℕ) → index.sound bytes → (key : Key) (table : ℕ) → IsCalled bytes table key.table → (removing.IsKept index table bytes key.key → ⊥) → keeps_in index bytes key ≡ false
+keeps_not : (index : below.Index) (laws : Laws index) (bytes : List ℕ) → index.sound bytes → (key : Key) (table : ℕ) → IsCalled bytes table key.table → (removing.IsKept index table bytes key.key → ⊥) → keeps_in index bytes key ≡ false
 keeps_not index laws bytes sound key table called unkept = ap (keeps_at index bytes key.key) (numbered index laws bytes sound table key.table called) ∙ go (removal_in index table bytes key.key) refl
   where
     go : (o : Option (List ℕ)) → removal_in index table bytes key.key ≡ o → not (is_some o) ≡ false
@@ -167,7 +166,7 @@ module _ (limits : Limits) (g : ℕ) where
   all_lost index seats bytes t first now (key ∷ keys) (before, lost, loses) free =
       writes_lost before now key loses.slot_of (log_of (calls_at seats t)).writes (unwritten seats.names key (calls_at seats t) (λ meets. free.0.1 (t, meets))) ∙ all_lost index seats bytes t first before keys lost free.1
 
-module _ (tells : Bool) (Opens : Shape → List ℕ → List ℕ → Type 0) (index : below.Index) (index_laws : IndexLaws index) (one : (shape : Shape) (image a b : List ℕ) → Opens shape image a → Opens shape image b → a ≡ b)
+module _ (tells : Bool) (Opens : Shape → List ℕ → List ℕ → Type 0) (index : below.Index) (index_laws : Laws index) (one : (shape : Shape) (image a b : List ℕ) → Opens shape image a → Opens shape image b → a ≡ b)
     (p : PagesView) (old_laws : StoreLaws tells Opens p.store) (rows : List NamedRows) (base : Table) (history : List Done) (seats : Seats) (doubt : List Done) (count : ℕ)
     (kept : IsKept tells Opens index p count rows (state_at index p.store seats.names base history (live_in seats) (offers_in seats) doubt)) (alive : IsAlive p.store) (t : ℕ) (none : live_in seats t ≡ None) (un : offers_in seats t ≡ unoffered) where
   abbrev s : State
@@ -226,13 +225,13 @@ module _ (tells : Bool) (Opens : Shape → List ℕ → List ℕ → Type 0) (in
       tied_of (Err NoMemory) clears living = absurd clears.cause
 
     module _ (r : Result ℕ TableFault) (clears : Clears tells (Opens p.store.shape) index seats t (IsOfFirst seats.names (length seats.names)) p q r) where
-      time_now : IsTrue tells → LeavesOnly (HasPrefixOf (OpensWith (Opens q.store.shape) index) (state_at index q.store seats.names base history (live_in seats) (offers_in seats) doubt) (length history)) p.store q.store
-      time_now told = time_same tells Opens index p q s new (state_of index p).table (state_of index p).table (history_whole s (was told).sound) clears.shape (was told).mirrors.table (was told).mirrors.table refl refl
+      time_now : IsTrue tells → LeavesOnly (HasPrefixOf (OpensWithTables (Opens q.store.shape) index seats.names) (state_at index q.store seats.names base history (live_in seats) (offers_in seats) doubt) (length history)) p.store q.store
+      time_now told = time_same tells Opens index p q s new (state_of index p).table (state_of index p).table (was told) clears.shape (was told).mirrors.table (was told).mirrors.table refl refl refl
           (weaker (λ image opens. inl opens) (clears.time told))
 
       safe_now : (b : Bool) → q.store.is_dead ≡ b → IsTrue tells → IsSafe (core_over Opens index q.store (state_at index q.store seats.names base history (live_in seats) (offers_in seats) doubt)) q.store.moment (length history)
       safe_now false living told = safe_alive tells Opens index q new_laws (state_at index q.store seats.names base history (live_in seats) (offers_in seats) doubt) told living (tied_of told r clears living)
-      safe_now true dead told = safe_dead tells Opens index one p q old_laws new_laws told clears.shape alive (was told).index_sound s new (history_whole s (was told).sound) (was told).mirrors.table refl refl (time_now told)
+      safe_now true dead told = safe_dead tells Opens index one p q old_laws new_laws told clears.shape alive (was told).index_sound s new (was told) refl refl refl (time_now told)
 
       not_failed : IsAlive q.store → IsFalse (is_failed r)
       not_failed living = elim (cases_Bool (is_failed r)) [
@@ -309,7 +308,7 @@ module _ (tells : Bool) (Opens : Shape → List ℕ → List ℕ → Type 0) (in
     moves_of (Err (LogFull g h n)) clears = absurd clears.cause
     moves_of (Err NoMemory) clears = absurd clears.cause
 
-    purge_step : (r : Result ℕ TableFault) → Clears tells (Opens p.store.shape) index seats t (IsOfFirst seats.names (length seats.names)) p q r → IsTrue tells → Step (limits_of index p.store.shape) s t Purge (outcome r) new
+    purge_step : (r : Result ℕ TableFault) → Clears tells (Opens p.store.shape) index seats t (IsOfFirst seats.names (length seats.names)) p q r → IsTrue tells → Acts (limits_of index p.store.shape) s t Purge (outcome r) new
     purge_step (Ok n) clears told =
         let cleared = clears.cleared told in
         let ready_then = clears.ready told in
@@ -387,4 +386,4 @@ module _ (tells : Bool) (Opens : Shape → List ℕ → List ℕ → Type 0) (in
       purged_steps = steps_of tells Opens index p q s new t Purge (outcome r) clears.shape (moves_of r clears)
           (call_cause (limits_of index p.store.shape) s t Purge alive (ap not free_caller) refl refl (outcome r) (cleared_cause r clears.cause))
           (λ ill. (clears.dies (sym (failed_is r clears.cause) ∙ ill)).1) (λ well. (clears.faults (sym (failed_is r clears.cause) ∙ well)).1)
-          (purge_step r clears) (time_now r clears) (purged_keeps r clears).safe (λ told _ living. shows_tied index q new refl (tied_of told r clears living))
+          (purge_step r clears) (time_now r clears) (purged_keeps r clears).safe (inr (λ told living. shows_tied index q new refl (tied_of told r clears living)))

@@ -22,7 +22,7 @@ use Rattle.history.specs.declared.call.Reply.TheVariants.{Fine, Committed}
 use Rattle.history.specs.declared.call.Reply.TheVariants as reply
 use Rattle.history.specs.declared.transaction.Done.{Done}
 use Rattle.record_table.specs.State.{TableState}
-use Rattle.record_table.specs.Does.{OpensWith}
+use Rattle.record_table.specs.Does.{OpensAs}
 use Rattle.record_table.specs.Groups as tables
 use Rattle.record_table.specs.Groups.{after_group, CommitsGroup}
 use Rattle.record_table.specs.Shown.{state_of}
@@ -32,7 +32,7 @@ use Rattle.record_slots.specs.Names.{names_in}
 use Rattle.caller_steps.specs.State.{State, Index, Offer, unoffered, offered, unsettled, calls_of, with_live, with_offer}
 use Rattle.caller_steps.specs.Offers.{may_do, is_unoffered, offerers, group_in, group_end, number_among, group_writes, without, committed_group, doubted_group}
 use Rattle.caller_steps.specs.Room.{Limits, Settles, is_write_on, held_on}
-use Rattle.caller_steps.specs.Step.{Step, StepAt, StepIf, StepBy}
+use Rattle.caller_steps.specs.Step.{Acts, StepAt, StepIf, StepBy}
 use Rattle.caller_steps.specs.Fate.{is_refusal, is_media, is_committed, Moves}
 use Rattle.caller_steps.specs.Prefix.{HasPrefix, HasPrefixOf}
 use Rattle.caller_steps.specs.Purging.{PurgeCause}
@@ -41,16 +41,16 @@ use Rattle.caller_steps.specs.Cause.{misplaced, ReplyCause}
 use Rattle.caller_steps.proofs.Causing.{misplaced_cause, call_cause}
 use Rattle.caller_steps.proofs.Able.{takes_within}
 use Rattle.caller_steps.proofs.Fates.{given, settled, unsure, told, fate_moves}
-use Rattle.caller_steps.proofs.Sound.{step_sound, history_whole}
+use Rattle.caller_steps.proofs.Sound.{acts_sound, history_whole}
 use Rattle.caller_steps.proofs.Offering.{is_in, offerers_once, group_names, group_base, group_doubt, group_dead, group_history, group_apart, without_names, without_base, without_history}
 use Rattle.caller_steps.proofs.Grouped.{group_whole}
 use Rattle.caller_steps.proofs.Leaving.{group_records, calls_in_group, calls_apart}
-use Rattle.mars_core.specs.Over.{limits_of, index_with}
+use Rattle.mars_core.specs.Over.{limits_of, index_with, OpensWithTables}
 use Rattle.mars_core.specs.Held.{core_over}
 use Rattle.mars_core.proofs.Saving.{saves_in, saves_same}
 use Rattle.mars_core.proofs.Causes.{settle_cause, told_cause, closed_may, misplaced_is}
 use Rattle.mars_core.specs.Kept.{Mirrors, HaveSaves, HasHeld, IsTied, IsKept}
-use Rattle.mars_core.proofs.Prefixes.{StoreLaws, prefix_all, prefix_more, sound_after, safe_dead, safe_alive}
+use Rattle.mars_core.proofs.Prefixes.{StoreLaws, opens_tied, prefix_all, prefix_more, sound_after, safe_dead, safe_alive}
 use Rattle.mars_core.proofs.Stepping.{shows_tied, ShowsPages, step_of, steps_of, steps_same}
 use Rattle.mars_core.proofs.Staying.{update_same}
 
@@ -60,7 +60,7 @@ same_writes b s logs [] = refl
 same_writes b s logs (t ∷ ts) = λ i. (logs t i).writes ++ same_writes b s logs ts i
 
 -- a step of a core that is not dead, by a caller that has offered this
-pub step_by : (limits : Limits) (offer : Offer) (s new : State) (t : ℕ) (call : Call) (answer : Reply) → s.is_dead ≡ false → s.offers t ≡ offer → StepBy limits offer s t call answer new → Step limits s t call answer new
+pub step_by : (limits : Limits) (offer : Offer) (s new : State) (t : ℕ) (call : Call) (answer : Reply) → s.is_dead ≡ false → s.offers t ≡ offer → StepBy limits offer s t call answer new → Acts limits s t call answer new
 step_by limits offer s new t call answer alive is by =
     subst (λ (b : Bool). StepIf limits b s t call answer new) (sym alive) (subst (λ (o : Offer). StepBy limits o s t call answer new) (sym is) by)
 
@@ -94,23 +94,23 @@ module _ (tells : Bool) (Opens : Shape → List ℕ → List ℕ → Type 0) (in
           ∙ sym (group_records s end os (record { legal = tied.sound.legal; right = tied.sound.right; offers = tied.sound.offers; apart = tied.sound.apart }) (offerers_once p.store.shape.numbers s))
           ∙ (λ i. records (group_base s end os i) (group_history s end os i))
 
-      time_group : new.history ++ new.doubt ≡ s.history ++ dones → LeavesOnly (HasPrefixOf (OpensWith (Opens q.store.shape) index) new (length s.history)) p.store q.store
-      time_group list = weaker go (does.time told alive)
+      time_group : new.history ++ new.doubt ≡ s.history ++ dones → LeavesOnly (HasPrefixOf (OpensWithTables (Opens q.store.shape) index new.names) new (length s.history)) p.store q.store
+      time_group list = weaker go (does.named told alive)
         where
-          opened : (image : List ℕ) (C : Table) → OpensWith (Opens p.store.shape) index image C → OpensWith (Opens q.store.shape) index image C
-          opened image C o = subst (λ (h : Shape). OpensWith (Opens h) index image C) (sym does.shape) o
+          opened : (image : List ℕ) (C : Table) → OpensAs (Opens p.store.shape) index image p.store.state.bytes C → OpensWithTables (Opens q.store.shape) index new.names image C
+          opened = opens_tied Opens index p s tied q.store.shape does.shape new.names names
 
-          turned : (image : List ℕ) → HasPrefix (OpensWith (Opens q.store.shape) index) s.base (s.history ++ dones) (length s.history) image
-              → HasPrefixOf (OpensWith (Opens q.store.shape) index) new (length s.history) image
-          turned image prefix = subst (λ (b : Table). HasPrefix (OpensWith (Opens q.store.shape) index) b (new.history ++ new.doubt) (length s.history) image) (sym base)
-              (subst (λ (hs : List Done). HasPrefix (OpensWith (Opens q.store.shape) index) s.base hs (length s.history) image) (sym list) prefix)
+          turned : (image : List ℕ) → HasPrefix (OpensWithTables (Opens q.store.shape) index new.names) s.base (s.history ++ dones) (length s.history) image
+              → HasPrefixOf (OpensWithTables (Opens q.store.shape) index new.names) new (length s.history) image
+          turned image prefix = subst (λ (b : Table). HasPrefix (OpensWithTables (Opens q.store.shape) index new.names) b (new.history ++ new.doubt) (length s.history) image) (sym base)
+              (subst (λ (hs : List Done). HasPrefix (OpensWithTables (Opens q.store.shape) index new.names) s.base hs (length s.history) image) (sym list) prefix)
 
-          go : (image : List ℕ) → OpensWith (Opens p.store.shape) index image (state_of index p).table ⊎ OpensWith (Opens p.store.shape) index image (after_group os (state_of index p)).table
-              → HasPrefixOf (OpensWith (Opens q.store.shape) index) new (length s.history) image
-          go image (inl o) = turned image (prefix_all (OpensWith (Opens q.store.shape) index) image s.base s.history dones (history_whole s tied.sound)
-              (subst (λ (table : Table). OpensWith (Opens q.store.shape) index image table) tied.mirrors.table (opened image (state_of index p).table o)))
-          go image (inr o) = turned image (prefix_more (OpensWith (Opens q.store.shape) index) image s.base s.history dones (group_whole s tied.sound living_state os)
-              (subst (λ (table : Table). OpensWith (Opens q.store.shape) index image table) table_left (opened image (after_group os (state_of index p)).table o)))
+          go : (image : List ℕ) → OpensAs (Opens p.store.shape) index image p.store.state.bytes (state_of index p).table ⊎ OpensAs (Opens p.store.shape) index image p.store.state.bytes (after_group os (state_of index p)).table
+              → HasPrefixOf (OpensWithTables (Opens q.store.shape) index new.names) new (length s.history) image
+          go image (inl o) = turned image (prefix_all (OpensWithTables (Opens q.store.shape) index new.names) image s.base s.history dones (history_whole s tied.sound)
+              (subst (λ (table : Table). OpensWithTables (Opens q.store.shape) index new.names image table) tied.mirrors.table (opened image (state_of index p).table o)))
+          go image (inr o) = turned image (prefix_more (OpensWithTables (Opens q.store.shape) index new.names) image s.base s.history dones (group_whole s tied.sound living_state os)
+              (subst (λ (table : Table). OpensWithTables (Opens q.store.shape) index new.names image table) table_left (opened image (after_group os (state_of index p)).table o)))
 
   -- the group is committed
   module _ (does : CommitsGroup tells (Opens p.store.shape) index os p q (Ok tt)) (live : new.live ≡ group.live) (offers : new.offers ≡ (with_offer group t unoffered).offers)
@@ -156,7 +156,7 @@ module _ (tells : Bool) (Opens : Shape → List ℕ → List ℕ → Type 0) (in
         none = λ none. shows_new.indexed ∙ (λ i. index_with (names_in (does.tables told refl i)) (does.quiet told refl (same_writes (state_of index p) s was.mirrors.logs os ∙ none) i) (does.indexed told refl i)) ∙ sym shows.indexed;
       }
 
-      step : Step (limits_of index p.store.shape) s t call.Settle (Committed (number_among (length s.history + 1) os t)) new
+      step : Acts (limits_of index p.store.shape) s t call.Settle (Committed (number_among (length s.history + 1) os t)) new
       step = step_by (limits_of index p.store.shape) offered s new t call.Settle (Committed (number_among (length s.history + 1) os t)) living_state has (inr (inside, inl (refl, new.index, settles, new_is)))
 
       log_here : (u : ℕ) (b : Bool) → is_one_of os u ≡ b → cond b (record { writes = []; saved = [] }) ((state_of index p).logs u) ≡ log_of (calls_of new u)
@@ -177,7 +177,7 @@ module _ (tells : Bool) (Opens : Shape → List ℕ → List ℕ → Type 0) (in
           table = table_left (Ok tt) does told ∙ (λ i. records (sym base i) (sym history i));
           logs = λ u. log_here u (is_one_of os u) refl;
         });
-        sound = step_sound (limits_of index p.store.shape) s t call.Settle (Committed (number_among (length s.history + 1) os t)) new was.sound step;
+        sound = acts_sound (limits_of index p.store.shape) s t call.Settle (Committed (number_among (length s.history + 1) os t)) new was.sound step;
         room = subst (λ (h : Shape). HasHeld (limits_of index h) new) (sym does.shape) (λ u g. held_here u g (is_one_of os u) refl);
       }
 
@@ -216,7 +216,7 @@ module _ (tells : Bool) (Opens : Shape → List ℕ → List ℕ → Type 0) (in
     pub settled_steps : (n : ℕ) → n ≡ number_among (length s.history + 1) os t → Steps tells t call.Settle (core_over Opens index p.store s) (core_over Opens index q.store new) (Committed n)
     settled_steps n n_is = subst (λ (k : ℕ). Steps tells t call.Settle (core_over Opens index p.store s) (core_over Opens index q.store new) (Committed k)) (sym n_is)
         (steps_of tells Opens index p q s new t call.Settle (Committed (number_among (length s.history + 1) os t)) does.shape moves (settle_cause (limits_of index p.store.shape) s t living_state has (Committed (number_among (length s.history + 1) os t)) refl) (λ failed. absurd (false≢true failed)) (λ _. (does.faults refl).1) step
-        (λ told. time_group (Ok tt) does told (no_doubt told)) safe_new (λ told _ _. shows_tied index q new shows_new.indexed (tied_new told)))
+        (λ told. time_group (Ok tt) does told (no_doubt told)) safe_new (inr (λ told _. shows_tied index q new shows_new.indexed (tied_new told))))
 
   -- the medium failed in it
   module _ (does : CommitsGroup tells (Opens p.store.shape) index os p q (Err fault.Media)) (live : new.live ≡ (without s os).live) (offers : new.offers ≡ (without s os).offers)
@@ -236,7 +236,7 @@ module _ (tells : Bool) (Opens : Shape → List ℕ → List ℕ → Type 0) (in
       index = new.index;
     }
 
-    step_lost : IsTrue tells → Step (limits_of index p.store.shape) s t call.Settle reply.Media new
+    step_lost : IsTrue tells → Acts (limits_of index p.store.shape) s t call.Settle reply.Media new
     step_lost so = step_by (limits_of index p.store.shape) offered s new t call.Settle reply.Media living_state has (inr (
       inside,
       inr (subst (λ (ws : List Write). 0 < length ws) (same_writes (state_of index p) s (kept.tied so alive).mirrors.logs os) (due so), refl, new.index, lost_is),
@@ -245,12 +245,12 @@ module _ (tells : Bool) (Opens : Shape → List ℕ → List ℕ → Type 0) (in
     doubtful : new.history ++ new.doubt ≡ s.history ++ dones
     doubtful = λ i. history i ++ doubt i
 
-    time_lost : IsTrue tells → LeavesOnly (HasPrefixOf (OpensWith (Opens q.store.shape) index) new (length s.history)) p.store q.store
+    time_lost : IsTrue tells → LeavesOnly (HasPrefixOf (OpensWithTables (Opens q.store.shape) index new.names) new (length s.history)) p.store q.store
     time_lost so = time_group (Err fault.Media) does so doubtful
 
     safe_lost : IsTrue tells → IsSafe (core_over Opens index q.store new) q.store.moment (length new.history)
     safe_lost so = let was = kept.tied so alive in
-        safe_dead tells Opens index one p q old_laws new_laws so does.shape alive was.index_sound s new (history_whole s was.sound) was.mirrors.table base history (time_lost so)
+        safe_dead tells Opens index one p q old_laws new_laws so does.shape alive was.index_sound s new was names base history (time_lost so)
 
     pub lost_keeps : IsKept tells Opens index q count' rows new
     lost_keeps = record {
@@ -265,13 +265,13 @@ module _ (tells : Bool) (Opens : Shape → List ℕ → List ℕ → Type 0) (in
     pub lost_steps : Steps tells t call.Settle (core_over Opens index p.store s) (core_over Opens index q.store new) reply.Media
     lost_steps = steps_of tells Opens index p q s new t call.Settle reply.Media does.shape
         (fate_moves p.store.shape.numbers s t call.Settle reply.Media new (unsure inside has refl refl new.index lost_is)) (settle_cause (limits_of index p.store.shape) s t living_state has reply.Media tt)
-        (λ _. (does.dies refl).1) (λ well. absurd (false≢true (sym well))) step_lost time_lost safe_lost (λ told _ living. absurd (false≢true (sym living ∙ died)))
+        (λ _. (does.dies refl).1) (λ well. absurd (false≢true (sym well))) step_lost time_lost safe_lost (inr (λ told living. absurd (false≢true (sym living ∙ died))))
 
 -- What only changes what a caller has offered, and ends no log.
 module _ (tells : Bool) (Opens : Shape → List ℕ → List ℕ → Type 0) (index : below.Index) (p : PagesView) (laws : StoreLaws tells Opens p.store) (s new : State) (shows : ShowsPages index p s) (count count' : ℕ)
     (same_count : count' ≡ count) (rows : List NamedRows) (kept : IsKept tells Opens index p count rows s) (alive : IsAlive p.store) (t : ℕ) where
   module _ (call : Call) (answer : Reply) (live : new.live ≡ s.live) (base : new.base ≡ s.base) (names : new.names ≡ s.names) (history : new.history ≡ s.history) (slots : new.index ≡ s.index)
-      (step : IsTrue tells → Step (limits_of index p.store.shape) s t call answer new) where
+      (step : IsTrue tells → Acts (limits_of index p.store.shape) s t call answer new) where
     module _ (told : IsTrue tells) where
       tied_kept : IsTied index p new
       tied_kept =
@@ -284,7 +284,7 @@ module _ (tells : Bool) (Opens : Shape → List ℕ → List ℕ → Type 0) (in
               table = was.mirrors.table ∙ (λ i. records (sym base i) (sym history i));
               logs = λ u. was.mirrors.logs u ∙ ap (λ (f : ℕ → Option Granted). log_of (unwrap_or (f u) [])) (sym live);
             };
-            sound = step_sound (limits_of index p.store.shape) s t call answer new was.sound (step told);
+            sound = acts_sound (limits_of index p.store.shape) s t call answer new was.sound (step told);
             room = λ u g. subst (λ (x : Index × (ℕ → Option Granted)). length (filter (is_write_on (limits_of index p.store.shape) x.0 g) (log_of (unwrap_or (x.1 u) [])).writes) ≤ (limits_of index p.store.shape).entries)
                 (λ i. (sym slots i, sym live i)) (was.room u g);
           }
@@ -303,11 +303,11 @@ module _ (tells : Bool) (Opens : Shape → List ℕ → List ℕ → Type 0) (in
     }
 
     pub offer_steps : Moves p.store.shape.numbers s t call answer new → ReplyCause (limits_of index p.store.shape) s t call answer → is_media answer ≡ false → Steps tells t call (core_over Opens index p.store s) (core_over Opens index p.store new) answer
-    offer_steps moves cause sure = steps_of tells Opens index p p s new t call answer refl moves cause (λ failed. absurd (false≢true (sym sure ∙ failed))) (λ _. refl) step (λ told. stays p.store.moment p.store.left_since _) safe_kept (λ told _ _. shows_tied index p new (slots ∙ shows.indexed) (tied_kept told))
+    offer_steps moves cause sure = steps_of tells Opens index p p s new t call answer refl moves cause (λ failed. absurd (false≢true (sym sure ∙ failed))) (λ _. refl) step (λ told. stays p.store.moment p.store.left_since _) safe_kept (inr (λ told _. shows_tied index p new (slots ∙ shows.indexed) (tied_kept told)))
 
   -- a caller offers its transaction
   module _ (calls : Granted) (is : s.live t ≡ Some calls) (un : s.offers t ≡ unoffered) (new_is : new ≡ with_offer s t offered) where
-    step_given : IsTrue tells → Step (limits_of index p.store.shape) s t call.Offer Fine new
+    step_given : IsTrue tells → Acts (limits_of index p.store.shape) s t call.Offer Fine new
     step_given _ = step_of (limits_of index p.store.shape) (Some calls) s new t call.Offer Fine (shows.dead ∙ alive) is un (refl, new_is)
 
     pub given_keeps : IsKept tells Opens index p count' rows new
@@ -322,7 +322,7 @@ module _ (tells : Bool) (Opens : Shape → List ℕ → List ℕ → Type 0) (in
     ended_is : new ≡ with_offer (with_live s t None) t unoffered
     ended_is = settles ∙ (λ i. record (with_offer s t unoffered) { live = sym (update_same s.live t None none) i })
 
-    step_told : IsTrue tells → Step (limits_of index p.store.shape) s t call.Settle (Committed n) new
+    step_told : IsTrue tells → Acts (limits_of index p.store.shape) s t call.Settle (Committed n) new
     step_told _ = step_by (limits_of index p.store.shape) (unsettled n) s new t call.Settle (Committed n) (shows.dead ∙ alive) has (refl, ended_is)
 
     pub told_keeps : IsKept tells Opens index p count' rows new

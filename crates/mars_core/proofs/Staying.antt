@@ -25,10 +25,10 @@ use Rattle.caller_steps.proofs.Able.{takes_within, free_outside}
 use Rattle.caller_steps.proofs.Causing.{save_cause, table_cause, call_cause}
 use Rattle.caller_steps.specs.Locked.{Blocks, IsFree, IsBusyWith}
 use Rattle.caller_steps.specs.Room.{Limits}
-use Rattle.caller_steps.specs.Step.{Step, StepAt}
+use Rattle.caller_steps.specs.Step.{Acts, StepAt}
 use Rattle.caller_steps.specs.Fate.{is_refusal, is_media, is_committed}
 use Rattle.caller_steps.specs.Core.{IsSafe, Steps}
-use Rattle.caller_steps.proofs.Sound.{step_sound}
+use Rattle.caller_steps.proofs.Sound.{acts_sound}
 use Rattle.mars_core.specs.declared.table_call.TableCall.{TableCall}
 use Rattle.mars_core.specs.declared.table_call.TableCall.TheVariants as table_call
 use Rattle.mars_core.specs.TableCall.{call_of, number_for}
@@ -113,10 +113,10 @@ module _ (tells : Bool) (Opens : Shape → List ℕ → List ℕ → Type 0) (in
     saved_is : length ((state_of index p).logs t).saved ≡ length (view_of s t).saves
     saved_is = saves_are (state_of index p) s tied.mirrors t (tied.sound.right t)
 
-    save_step : (c : Call) (answer : Reply) → IsSaveRefusal (length (p.counts t)) c answer → Step (limits_of index p.store.shape) s t c answer s
-    save_step Save answer refused = subst (λ (r : Reply). Step (limits_of index p.store.shape) s t Save r s) (sym refused.1)
+    save_step : (c : Call) (answer : Reply) → IsSaveRefusal (length (p.counts t)) c answer → Acts (limits_of index p.store.shape) s t c answer s
+    save_step Save answer refused = subst (λ (r : Reply). Acts (limits_of index p.store.shape) s t Save r s) (sym refused.1)
         (step_of (limits_of index p.store.shape) (Some calls) s s t Save SavesFull (shows.dead ∙ alive) is un (inl (omega (arith, refused.0, counts_is index p t, saved_is), (refl, refl))))
-    save_step (Back n) answer refused = subst (λ (r : Reply). Step (limits_of index p.store.shape) s t (Back n) r s) (sym refused.1)
+    save_step (Back n) answer refused = subst (λ (r : Reply). Acts (limits_of index p.store.shape) s t (Back n) r s) (sym refused.1)
         (step_of (limits_of index p.store.shape) (Some calls) s s t (Back n) (NoSave n) (shows.dead ∙ alive) is un (inl (
           has_saves (state_of index p) s tied.mirrors t (tied.sound.right t) n ∙ no_saves (((state_of index p).logs t).saved) n (subst (λ (k : ℕ). (0 < n) × (n ≤ k) → ⊥) (sym (counts_is index p t)) refused.0),
           (refl, refl),
@@ -223,7 +223,7 @@ module _ (tells : Bool) (Opens : Shape → List ℕ → List ℕ → Type 0) (in
   live_is = ap (λ (x : State). x.live) begins
 
   module _ (told : IsTrue tells) where
-    step : Step (limits_of index p.store.shape) s t Begin Fine new
+    step : Acts (limits_of index p.store.shape) s t Begin Fine new
     step = step_of (limits_of index p.store.shape) None s new t Begin Fine (shows.dead ∙ alive) none un (refl, begins)
 
     tied_new : IsTied index p new
@@ -236,7 +236,7 @@ module _ (tells : Bool) (Opens : Shape → List ℕ → List ℕ → Type 0) (in
           named = ap (λ (x : State). x.names) begins ∙ was.named;
           mirrors = mirrors_at (state_of index p) s was.mirrors (state_of index p) new t (Some []) live_is (was.mirrors.table ∙ sym (ap records_of begins))
               (was.mirrors.logs t ∙ ap (λ (cs : Granted). log_of cs) at) (λ u ne. refl);
-          sound = step_sound (limits_of index p.store.shape) s t Begin Fine new was.sound step;
+          sound = acts_sound (limits_of index p.store.shape) s t Begin Fine new was.sound step;
           room = room_empty (limits_of index p.store.shape) s new t (Some []) refl was.room (ap (λ (x : State). x.index.slot_of) begins) live_is;
         }
 
@@ -268,7 +268,7 @@ module _ (tells : Bool) (Opens : Shape → List ℕ → List ℕ → Type 0) (in
       mine = ap (λ (x : State). commits_of other x.history) begins;
     });
     refused = λ refusal _. absurd (false≢true refusal);
-  }) (call_cause (limits_of index p.store.shape) s t Begin (shows.dead ∙ alive) (free_outside s t un none) refl refl Fine refl) (λ failed. absurd (false≢true failed)) (λ _. refl) step (λ told. stays p.store.moment p.store.left_since _) safe_new (λ told _ _. shows_tied index p new (ap (λ (x : State). x.index) begins ∙ shows.indexed) (tied_new told))
+  }) (call_cause (limits_of index p.store.shape) s t Begin (shows.dead ∙ alive) (free_outside s t un none) refl refl Fine refl) (λ failed. absurd (false≢true failed)) (λ _. refl) step (λ told. stays p.store.moment p.store.left_since _) safe_new (inr (λ told _. shows_tied index p new (ap (λ (x : State). x.index) begins ∙ shows.indexed) (tied_new told)))
 
 -- a call of the table outside of a transaction
 absent_at : (limits : Limits) (s : State) (t : ℕ) (call : TableCall) → StepAt limits None s t (call_of call) NoTransaction s

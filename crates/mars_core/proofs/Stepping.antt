@@ -26,30 +26,31 @@ use Rattle.history.specs.declared.call.Reply.TheVariants.{Fine}
 use Rattle.history.specs.declared.call.Reply.TheVariants as reply
 use Rattle.history.specs.declared.transaction.Done.{Done}
 use Rattle.record_table.specs.State.{seen_by}
-use Rattle.record_table.specs.Does.{OpensWith}
+use Rattle.record_table.specs.Does.{OpensAs}
 use Rattle.record_table.specs.Shown.{state_of, pairs_of, keys_of, held_on, is_write_on}
 use Rattle.record_table.specs.Shown as shown
 use Rattle.caller_steps.specs.State as state
 use Rattle.caller_steps.specs.State.{State, Index, unoffered, calls_of, commits_of, records_of, view_of}
 use Rattle.caller_steps.specs.Offers.{takes_calls, may_do}
 use Rattle.caller_steps.proofs.Able.{takes_within}
-use Rattle.caller_steps.specs.Room.{Limits, HasEntry, IndexesAt, Indexes}
-use Rattle.caller_steps.specs.Step.{Asks, StepAt, StepBy, StepIf, Step, most_saves}
+use Rattle.caller_steps.specs.Room.{Limits, IsShown, HasEntry, IndexesAt, Indexes}
+use Rattle.caller_steps.specs.Step.{Asks, StepAt, StepBy, StepIf, Acts, Step, most_saves}
 use Rattle.caller_steps.specs.Fate.{Moves, is_refusal, is_media, is_committed, committed_by, live_with, offer_with}
 use Rattle.caller_steps.specs.Prefix.{HasPrefix, HasPrefixOf}
 use Rattle.caller_steps.specs.Core.{IsSafe, Steps}
 use Rattle.caller_steps.specs.Cause.{ReplyCause}
-use Rattle.mars_core.specs.Over.{limits_of, index_of, ShowsAll}
+use Rattle.mars_core.specs.Over.{limits_of, index_of, ShowsAll, OpensWithTables}
 use Rattle.record_table.specs.Names.{names_of}
 use Rattle.mars_core.specs.Held.{core_over}
 use Rattle.mars_core.specs.Kept.{Mirrors, IsTied}
 use Rattle.record_table.specs.Calls.{Replies}
 use Rattle.mars_core.specs.Works.{HasSaves}
+use Rattle.caller_steps.proofs.Sound.{history_whole}
 use Rattle.mars_core.proofs.Indexing.{slot_after}
 use Rattle.mars_core.proofs.Mirroring.{IsOfTable, has_save_is, saves_are, has_saves}
 use Rattle.mars_core.proofs.Rooming.{has_entry, entry_is}
 use Rattle.mars_core.proofs.Entering.{Enters, Returns}
-use Rattle.mars_core.proofs.Prefixes.{prefix_all}
+use Rattle.mars_core.proofs.Prefixes.{prefix_all, opens_tied}
 use Rattle.record_table.specs.Causes as table_causes
 
 -- the state shows these pages
@@ -133,7 +134,7 @@ moves_granted callers s new t calls call answer names base history dead offers u
 }
 
 -- a step of a core that is not dead, by a caller with these calls, which has offered nothing
-pub step_of : (limits : Limits) (calls : Option Granted) (s new : State) (t : ℕ) (call : Call) (answer : Reply) → s.is_dead ≡ false → s.live t ≡ calls → s.offers t ≡ unoffered → StepAt limits calls s t call answer new → Step limits s t call answer new
+pub step_of : (limits : Limits) (calls : Option Granted) (s new : State) (t : ℕ) (call : Call) (answer : Reply) → s.is_dead ≡ false → s.live t ≡ calls → s.offers t ≡ unoffered → StepAt limits calls s t call answer new → Acts limits s t call answer new
 step_of limits calls s new t call answer alive is un at =
     subst (λ (b : Bool). StepIf limits b s t call answer new) (sym alive)
     (subst (λ (o : state.Offer). StepBy limits o s t call answer new) (sym un) (subst (λ (o : Option Granted). StepAt limits o s t call answer new) (sym is) at))
@@ -169,49 +170,67 @@ shows_tied index q new indexed tied =
       keys = indexed ∙ ap (index_of index) (sym bytes);
     }
 
+-- what the data of a state says is what it shows
+shown_by : (index : below.Index) (shape : Shape) (s : State) → ShowsAll index s → IsShown (limits_of index shape) s
+shown_by index shape s shows = record { names = shows.names; table = shows.table; index = sym shows.keys }
+
+-- a call that leaves the state as it was, or one that its data shows
+abbrev LeavesShown : Bool → below.Index → State → State → Type 0
+LeavesShown tells index s new = (new ≡ s) ⊎ (IsTrue tells → IsFalse new.is_dead → ShowsAll index new)
+
+module _ (tells : Bool) (index : below.Index) where
+  stays_so : (s new : State) → IsTrue tells → LeavesShown tells index s new → IsFalse new.is_dead → (IsFalse s.is_dead → ShowsAll index s) → ShowsAll index new
+  stays_so s new told (inl same) alive was = subst (ShowsAll index) (sym same) (was (ap (λ (x : State). x.is_dead) (sym same) ∙ alive))
+  stays_so s new told (inr now) alive was = now told alive
+
+  stays_shown : (shape : Shape) (s new : State) → IsTrue tells → LeavesShown tells index s new → IsFalse new.is_dead → IsShown (limits_of index shape) s → IsShown (limits_of index shape) new
+  stays_shown shape s new told (inl same) alive was = subst (IsShown (limits_of index shape)) (sym same) was
+  stays_shown shape s new told (inr now) alive was = shown_by index shape new (now told alive)
+
 module _ (tells : Bool) (Opens : Shape → List ℕ → List ℕ → Type 0) (index : below.Index) where
   pub steps_of : (p q : PagesView) (s new : State) (t : ℕ) (call : Call) (answer : Reply) → q.store.shape ≡ p.store.shape → Moves p.store.shape.numbers s t call answer new → ReplyCause (limits_of index p.store.shape) s t call answer
-      → (IsTrue (is_media answer) → Rose p.store.faults q.store.faults) → (IsFalse (is_media answer) → q.store.faults ≡ p.store.faults) → (IsTrue tells → Step (limits_of index p.store.shape) s t call answer new)
-      → (IsTrue tells → LeavesOnly (HasPrefixOf (OpensWith (Opens q.store.shape) index) new (length s.history)) p.store q.store)
-      → (IsTrue tells → IsSafe (core_over Opens index q.store new) q.store.moment (length new.history)) → (IsTrue tells → (IsFalse s.is_dead → ShowsAll index s) → IsFalse new.is_dead → ShowsAll index new)
+      → (IsTrue (is_media answer) → Rose p.store.faults q.store.faults) → (IsFalse (is_media answer) → q.store.faults ≡ p.store.faults) → (IsTrue tells → Acts (limits_of index p.store.shape) s t call answer new)
+      → (IsTrue tells → LeavesOnly (HasPrefixOf (OpensWithTables (Opens q.store.shape) index new.names) new (length s.history)) p.store q.store)
+      → (IsTrue tells → IsSafe (core_over Opens index q.store new) q.store.moment (length new.history)) → LeavesShown tells index s new
       → Steps tells t call (core_over Opens index p.store s) (core_over Opens index q.store new) answer
   steps_of p q s new t call answer shape moves cause failed kept step time now shown = record {
     limits = ap (limits_of index) shape;
-    opens = λ image table opens. subst (λ (h : Shape). OpensWith (Opens h) index image table) (sym shape) opens;
+    opens = λ image table opens. subst (λ (x : Shape × List (List ℕ)). OpensWithTables (Opens x.0) index x.1 image table) (λ i. (sym shape i, sym moves.names i)) opens;
     moves = moves;
     cause = cause;
     failed = failed;
     kept = kept;
-    step = step;
+    step = λ told. record { acts = step told; shown = λ alive was. stays_shown tells index p.store.shape s new told shown alive was };
     time = time;
     now = now;
     shows = λ state. (λ x. x, λ x. x);
-    shown = shown;
+    shown = λ told was alive. stays_so tells index s new told shown alive was;
   }
 
   -- a refusal that leaves everything as it was
   pub steps_same : (p : PagesView) (s new : State) (t : ℕ) (call : Call) (answer : Reply) → new ≡ s → (IsTrue tells → IsSafe (core_over Opens index p.store s) p.store.moment (length s.history))
-      → is_refusal answer ≡ true → is_media answer ≡ false → is_committed answer ≡ false → ReplyCause (limits_of index p.store.shape) s t call answer → (IsTrue tells → Step (limits_of index p.store.shape) s t call answer s)
+      → is_refusal answer ≡ true → is_media answer ≡ false → is_committed answer ≡ false → ReplyCause (limits_of index p.store.shape) s t call answer → (IsTrue tells → Acts (limits_of index p.store.shape) s t call answer s)
       → Steps tells t call (core_over Opens index p.store s) (core_over Opens index p.store new) answer
   steps_same p s new t call answer same safe refusal no_media plain cause step =
       subst (λ (x : State). Steps tells t call (core_over Opens index p.store s) (core_over Opens index p.store x) answer) (sym same)
       (steps_of p p s s t call answer refl (moves_refused p.store.shape.numbers s s t call answer refl refl refl refl refl (sym (ap (λ (b : Bool). s.is_dead || b) no_media ∙ or_false s.is_dead)) refusal plain) cause
-      (λ failed. absurd (false≢true (sym no_media ∙ failed))) (λ _. refl) step (λ told. stays p.store.moment p.store.left_since _) safe (λ told was. was))
+      (λ failed. absurd (false≢true (sym no_media ∙ failed))) (λ _. refl) step (λ told. stays p.store.moment p.store.left_since _) safe (inl refl))
 
   -- what a loss of power leaves within a call that does not change the table
-  pub time_same : (p q : PagesView) (s new : State) (A B : Table) → AreWhole (length s.history) s.history → q.store.shape ≡ p.store.shape → A ≡ records_of s → B ≡ records_of s → new.base ≡ s.base → new.history ≡ s.history
-      → LeavesOnly (λ image. OpensWith (Opens p.store.shape) index image A ⊎ OpensWith (Opens p.store.shape) index image B) p.store q.store
-      → LeavesOnly (HasPrefixOf (OpensWith (Opens q.store.shape) index) new (length s.history)) p.store q.store
-  time_same p q s new A B whole shape a b base history time = weaker go time
+  pub time_same : (p q : PagesView) (s new : State) (A B : Table) → IsTied index p s → q.store.shape ≡ p.store.shape → A ≡ records_of s → B ≡ records_of s → new.names ≡ s.names → new.base ≡ s.base → new.history ≡ s.history
+      → LeavesOnly (λ image. OpensAs (Opens p.store.shape) index image p.store.state.bytes A ⊎ OpensAs (Opens p.store.shape) index image p.store.state.bytes B) p.store q.store
+      → LeavesOnly (HasPrefixOf (OpensWithTables (Opens q.store.shape) index new.names) new (length s.history)) p.store q.store
+  time_same p q s new A B tied shape a b names base history time = weaker go time
     where
-      opened : (image : List ℕ) (C : Table) → C ≡ records_of s → OpensWith (Opens p.store.shape) index image C → HasPrefixOf (OpensWith (Opens q.store.shape) index) new (length s.history) image
+      opened : (image : List ℕ) (C : Table) → C ≡ records_of s → OpensAs (Opens p.store.shape) index image p.store.state.bytes C → HasPrefixOf (OpensWithTables (Opens q.store.shape) index new.names) new (length s.history) image
       opened image C c o =
-          let here = subst (λ (h : Shape). OpensWith (Opens h) index image C) (sym shape) o in
-          let shows = subst (λ (table : Table). OpensWith (Opens q.store.shape) index image table) (c ∙ (λ i. records (sym base i) (sym history i))) here in
-          subst (λ (hs : List Done). HasPrefix (OpensWith (Opens q.store.shape) index) new.base (new.history ++ new.doubt) (length hs) image) history
-          (prefix_all (OpensWith (Opens q.store.shape) index) image new.base new.history new.doubt (subst (λ (hs : List Done). AreWhole (length hs) hs) (sym history) whole) shows)
+          let shows = subst (λ (table : Table). OpensWithTables (Opens q.store.shape) index new.names image table) (c ∙ (λ i. records (sym base i) (sym history i)))
+          (opens_tied Opens index p s tied q.store.shape shape new.names names image C o) in
+          subst (λ (hs : List Done). HasPrefix (OpensWithTables (Opens q.store.shape) index new.names) new.base (new.history ++ new.doubt) (length hs) image) history
+          (prefix_all (OpensWithTables (Opens q.store.shape) index new.names) image new.base new.history new.doubt (subst (λ (hs : List Done). AreWhole (length hs) hs) (sym history) (history_whole s tied.sound)) shows)
 
-      go : (image : List ℕ) → OpensWith (Opens p.store.shape) index image A ⊎ OpensWith (Opens p.store.shape) index image B → HasPrefixOf (OpensWith (Opens q.store.shape) index) new (length s.history) image
+      go : (image : List ℕ) → OpensAs (Opens p.store.shape) index image p.store.state.bytes A ⊎ OpensAs (Opens p.store.shape) index image p.store.state.bytes B
+          → HasPrefixOf (OpensWithTables (Opens q.store.shape) index new.names) new (length s.history) image
       go image (inl o) = opened image A a o
       go image (inr o) = opened image B b o
 

@@ -4,14 +4,13 @@ use Rattle.array_shape.specs.declared.shape.Shape.{Shape}
 use Rattle.eaw_face.specs.StoreView.{StoreView}
 use Rattle.page_store.specs.Index.{Index}
 use Rattle.page_store.specs.Shown.{Shown}
-use Rattle.record_table.specs.Does.{OpensWith}
 use Rattle.history.specs.Rows.{NamedRows, table_of}
 use Rattle.history.specs.Table.{Granted}
 use Rattle.history.specs.Writes.{Table}
 use Rattle.history.specs.declared.transaction.Done.{Done}
 use Rattle.caller_steps.specs.State.{State, Offer}
 use Rattle.caller_steps.specs.Core.{CoreView}
-use Rattle.mars_core.specs.Over.{limits_of, index_of, ShowsAll}
+use Rattle.mars_core.specs.Over.{limits_of, index_of, ShowsAll, OpensWithTables}
 use Rattle.mars_core.specs.Seats.{Seats, live_in, offers_in}
 
 -- The records over a store, the rows of the records at the opening, the callers' live transactions, the transactions committed since, and
@@ -48,7 +47,7 @@ core_over Opens index store state = record {
   faults = store.faults;
   moment = store.moment;
   left_since = store.left_since;
-  opens = OpensWith (Opens store.shape) index;
+  opens = OpensWithTables (Opens store.shape) index state.names;
 }
 
 abbrev pub core_of : {S : Type 0} → (Shape → List ℕ → List ℕ → Type 0) → Index → StoreView → Held S → CoreView

@@ -8,3 +8,4 @@ pub mod TableCall
 pub mod Works
 pub mod Purging
 pub mod Making
+pub mod Taped

@@ -9,9 +9,8 @@ use Rattle.page_store.specs.Index as below
 use Rattle.page_store.specs.Fits.{is_page_on}
 use Rattle.record_table.specs.Causes.{actions_in}
 use Rattle.record_slots.specs.Places.{version_of}
-use Rattle.record_table.specs.Does.{OpensWith}
 use Rattle.history.specs.declared.key.Key.{Key}
-use Rattle.history.specs.Writes.{all_written}
+use Rattle.history.specs.Writes.{Table, all_written}
 use Rattle.record_slots.specs.Names.{number_of}
 use Rattle.record_table.specs.Names.{names_of}
 use Rattle.record_table.specs.Removing.{removal_in}
@@ -21,7 +20,7 @@ use Rattle.record_table.specs.Upgrading.{upgraded, OpensUpgraded}
 use Rattle.caller_steps.specs.State as face
 use Rattle.caller_steps.specs.Room as room
 use Rattle.caller_steps.specs.State.{unoffered, opened, records_of, view_of}
-use Rattle.caller_steps.specs.Room.{Limits}
+use Rattle.caller_steps.specs.Room.{Limits, Said}
 use Rattle.caller_steps.specs.Core.{CoreView}
 use Rattle.eaw_face.specs.Mirroring.{Mirrors}
 
@@ -46,19 +45,6 @@ actions_at index shape bytes key (Some table) = actions_as shape (actions_in ind
 abbrev pub actions_for : Index → Shape → List ℕ → Key → List room.Action
 actions_for index shape bytes key = actions_at index shape bytes key.key (number_of (names_of bytes) key.table)
 
--- the limits of an array of this shape, under an index
-abbrev pub limits_of : Index → Shape → Limits
-limits_of index shape = record {
-  callers = shape.numbers;
-  slots = slots_of shape;
-  index_pages = index_pages_of shape;
-  loggers = shape.loggers;
-  entries = shape.entries;
-  logger_of = logger_of_slot shape;
-  keeps = keeps_in index;
-  actions = actions_for index shape;
-}
-
 -- how many levels of inner pages the index of this table has; none if there is no such table
 abbrev pub level_of : Keys → Option ℕ → ℕ
 level_of keys None = 0
@@ -80,12 +66,39 @@ index_with names bytes keys = record {
 abbrev pub index_of : Index → List ℕ → face.Index
 index_of index bytes = index_with (names_of bytes) bytes (keys_of index bytes)
 
+-- what the data says: the names, the records and the indexes of its tables
+abbrev pub said_in : Index → List ℕ → Said
+said_in index bytes = record { names = names_of bytes; table = table_of index bytes; index = index_of index bytes }
+
+-- the limits of an array of this shape, under an index
+abbrev pub limits_of : Index → Shape → Limits
+limits_of index shape = record {
+  callers = shape.numbers;
+  slots = slots_of shape;
+  index_pages = index_pages_of shape;
+  loggers = shape.loggers;
+  entries = shape.entries;
+  logger_of = logger_of_slot shape;
+  keeps = keeps_in index;
+  actions = actions_for index shape;
+  says = said_in index;
+}
+
 -- the data of a state shows it: under the index it is sound, and it has the names, the records and the keys
 pub record ShowsAll (index : Index) (state : face.State) : Type 0 where
   pub sound : index.sound state.index.bytes
   pub names : names_of state.index.bytes ≡ state.names
   pub table : table_of index state.index.bytes ≡ records_of state
   pub keys : state.index ≡ index_of index state.index.bytes
+
+-- an image opens with sound data of version 2, whose tables have these names and these records
+pub record OpensWithTables (Opens : List ℕ → List ℕ → Type 0) (index : Index) (names : List (List ℕ)) (image : List ℕ) (table : Table) : Type 0 where
+  pub bytes : List ℕ
+  pub opened : Opens image bytes
+  pub sound : index.sound bytes
+  pub version : version_of bytes ≡ 2
+  pub named : names_of bytes ≡ names
+  pub shows : table_of index bytes ≡ table
 
 -- What is logged for a caller, written into the records of the data, is what the caller sees.
 abbrev pub LeavesView : Index → StoreView → face.State → ℕ → Type 0
@@ -99,7 +112,8 @@ pub record IsOver (tells : Bool) (Opens : List ℕ → List ℕ → Type 0) (ind
   pub faults : core.faults ≡ store.faults
   pub moment : core.moment ≡ store.moment
   pub left : (since : ℕ) (image : List ℕ) → (store.left_since since image → core.left_since since image) × (core.left_since since image → store.left_since since image)
-  pub opens_to : (image : List ℕ) (table : _) → (OpensWith Opens index image table → core.opens image table) × (core.opens image table → OpensWith Opens index image table)
+  pub opens_to : (image : List ℕ) (table : Table) → (OpensWithTables Opens index core.state.names image table → core.opens image table)
+      × (core.opens image table → OpensWithTables Opens index core.state.names image table)
   pub dead : core.state.is_dead ≡ store.is_dead
   pub keys : IsTrue tells → core.state.index ≡ index_of index store.state.bytes
   pub sound : IsTrue tells → IsAlive store → index.sound store.state.bytes

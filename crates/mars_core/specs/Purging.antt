@@ -11,7 +11,7 @@ use Rattle.history.specs.declared.call.Call.TheVariants.{Del}
 use Rattle.page_store.specs.Index.{Index, slots_of}
 use Rattle.page_store.specs.Shown.{PagesView}
 use Rattle.record_slots.specs.Places.{version_of, used_slots, tables_of}
-use Rattle.record_table.specs.Does.{OpensWith, is_failed}
+use Rattle.record_table.specs.Does.{OpensAs, is_failed}
 use Rattle.record_table.specs.Names.{IsCalled, names_of}
 use Rattle.record_table.specs.Removing.{IsAbsent, IsKept, Loses}
 use Rattle.record_table.specs.Shown.{state_of}
@@ -113,7 +113,7 @@ pub record Tries (tells : Bool) (Opens : List ℕ → List ℕ → Type 0) (inde
   pub saves : IsFalse (is_failed result) → new.counts ≡ old.counts
   pub sound : IsTrue tells → IsAlive new.store → index.sound new.store.state.bytes
   pub tried : IsTrue tells → IfOk result (Tried index seats table key old.store.state.bytes new.store.state.bytes)
-  pub time : IsTrue tells → LeavesOnly (λ image. OpensWith Opens index image (state_of index old).table) old.store new.store
+  pub time : IsTrue tells → LeavesOnly (λ image. OpensAs Opens index image old.store.state.bytes (state_of index old).table) old.store new.store
   pub mirrors : Mirrors tells old.store new.store
 
 -- Each key that was to be passed and has no record was tried once, but those that a live transaction touches. Records, writes and saves are as they
@@ -129,5 +129,5 @@ pub record Clears (tells : Bool) (Opens : List ℕ → List ℕ → Type 0) (ind
   pub sound : IsTrue tells → IsAlive new.store → index.sound new.store.state.bytes
   pub ready : IsTrue tells → IfOk result (λ n. IsReady index seats t new)
   pub cleared : IsTrue tells → IfOk result (λ n. Cleared index seats Passed n old.store.state.bytes new.store.state.bytes)
-  pub time : IsTrue tells → LeavesOnly (λ image. OpensWith Opens index image (state_of index old).table) old.store new.store
+  pub time : IsTrue tells → LeavesOnly (λ image. OpensAs Opens index image old.store.state.bytes (state_of index old).table) old.store new.store
   pub mirrors : Mirrors tells old.store new.store

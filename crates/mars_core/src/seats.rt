@@ -221,7 +221,8 @@ impl<H: Keeper> Seats<H> {
         requires few { length self.old.places ≤ 64 }
         requires last { before + length (offered_in self.old) ≡ last }
         requires room { length into.old.items + length (offered_in self.old) ≤ into.old.capacity }
-        ensures { (state : State) → IsOf self.old before state → Ends ending last state (offered_in self.old) self.old into.old.items into.new.items self.new }
+        ensures ends { (state : State) → IsOf self.old before state → Ends ending last state (offered_in self.old) self.old into.old.items into.new.items self.new }
+        ensures first { into.new.first ≡ into.old.first }
     {
         let mut at = before;
         for caller in 0..self.places.len() as u8 {

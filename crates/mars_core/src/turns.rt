@@ -27,6 +27,8 @@ ghost use Rattle.mars_core.specs.Seats.{live_in, offers_in};
 ghost use Rattle.mars_core.specs.TableCall.{call_of};
 ghost use Rattle.mars_core.specs.Works.{IsShown};
 
+mod taped;
+
 use crate::asking::answer;
 use crate::fault::CoreFault;
 use crate::live::Live;
@@ -457,6 +459,8 @@ impl<S: EawStore, K: KeyIndex, H: Keeper> Steps for Core<S, K, H> {
 
     ghost keeps = { H.keeps };
 
+    ghost forgets = { H.forgets };
+
     ghost view = { λ core. core_of S.opens K.index (S.view core.records.store) core };
 
     ghost sends = { λ old new. Mirrors S.tells (S.view old.records.store) (S.view new.records.store) };
@@ -477,8 +481,12 @@ impl<S: EawStore, K: KeyIndex, H: Keeper> Steps for Core<S, K, H> {
         self.history.count()
     }
 
-    fn history(&self) -> Option<&[Done]> {
-        self.history.as_slice()
+    fn history(&self) -> Option<(u64, &[Done])> {
+        self.history.kept()
+    }
+
+    fn forget(&mut self, told: u64) {
+        self.history.forget(told);
     }
 }
 
@@ -492,6 +500,7 @@ fn rooms<H: Keeper>(
     ensures room { IfOk result (λ made. length made.0.items + more ≤ made.0.capacity) }
     ensures few { IfOk result (λ made. made.0.capacity ≤ 2 ^ 63) }
     ensures empty { IfOk result (λ made. made.1.items ≡ []) }
+    ensures whole { IfOk result (λ made. made.1.first ≡ 0) }
     ensures second_room { IfOk result (λ made. more ≤ made.1.capacity) }
     ensures err { OnErr result (history.new.items ≡ history.old.items) }
 {

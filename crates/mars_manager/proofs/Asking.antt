@@ -1,5 +1,5 @@
 -- Who asked for what: what steps add, and what stays.
-use Rattle.std.proofs.Common.{◌≡◌, ◌⊎◌, ℕ, zero, suc, ◌+◌, ◌<◌, Bool, true, false, List, [], ◌∷◌, ◌++◌, refl, sym, ap, ◌∙◌, subst, inl, inr, ⊎_elim, arith, append_assoc}
+use Rattle.std.proofs.Common.{◌≡◌, ◌⊎◌, ℕ, zero, suc, ◌+◌, ◌<◌, ◌≤◌, Bool, true, false, List, [], ◌∷◌, ◌++◌, refl, sym, ap, ◌∙◌, subst, inl, inr, ⊎_elim, arith, append_assoc}
 use Rattle.std.specs.Prelude.{nat_lt, nat_eq, is_some, length, unwrap_or, ◌&&◌, Option, Some, None, Contains}
 use Rattle.record_slots.specs.Names.{number_of}
 use Rattle.history.specs.Key.{of_table}
@@ -18,7 +18,7 @@ use Rattle.stripe_words.specs.Words.{Stands, gained, marked, HasLock, Refuses}
 use Rattle.mars_manager.specs.declared.view.Met.{Met}
 use Rattle.mars_manager.specs.declared.view.Known.{Known}
 use Rattle.mars_manager.specs.Locks.{number_asked, locks, met}
-use Rattle.mars_manager.specs.Asked.{bit_for, set_for, AsksFor, HasAsked, IsCaused, against, IsStepFor, IsReadingBelow, IsStepOf, Meets}
+use Rattle.mars_manager.specs.Asked.{bit_for, set_for, AsksFor, HasAsked, IsCaused, against, IsStepFor, IsReadingBelow, IsStepOf, AreRising, Meets, AsksUp}
 
 pub only_one : {A : Type 0} (x y : A) → Contains (x ∷ []) y → x ≡ y
 only_one x y (zero, l, e) = e
@@ -29,6 +29,23 @@ one_here x = (0, omega arith, refl)
 
 pub none_here : {A X : Type 0} (y : A) → Contains [] y → X
 none_here y (k, l, e) = absurd (omega arith)
+
+later_there : {A : Type 0} (x : A) (xs : List A) (y : A) → Contains xs y → Contains (x ∷ xs) y
+later_there x xs y (k, l, e) = (suc k, omega (arith, l), e)
+
+-- steps for one stripe rise, and so do those for stripes above behind others
+rise_at : (low t : ℕ) (steps : List Met) → low ≤ t → ((step : Met) → Contains steps step → step.stripe ≡ t) → AreRising low steps
+rise_at low t [] le all = tt
+rise_at low t (step ∷ steps) le all =
+    let is = all step (0, omega arith, refl) in (omega (arith, le, is), rise_at step.stripe t steps (omega (arith, is)) (λ other there. all other (later_there step steps other there)))
+
+rising_from : (low n : ℕ) (steps : List Met) → low ≤ n → AreRising n steps → AreRising low steps
+rising_from low n [] le rising = tt
+rising_from low n (step ∷ steps) le rising = (omega (arith, le, rising.0), rising.1)
+
+rising_on : (low n : ℕ) (xs ys : List Met) → low ≤ n → AreRising low xs → ((step : Met) → Contains xs step → step.stripe ≤ n) → AreRising n ys → AreRising low (xs ++ ys)
+rising_on low n [] ys le a below b = rising_from low n ys le b
+rising_on low n (x ∷ xs) ys le a below b = (a.0, rising_on x.stripe n xs ys (below x (0, omega arith, refl)) a.1 (λ step there. below step (later_there x xs step there)) b)
 
 -- a bit of a word is set where its pass has what sets it
 pub bit_is : (asked : Mode) (w : ℕ) (has : ℕ → Hold) (n : ℕ) → n < 32 → Stands w has → bit_at w (bit_for asked n) ≡ set_for asked (has n)
@@ -143,6 +160,37 @@ module _ {C : Type 0} where
   -- what changes besides the steps does not matter
   pub meets_same : (Holds : Met → Type 0) (j k k' j' : Known C) → k.met ≡ j.met → j'.met ≡ k'.met → Meets Holds k k' → Meets Holds j j'
   meets_same Holds j k k' j' before after a = record { more = a.more; is = after ∙ a.is ∙ ap (λ (ms : List Met). ms ++ a.more) before; each = a.each }
+
+  -- steps for one stripe are made by rising stripe
+  pub up_at : (asked : Mode) (t : ℕ) (k k' : Known C) → Meets (IsStepFor asked t) k k' → AsksUp k k'
+  up_at asked t k k' a = record { more = a.more; is = a.is; rising = rise_at 0 t a.more (omega arith) (λ step there. (a.each step there).0) }
+
+  -- and so are those for all stripes below one
+  pub record UpTo (n : ℕ) (k k' : Known C) : Type 0 where
+    pub up : AsksUp k k'
+    pub below : (step : Met) → Contains up.more step → step.stripe < n
+
+  pub up_none : (k : Known C) → UpTo 0 k k
+  up_none k = record { up = record { more = []; is = sym (append-nil k.met); rising = tt }; below = λ step there. none_here step there }
+
+  pub up_on : (asked : Mode) (n : ℕ) (k1 k2 k3 : Known C) → UpTo n k1 k2 → Meets (IsStepFor asked n) k2 k3 → UpTo (n + 1) k1 k3
+  up_on asked n k1 k2 k3 a b = record {
+    up = record {
+      more = a.up.more ++ b.more;
+      is = b.is ∙ ap (λ (ms : List Met). ms ++ b.more) a.up.is ∙ append_assoc k1.met a.up.more b.more;
+      rising = rising_on 0 n a.up.more b.more (omega arith) a.up.rising (λ step there. let less = a.below step there in omega (arith, less)) (rise_at n n b.more (omega arith) (λ step there. (b.each step there).0));
+    };
+    below = λ step there. ⊎_elim
+        (λ (before : Contains a.up.more step). let less = a.below step before in omega (arith, less))
+        (λ (now : Contains b.more step). let is = (b.each step now).0 in omega (arith, is))
+        (Contains-append_cases a.up.more b.more step there);
+  }
+
+  pub up_same : (k k' now : Known C) → now.met ≡ k'.met → AsksUp k k' → AsksUp k now
+  up_same k k' now same a = record { more = a.more; is = same ∙ a.is; rising = a.rising }
+
+  pub up_still : (k k' : Known C) → k'.met ≡ k.met → AsksUp k k'
+  up_still k k' same = record { more = []; is = same ∙ sym (append-nil k.met); rising = tt }
 
 -- a mark asks for reading
 pub mark_asks : (t w : ℕ) (was : Hold) (b : Bool) (m : Mode) → set_for m (gained b) ≡ 1 → (set_for m was ≡ 1) ⊎ AsksFor m t (met t mode.Shared w)

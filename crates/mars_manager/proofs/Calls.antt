@@ -1,5 +1,6 @@
 -- What a whole turn guarantees, given what its steps guarantee and what the core's step does.
-use Rattle.std.proofs.Common.{◌≡◌, ◌≢◌, ◌<◌, ◌⊎◌, inl, inr, ⊎_elim, ℕ, List, Bool, true, false, [], ◌∷◌, ◌++◌, Option, Some, None, refl, sym, ap, ◌∙◌, subst, map, append_assoc}
+use Rattle.std.proofs.Common.{arith, ◌≡◌, ◌≢◌, ◌+◌, ◌<◌, ◌⊎◌, inl, inr, ⊎_elim, ℕ, List, Bool, true, false, [], ◌∷◌, ◌++◌, Option, Some, None, refl, sym, ap, ◌∙◌, subst, map, append_assoc}
+use mathlib.Core.List.{append-nil}
 use Rattle.std.specs.Prelude.{IsTrue, IsFalse, MatchBool}
 use Rattle.std.proofs.lemmas.Bool.{true≢false}
 use Rattle.history.specs.Table.{Granted}
@@ -24,7 +25,7 @@ use Rattle.atomic_table.specs.Table.{rest}
 use Rattle.mars_manager.specs.declared.view.Known.{Known}
 use Rattle.mars_manager.specs.declared.view.Met.{Met}
 use Rattle.mars_manager.specs.declared.setup.Setup.{Setup}
-use Rattle.mars_manager.specs.Pass.{Fits, AllFit, names_of, own_by, waits_of, takes_of, finds, told_of, times}
+use Rattle.mars_manager.specs.Pass.{Fits, AllFit, names_of, own_by, waits_of, takes_of, finds, tried, told_of, times}
 use Rattle.mars_manager.specs.Locks.{with_locks, IsAgain, HasAfter}
 use Rattle.mars_manager.specs.Sharing.{CanShare, Since, Called, IsLegalIn, HasCommitted, HasSettled, SeesOwn, Commits}
 use Rattle.mars_manager.specs.Seat.{SeatOf, first_of, shared_view, Makes}
@@ -34,7 +35,7 @@ use Rattle.mars_manager.proofs.Past.{since_step}
 use Rattle.mars_manager.proofs.Waiting.{takes_own}
 use Rattle.mars_manager.proofs.Seats.{times_first}
 use Rattle.mars_manager.proofs.Committing.{commits_on}
-use Rattle.mars_manager.proofs.Turns.{out, top_of, some_same, found_fit, live_at, Moved}
+use Rattle.mars_manager.proofs.Turns.{out, top_of, some_same, fit_before, live_at, Moved}
 
 module _ {C : Type 0} where
   -- a pass was told all of its caller's turns
@@ -49,6 +50,16 @@ module _ {C : Type 0} (tells : Bool) (show : C → CoreView) (was : Known C) (ca
   -- and after it one more
   pub told_on : told_of now ≡ told_of was ++ (call, reply) ∷ []
   told_on = ap told_of c.after ∙ last_here was.number call reply c.turns ∙ ap (λ (l : Granted). l ++ (call, reply) ∷ []) (sym told_was)
+
+-- how often a pass has tried for the turn says nothing of its caller's transactions
+pub commits_tried : {C : Type 0} (tells : Bool) (was now : Known C) (call : Call) (reply : Reply) (n : ℕ) → Commits tells was call reply now → Commits tells was call reply (tried n now)
+commits_tried tells was now call reply n made = go (is_committed reply) (waits_of was) made
+  where
+    go : (b w : Bool) → MatchBool b (MatchBool w (HasSettled tells was reply now) (call ≢ Settle → HasCommitted tells was reply now)) (SeesOwn was now)
+        → MatchBool b (MatchBool w (HasSettled tells was reply (tried n now)) (call ≢ Settle → HasCommitted tells was reply (tried n now))) (SeesOwn was (tried n now))
+    go true true s = record { at = s.at; last = s.last; before = s.before; mine = s.mine; seen = s.seen; told = s.told }
+    go true false s = λ apart. let h = s apart in record { before = h.before; seen = h.seen; mine = h.mine; told = h.told }
+    go false w s = s
 
 module _ {C : Type 0} (f : Face C) where
   goes_on : (setup : Setup C) (n : ℕ) (call : Call) (reply : Reply) (old new : C) → Steps f.tells n call (f.show old) (f.show new) reply → (IsTrue (f.show old).state.is_dead → (reply ≡ Dead) × (new ≡ old))
@@ -71,7 +82,7 @@ module _ {C : Type 0} (f : Face C) where
   module _ (setup : Setup C) (turns : List Turn) (old new : C) (k : Known C) (call : Call) (reply : Reply) (fit : Fits f.tells f.show setup turns (f.show old).state k)
       (s : Steps f.tells k.number call (f.show old) (f.show new) reply) (dead : IsTrue (f.show old).state.is_dead → (reply ≡ Dead) × (new ≡ old)) where
     pub called : (call ≡ Purge → PurgeCause (f.show old).state k.number reply) → Since f.tells (f.show setup.first) (f.show old) → AreOf setup.callers turns → CanShare f.tells setup.callers (f.show setup.first)
-        → Called f.tells f.show k call reply (shown f call reply turns new k)
+        → Called f.tells f.show k call reply (shown f call reply turns new (finds 0 k))
     called purge since whose ready = record {
       setup = setup;
       turns = turns;
@@ -89,11 +100,11 @@ module _ {C : Type 0} (f : Face C) where
       after = refl;
     }
 
-    pub seen_grows : Grows k.seen (shown f call reply turns new k).seen
+    pub seen_grows : Grows k.seen (shown f call reply turns new (finds 0 k)).seen
     seen_grows = grows_on k.seen (f.show old).state.history (f.show new).state.history (turn_grows f.tells (f.show setup.first).limits k.number k.past k.seen (f.show setup.first).state (f.show old).state turns fit.last)
         (subst (λ h. Grows (f.show old).state.history h) (sym s.moves.history) (after_grows (f.show old).limits.callers (f.show old).state k.number call reply))
 
-    pub legal_now : Since f.tells (f.show setup.first) (f.show old) → IsTrue f.tells → IsLegalIn f.show (shown f call reply turns new k)
+    pub legal_now : Since f.tells (f.show setup.first) (f.show old) → IsTrue f.tells → IsLegalIn f.show (shown f call reply turns new (finds 0 k))
     legal_now since told given is =
         let comes = since_step f.tells k.number call reply (f.show setup.first) (f.show old) (f.show new) s since in
         let same : setup ≡ given = some_same setup given (sym fit.setup_is ∙ is) in
@@ -101,8 +112,8 @@ module _ {C : Type 0} (f : Face C) where
         (subst (λ b. IsLegal b (f.show new).state.history) comes.base (comes.continues told).sound.legal)
 
     module _ (inside : k.number < (f.show old).limits.callers) (can : CanShare f.tells setup.callers (f.show setup.first)) where
-      pub commits : Commits f.tells k call reply (shown f call reply turns new k)
-      commits = commits_on f setup turns old new k call reply fit s dead can inside
+      pub commits : Commits f.tells k call reply (shown f call reply turns new (finds 0 k))
+      commits = commits_tried f.tells k (shown f call reply turns new k) call reply (k.tries + 1) (commits_on f setup turns old new k call reply fit s dead can inside)
 
   -- the core that the seat takes out of its slot
   pub core_is : (m0 m1 : SeatOf C) (core : C) (home : Option C) (took : Took f m0 m1) → m1.1 ≡ (0, home) ∷ rest m1.1 → home ≡ Some core → took.core ≡ core
@@ -148,7 +159,7 @@ module _ {C : Type 0} (f : Face C) where
         record_of = tells core new (ap (λ (m : SeatOf C). m.0.held) homed) (ap (λ (m : SeatOf C). m.1) homed)
 
         -- the seat once the length is published
-        pub told_seat : m4 ≡ (shared_view (shown f call reply record_of.turns new k ∷ []) (Some new), out new)
+        pub told_seat : m4 ≡ (shared_view (shown f call reply record_of.turns new (finds 0 k) ∷ []) (Some new), out new)
         told_seat = let F : SeatOf C → SeatOf C = λ m. (shared_view (map (shown f call reply record_of.turns new) m.0.passes) (Some new), m.1) in record_of.now ∙ ap F homed
 
         -- the seat once the turn is given back
@@ -156,11 +167,11 @@ module _ {C : Type 0} (f : Face C) where
         made purge m5 give =
             let t = record_of in
             let all = subst (λ (ks : List (Known C)). AllFit f.tells f.show t.setup t.turns (f.show core).state ks) (ap (λ (m : SeatOf C). m.0.passes) homed) t.fit in
-            let fit : Fits f.tells f.show t.setup t.turns (f.show core).state k = found_fit f t.setup t.turns core k.found (finds 0 k) all.0 in
+            let fit : Fits f.tells f.show t.setup t.turns (f.show core).state k = fit_before f t.setup t.turns core 0 k all.0 in
             let F : SeatOf C → SeatOf C = λ m. (shared_view m.0.passes None, []) in
             let cause : call ≡ Purge → PurgeCause (f.show core).state k.number reply = λ is. subst (λ (i : ℕ). PurgeCause (f.show core).state i reply) (sym number) (purge is) in
             let step = called t.setup t.turns core new k call reply fit steps_as dead cause t.since t.whose t.ready in record {
-              now = shown f call reply t.turns new k;
+              now = shown f call reply t.turns new (finds 0 k);
               is = give ∙ ap F told_seat;
               made = record {
                 number = refl;
@@ -168,10 +179,11 @@ module _ {C : Type 0} (f : Face C) where
                 tabled = tabled_at;
                 holds = refl;
                 met = refl;
+                tries = refl;
                 sure = sure;
                 begun = begun_at t.setup t.turns fit t.ready (f.show core).state.is_dead refl;
                 called = step;
-                told = told_on f.tells f.show k call reply (shown f call reply t.turns new k) step;
+                told = told_on f.tells f.show k call reply (shown f call reply t.turns new (finds 0 k)) step;
                 seen = seen_grows t.setup t.turns core new k call reply fit steps_as dead;
                 legal = legal_now t.setup t.turns core new k call reply fit steps_as dead t.since;
                 commits = commits t.setup t.turns core new k call reply fit steps_as dead inside_at t.ready;
@@ -180,9 +192,12 @@ module _ {C : Type 0} (f : Face C) where
 
 -- what a pass found, and what it has of the stripes, does not matter to its next call
 module _ {C : Type 0} (tells : Bool) (show : C → CoreView) (was last now : Known C) (call : Call) (reply : Reply) (n : ℕ) (a : IsAgain n was last) where
+  abbrev found : Known C
+  found = tried (was.tries + a.tries) (finds n (with_locks was.holds (was.met ++ a.more) was))
+
   pub called_since : Called tells show last call reply now → Called tells show was call reply now
   called_since made =
-      let c : Called tells show (finds n (with_locks was.holds (was.met ++ a.more) was)) call reply now = subst (λ (j : Known C). Called tells show j call reply now) a.is made in record {
+      let c : Called tells show found call reply now = subst (λ (j : Known C). Called tells show j call reply now) a.is made in record {
         setup = c.setup;
         turns = c.turns;
         old = c.old;
@@ -199,9 +214,6 @@ module _ {C : Type 0} (tells : Bool) (show : C → CoreView) (was last now : Kno
         after = c.after;
       }
 
-  abbrev found : Known C
-  found = finds n (with_locks was.holds (was.met ++ a.more) was)
-
   commits_if : (b waits : Bool) → MatchBool b (MatchBool waits (HasSettled tells found reply now) (call ≢ Settle → HasCommitted tells found reply now)) (SeesOwn found now)
       → MatchBool b (MatchBool waits (HasSettled tells was reply now) (call ≢ Settle → HasCommitted tells was reply now)) (SeesOwn was now)
   commits_if true true h = record { at = h.at; last = h.last; before = h.before; mine = h.mine; seen = h.seen; told = h.told }
@@ -215,8 +227,19 @@ module _ {C : Type 0} (tells : Bool) (show : C → CoreView) (was last now : Kno
   after_since h = subst (λ (j : Known C). HasAfter call reply j now) a.is h
 
 module _ {C : Type 0} where
+  -- no try, and one call's behind another's
+  pub again_none : (was : Known C) → IsAgain was.found was was
+  again_none was = record {
+    more = [];
+    tries = 0;
+    is = let tries : was.tries ≡ was.tries + 0 = omega arith in λ i. tried (tries i) (with_locks was.holds (sym (append-nil was.met) i) was);
+  }
+
   pub again_twice : (was last now : Known C) (m n : ℕ) → IsAgain m was last → IsAgain n last now → IsAgain n was now
   again_twice was last now m n a b = record {
     more = a.more ++ b.more;
-    is = b.is ∙ ap (λ (j : Known C). finds n (with_locks j.holds (j.met ++ b.more) j)) a.is ∙ ap (λ (ms : List Met). finds n (with_locks was.holds ms was)) (append_assoc was.met a.more b.more);
+    tries = a.tries + b.tries;
+    is = b.is ∙ ap (λ (j : Known C). tried (j.tries + b.tries) (finds n (with_locks j.holds (j.met ++ b.more) j))) a.is
+        ∙ (let tries : (was.tries + a.tries) + b.tries ≡ was.tries + (a.tries + b.tries) = omega arith in
+        λ i. tried (tries i) (finds n (with_locks was.holds (append_assoc was.met a.more b.more i) was)));
   }

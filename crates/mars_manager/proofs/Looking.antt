@@ -26,28 +26,28 @@ use Rattle.mars_manager.specs.Seat.{SeatOf, shared_view, seat_of, first_of, IsId
 use Rattle.mars_manager.specs.Rule.{Face, Took, HasRead}
 use Rattle.mars_manager.proofs.Committing.{sees}
 use Rattle.mars_manager.proofs.Calls.{homed}
-use Rattle.mars_manager.proofs.Turns.{some_same, found_fit}
+use Rattle.mars_manager.proofs.Turns.{some_same, fit_before}
 
-module _ {C : Type 0} (f : Face C) (m0 m1 m2 m3 : SeatOf C) (k : Known C) (core : C) (home : Option C) (idle : m0 ≡ (shared_view (k ∷ []) None, [])) (took : Took f m0 m1)
-    (taken : m1.1 ≡ (0, home) ∷ rest m1.1) (is : home ≡ Some core) (out_is : m2 ≡ (m1.0, (0, None) ∷ rest m1.1)) (back : m3 ≡ (m2.0, (0, Some core) ∷ rest m2.1)) where
+module _ {C : Type 0} (f : Face C) (m0 m1 m2 m3 : SeatOf C) (k : Known C) (core new : C) (same : new ≡ core) (home : Option C) (idle : m0 ≡ (shared_view (k ∷ []) None, [])) (took : Took f m0 m1)
+    (taken : m1.1 ≡ (0, home) ∷ rest m1.1) (is : home ≡ Some core) (out_is : m2 ≡ (m1.0, (0, None) ∷ rest m1.1)) (back : m3 ≡ (m2.0, (0, Some new) ∷ rest m2.1)) where
   -- the seat once the core is back in its slot
   pub home_again : m3 ≡ (shared_view (finds 0 k ∷ []) (Some core), (0, Some core) ∷ [])
-  home_again = homed f m0 m1 m2 m3 k core core home idle took taken is out_is back
+  home_again = homed f m0 m1 m2 m3 k core new home idle took taken is out_is back ∙ ap (λ (c : C). (let m : SeatOf C = (shared_view (finds 0 k ∷ []) (Some core), (0, Some c) ∷ []) in m)) same
 
   module _ (m4 : SeatOf C) (gives : (c : C) → m3.0.held ≡ Some c → HasRead f c m3 m4) where
     pub read_record : HasRead f core m3 m4
     read_record = gives core (ap (λ (m : SeatOf C). m.0.held) home_again)
 
     -- the seat once the turn is given up
-    pub read_seat : m4 ≡ seat_of (known_at k read_record.turns (f.show core).state)
+    pub read_seat : m4 ≡ seat_of (known_at (finds 0 k) read_record.turns (f.show core).state)
     read_seat = let F : SeatOf C → SeatOf C = λ m. (shared_view (map (λ (known : Known C). known_at known read_record.turns (f.show core).state) m.0.passes) None, []) in read_record.now ∙ ap F home_again
 
     read_fit : Fits f.tells f.show read_record.setup read_record.turns (f.show core).state k
     read_fit =
         let all = subst (λ (ks : List (Known C)). AllFit f.tells f.show read_record.setup read_record.turns (f.show core).state ks) (ap (λ (m : SeatOf C). m.0.passes) home_again) read_record.fit in
-        found_fit f read_record.setup read_record.turns core k.found (finds 0 k) all.0
+        fit_before f read_record.setup read_record.turns core 0 k all.0
 
-    pub read_known : first_of m4.0.passes ≡ known_at k read_record.turns (f.show core).state
+    pub read_known : first_of m4.0.passes ≡ known_at (finds 0 k) read_record.turns (f.show core).state
     read_known = ap (λ (m : SeatOf C). first_of m.0.passes) read_seat
 
     pub one_seat_read : m4 ≡ seat_of (first_of m4.0.passes)

@@ -17,7 +17,7 @@ use Rattle.stripe_words.specs.declared.hold.Hold.{Hold}
 use Rattle.stripe_words.specs.declared.hold.Hold.TheVariants.{Free, Trying, Shared, Exclusive}
 use Rattle.stripe_words.specs.Words.{granted, locked, raised}
 use Rattle.mars_manager.specs.declared.view.Known.{Known}
-use Rattle.mars_manager.specs.Pass.{told_of, own_by, live_of, waits_of, takes_of, names_in, names_of, known_after}
+use Rattle.mars_manager.specs.Pass.{told_of, own_by, live_of, waits_of, takes_of, names_in, names_of, known_after, tried}
 use Rattle.mars_manager.specs.Locks.{locks, IsCovered, IsBelow, raised_for, is_end, is_last, takes_after, touched_by, hold_of, with_holds, with_locks, HasLockedFor, HasReadied, HasAfter}
 use Rattle.mars_manager.specs.Sharing.{Called, Commits, HasCommitted, HasSettled, SeesOwn}
 use Rattle.mars_manager.specs.Seat.{HasMade}
@@ -137,7 +137,8 @@ module _ {C : Type 0} where
     called_locks k3 hs e =
         let c : Called tells show (with_locks k1.holds (k.met ++ r.more) k) call reply k2 = subst (λ (j : Known C). Called tells show j call reply k2) r.same m.called in
         let holds : k3.holds ≡ hs = ap (λ (j : Known C). j.holds) e in
-        let met : k3.met ≡ k2.met = ap (λ (j : Known C). j.met) e in record {
+        let met : k3.met ≡ k2.met = ap (λ (j : Known C). j.met) e in
+        let tries : k3.tries ≡ k2.tries = ap (λ (j : Known C). j.tries) e in record {
           setup = c.setup;
           turns = c.turns;
           old = c.old;
@@ -151,7 +152,7 @@ module _ {C : Type 0} where
           steps = c.steps;
           dead = c.dead;
           purge = c.purge;
-          after = e ∙ ap (with_holds hs) c.after ∙ (λ i. with_locks (sym holds i) (sym met i) (known_after k c.turns (show c.new).state call reply));
+          after = e ∙ ap (with_holds hs) c.after ∙ (λ i. tried (sym tries i) (with_locks (sym holds i) (sym met i) (known_after k c.turns (show c.new).state call reply)));
         }
 
     -- what it says of its caller's own transactions asks for no stripes

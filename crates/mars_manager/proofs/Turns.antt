@@ -117,6 +117,10 @@ module _ {C : Type 0} (f : Face C) (setup : Setup C) where
   pub found_fit : (turns : List Turn) (core : C) (n : ℕ) (k : Known C) → Fits f.tells f.show setup turns (f.show core).state k → Fits f.tells f.show setup turns (f.show core).state (finds n k)
   found_fit turns core n k h = record { setup_is = h.setup_is; last = h.last; heard = h.heard }
 
+  -- and was true before
+  pub fit_before : (turns : List Turn) (core : C) (n : ℕ) (k : Known C) → Fits f.tells f.show setup turns (f.show core).state (finds n k) → Fits f.tells f.show setup turns (f.show core).state k
+  fit_before turns core n k h = record { setup_is = h.setup_is; last = h.last; heard = h.heard }
+
   -- The rule holds again if the core and its run stay as they were, and as many passes of each number are there.
   pub same_run : (s : TableOf C) (h : IsKept f setup s) (words : List ℕ) (homes : List (Home (Option C))) (views : List (View C)) → length words ≡ 66 → length homes ≡ 1
       → get_or words 65 0 ≡ length (f.show h.core).state.history

@@ -60,12 +60,23 @@ IsReadingBelow n step = (step.stripe < n) × IsUpTo step.asked mode.Shared
 abbrev pub IsStepOf : List (List ℕ) → Call → Met → Type 0
 IsStepOf names call step = (asked : Mode) × IsTrue (locks names call step.stripe asked) × IsUpTo step.asked asked
 
+-- each step is for this stripe or one above, and for none below that of the step before
+abbrev pub AreRising : ℕ → List Met → Type 0
+AreRising low [] = Unit {0}
+AreRising low (step ∷ steps) = (low ≤ step.stripe) × AreRising step.stripe steps
+
 module _ {C : Type 0} where
   -- a pass made more steps on words of stripes, each of this kind
   pub record Meets (Holds : Met → Type 0) (was now : Known C) : Type 0 where
     pub more : List Met
     pub is : now.met ≡ was.met ++ more
     pub each : (step : Met) → Contains more step → Holds step
+
+  -- it made them by rising stripe
+  pub record AsksUp (was now : Known C) : Type 0 where
+    pub more : List Met
+    pub is : now.met ≡ was.met ++ more
+    pub rising : AreRising 0 more
 
   -- the steps of each of the passes are those of its number
   abbrev pub AreMet : (ℕ → List Met) → List (PassView C) → Type 0

@@ -1,5 +1,5 @@
 -- What a pass has of the stripes of keys, and how its steps change that.
-use Rattle.std.specs.Prelude.{ℕ, ◌≡◌, ◌≢◌, ◌<◌, ◌≤◌, ◌+◌, ◌/◌, ◌^◌, ◌==◌, Bool, true, false, not, ◌&&◌, IsTrue, IsFalse, MatchBool, filter, Option, None, if◌then◌else◌, List, [], ◌∷◌, ◌++◌, length, replicate, slice_index_or, slice_set, unwrap_or}
+use Rattle.std.specs.Prelude.{ℕ, ◌≡◌, ◌≢◌, ◌<◌, ◌≤◌, ◌+◌, ◌/◌, ◌^◌, ◌==◌, Bool, true, false, not, ◌&&◌, IsTrue, IsFalse, MatchBool, filter, Option, None, if◌then◌else◌, List, [], ◌∷◌, ◌++◌, length, replicate, slice_index_or, slice_set, unwrap_or, Result, Ok, Err}
 use Rattle.std.specs.Int.{bit_at}
 use Rattle.record_slots.specs.Names.{number_of}
 use Rattle.history.specs.Table.{Granted}
@@ -19,7 +19,7 @@ use Rattle.mars_manager.specs.declared.locking.Lock.{Lock}
 use Rattle.mars_manager.specs.declared.locking.Lock.TheVariants.{Held, Busy, NoTransaction}
 use Rattle.mars_manager.specs.declared.view.Met.{Met}
 use Rattle.mars_manager.specs.declared.view.Known.{Known}
-use Rattle.mars_manager.specs.Pass.{live_of, takes_of, names_of, finds}
+use Rattle.mars_manager.specs.Pass.{live_of, takes_of, names_of, finds, tried}
 
 -- what is touched for reading is shared or exclusive, and what is touched for writing is exclusive
 pub record IsCovered (touch : ℕ → Touch) (holds : List Hold) : Type 0 where
@@ -68,6 +68,11 @@ is_last call = is_end call
 -- whether a caller has a live transaction that takes calls, after a call
 abbrev pub takes_after : Bool → Call → Reply → Bool
 takes_after takes call reply = if is_media reply then takes && not (is_commit call) else (if is_refusal reply then takes else not (is_last call))
+
+-- how often a call tries for the turn, by what it answers: not at all where a stripe is held, and else once
+abbrev pub tries_for : {A : Type 0} → Result Reply A → ℕ
+tries_for (Ok reply) = if is_busy reply then 0 else 1
+tries_for (Err again) = 1
 
 -- the replies that came of a turn; a `Busy` comes of the word of a stripe
 abbrev pub steps_of : Granted → Granted
@@ -180,10 +185,11 @@ module _ {C : Type 0} where
   IsBusyBy call (says.Busy h) was now = IsTrue (takes_of was) × IsRefusedFor call h was now
   IsBusyBy call reply was now = Unit {0}
 
-  -- another pass had the turn: but for what the pass found it knows and has what it did before
+  -- another pass had the turn, at so many tries: but for what the pass found it knows and has what it did before
   pub record IsAgain (n : ℕ) (was now : Known C) : Type 0 where
     pub more : List Met
-    pub is : now ≡ finds n (with_locks was.holds (was.met ++ more) was)
+    pub tries : ℕ
+    pub is : now ≡ tried (was.tries + tries) (finds n (with_locks was.holds (was.met ++ more) was))
 
   -- What a pass has after a call: what it had if the call was refused, nothing if its caller then has no transaction, and else also what it locks.
   abbrev pub HasAfter : Call → Reply → Known C → Known C → Type 0

@@ -60,7 +60,7 @@ module _ {C : Type 0} where
 
   -- a pass that was told nothing
   abbrev pub newcomer : Setup C → ℕ → Known C
-  newcomer setup caller = record { number = caller; setup = Some setup; past = []; seen = []; heard = 0; found = 0; holds = replicate 64 Free; met = [] }
+  newcomer setup caller = record { number = caller; setup = Some setup; past = []; seen = []; heard = 0; found = 0; tries = 0; holds = replicate 64 Free; met = [] }
 
   -- what a pass knows after a step of its caller that came after these turns and left this state
   abbrev pub known_after : Known C → List Turn → State → Call → Reply → Known C
@@ -70,9 +70,13 @@ module _ {C : Type 0} where
   abbrev pub known_at : Known C → List Turn → State → Known C
   known_at was turns state = record was { past = turns; seen = state.history; found = 0 }
 
-  -- what a pass knows once it has tried for the turn and found this number
+  -- what a pass knows once it has tried for the turn, once more, and found this number
   abbrev pub finds : ℕ → Known C → Known C
-  finds n known = record known { found = n }
+  finds n known = record known { found = n; tries = known.tries + 1 }
+
+  -- a pass that has tried for the turn so often
+  abbrev pub tried : ℕ → Known C → Known C
+  tried n known = record known { tries = n }
 
   -- what a pass knows once it has looked
   abbrev pub hears : ℕ → Known C → Known C

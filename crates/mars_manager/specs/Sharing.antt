@@ -18,7 +18,7 @@ use Rattle.caller_steps.specs.Run.{Turn, GoesAlong, AreOf, LastTurn}
 use Rattle.mars_manager.specs.declared.setup.Setup.{Setup}
 use Rattle.mars_manager.specs.declared.view.Known.{Known}
 use Rattle.mars_manager.specs.Locks.{with_locks}
-use Rattle.mars_manager.specs.Pass.{PassView, AreSo, known_after, known_at, live_of, waits_of}
+use Rattle.mars_manager.specs.Pass.{PassView, AreSo, known_after, known_at, finds, tried, live_of, waits_of}
 
 -- what contracts see of a shared core: its table and how it was shared
 pub record MarsView (C : Type 0) : Type 0 where
@@ -64,10 +64,10 @@ module _ {C : Type 0} where
     pub steps : Steps tells was.number call (show old) (show new) reply
     pub dead : IsTrue (show old).state.is_dead → (reply ≡ Dead) × (new ≡ old)
     pub purge : call ≡ Purge → PurgeCause (show old).state was.number reply
-    pub after : now ≡ with_locks now.holds now.met (known_after was turns (show new).state call reply)
+    pub after : now ≡ tried now.tries (with_locks now.holds now.met (known_after was turns (show new).state call reply))
 
   -- A pass has read the history of a core that the shared one has come to by a run. Before, its past was this run up to its last turn, and it
-  -- had seen the history then. Now its past is the whole run, and it has seen the whole history.
+  -- had seen the history then. Now its past is the whole run, and it has seen the whole history. It has tried for the turn once.
   pub record Reads (tells : Bool) (show : C → CoreView) (was now : Known C) : Type 0 where
     pub setup : Setup C
     pub turns : List Turn
@@ -77,7 +77,7 @@ module _ {C : Type 0} where
     pub whose : AreOf setup.callers turns
     pub ready : CanShare tells setup.callers (show setup.first)
     pub last : LastTurn tells (show setup.first).limits was.number was.past was.seen (show setup.first).state turns (show core).state
-    pub after : now ≡ known_at was turns (show core).state
+    pub after : now ≡ known_at (finds 0 was) turns (show core).state
 
   -- The core that comes back was reached by a run of these callers, and what these passes know is true of it: the past of each is this one run
   -- up to its last turn.

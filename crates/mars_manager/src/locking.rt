@@ -3,7 +3,7 @@ ghost use Rattle.std.specs.Prelude.{ℕ, ◌≡◌, ◌<◌, IfOk, IfErr, slice_
 ghost use Rattle.history.specs.declared.locks.Mode.TheVariants as mode;
 ghost use Rattle.stripe_words.specs.declared.hold.Hold.TheVariants.{Free, Shared};
 ghost use Rattle.mars_manager.specs.Pass.{names_of};
-ghost use Rattle.mars_manager.specs.Asked.{IsStepFor, IsReadingBelow, IsStepOf, Meets};
+ghost use Rattle.mars_manager.specs.Asked.{IsStepFor, IsReadingBelow, IsStepOf, Meets, AsksUp};
 ghost use Rattle.mars_manager.specs.Locks.{number_asked, IsCovered, IsBelow, Locks, HasReadable, HasLocked, HasLockedFor, IsRefused, IsRefusedFor, FindsOther, hold_of, touched_by, with_hold, with_holds, noted, excluded_by};
 
 use crate::mars::Mars;
@@ -189,6 +189,7 @@ impl<C: Core + Drop> Mars<C> {
         ensures held { IfOk result (λ _. HasReadable 64 pass.old.known pass.new.known) }
         ensures busy { IfErr result (λ e. (e.0 < 64) × IsRefused mode.Shared e.0 e.1.holder pass.old.known pass.new.known) }
         ensures steps { Meets (IsReadingBelow 64) pass.old.known pass.new.known }
+        ensures rising { AsksUp pass.old.known pass.new.known }
     {
         pass.number();
         let before = pass.holds;
@@ -208,6 +209,7 @@ impl<C: Core + Drop> Mars<C> {
         ensures held { IfOk result (λ _. HasLockedFor call.now pass.old.known pass.new.known) }
         ensures busy { IfErr result (λ b. IsRefusedFor call.now b.holder pass.old.known pass.new.known) }
         ensures steps { Meets (IsStepOf (names_of pass.old.known) call.now) pass.old.known pass.new.known }
+        ensures rising { AsksUp pass.old.known pass.new.known }
     {
         pass.number();
         let Some(table) = table_asked(&pass.names, call) else {

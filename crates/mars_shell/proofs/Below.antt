@@ -39,6 +39,7 @@ module _ (Opens : Shape → List ℕ → List ℕ → Type 0) (index : Index) (o
     final = served.final;
     runs = served.runs;
     says = served.says;
+    names = served.names;
     base = served.base;
     legal = served.legal;
     since = served.since;

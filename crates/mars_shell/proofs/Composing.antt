@@ -52,8 +52,8 @@ use Rattle.array_runs.specs.Records.{HoldsRecords, IsDamaged, Exceeds, OverRecor
 use Rattle.mars_shell.specs.Run.{TakesTurns, Answers}
 use Rattle.mars_shell.specs.FramedRun.{RunsAs}
 use Rattle.told_commands.specs.Tables.{Tries, MadeBy}
-use Rattle.told_commands.specs.Purge.{HasRecords, PurgedBy}
-use Rattle.told_commands.specs.Told.{WorksOn}
+use Rattle.told_commands.specs.Purge.{PurgedBy}
+use Rattle.told_commands.specs.Told.{HasNames, WorksOn}
 use Rattle.array_runs.specs.declared.status.Status.{Status}
 use Rattle.array_runs.specs.declared.status.Status.TheVariants.{Good, Usage, TooLong, ReadFault, WriteFault, MediaFault, NoMemory, Damaged, BadRow, NotMars, BadShape, Refused, BadFrame, Gap}
 use Rattle.array_runs.proofs.Forming.{sound_is_own}
@@ -209,7 +209,7 @@ module _ (tells : Bool) (told : IsTrue tells) (old new : View) (counts_now : (t 
         ⊎_elim (λ over. records_sound true 0 (MadeBy name old new cut text) status cut text (made_by_sound name cut text) over) (λ refused. tried_sound name refused.2.shape refused.2.tries) outcome
 
     -- and so are those that were to be purged
-    cleared_sound : (at : Shape) → WorksOn at (HasRecords at old) old new → AllSound shape form new.content
+    cleared_sound : (at : Shape) → WorksOn at (HasNames at old) old new → AllSound shape form new.content
     cleared_sound at clears image left =
         let same : at ≡ shape = one_shape (header_of old.content.bytes) at shape clears.holds.array.header opened.header in
         let all : AllOpen at old.content = subst (λ (s : Shape). AllOpen s old.content) (sym same) (all_open old shape form sound) in

@@ -1,13 +1,12 @@
 -- Which index the data has, and work under that index.
-use Rattle.std.proofs.Common.{◌≡◌, ℕ, ◌≤◌, Bool, false, List, sym, ap, subst, ◌∙◌, length, arith, Result, Ok, Err}
-use Rattle.std.proofs.lemmas.List.Elements.{All-nil}
-use Rattle.history.specs.declared.transaction.Done.{Done}
+use Rattle.std.proofs.Common.{◌≡◌, ◌⊎◌, ℕ, inl, Bool, false, List, sym, ap, subst, ◌∙◌, length, Result, Ok, Err}
 use Rattle.std.specs.Prelude.{IsTrue}
 use Rattle.mars_base.proofs.Going as going
 use Rattle.array_shape.specs.declared.shape.Shape.{Shape}
 use Rattle.eaw_face.specs.State.{State}
 use Rattle.eaw_face.specs.StoreView.{StoreView, LeavesOnly}
 use Rattle.page_store.specs.Index.{Index}
+use Rattle.record_table.specs.Names.{names_of}
 use Rattle.record_table.specs.Shown.{table_of}
 use Rattle.record_table.specs.Upgrading.{upgraded}
 use Rattle.caller_steps.specs.State as face
@@ -42,7 +41,6 @@ module _ (tells : Bool) (told : IsTrue tells) (Opens : Shape → List ℕ → Li
     served_on : (Says : Limits → List Turn → face.State → Type 0) (ended : Ended) → Served Says Opens index mid ended new → Served Says Opens index old ended new
     served_on Says ended served =
         let sound = subst (λ (b : List ℕ). index.sound b) bytes_are served.sound in
-        let base : served.final.base ≡ table_of index old.state.bytes = served.base ∙ ap (table_of index) bytes_are in
         record {
           sound = sound;
           shape = served.shape ∙ says.shape;
@@ -50,15 +48,11 @@ module _ (tells : Bool) (told : IsTrue tells) (Opens : Shape → List ℕ → Li
           final = served.final;
           runs = of_first (λ l s. Runs l s served.turns served.final) served.runs;
           says = subst (λ (s : Shape). Says (limits_of index s) served.turns served.final) says.shape served.says;
-          base = base;
+          names = served.names ∙ ap names_of bytes_are;
+          base = served.base ∙ ap (table_of index) bytes_are;
           legal = served.legal;
-          since = going.then (going.weaker (λ image opens. record {
-            count = 0;
-            at_least = omega arith;
-            at_most = omega arith;
-            whole = All-nil (λ (done : Done). done.last ≤ 0);
-            opens = record { bytes = old.state.bytes; opened = opens; sound = sound; shows = sym base };
-          }) (says.time told)) (subst (λ (s : Shape). LeavesOnly (opens_of Opens s index served.final 0) mid new) says.shape served.since);
+          since = going.then (going.weaker (λ image opens. inl opens) (says.time told))
+              (subst (λ (x : Shape × List ℕ). LeavesOnly (λ image. Opens x.0 image x.1 ⊎ opens_of Opens x.0 index served.final 0 image) mid new) (λ i. (says.shape i, bytes_are i)) served.since);
           now = λ image left. subst (λ (s : Shape). opens_of Opens s index served.final (length served.final.history) image) says.shape (served.now image left);
           left = served.left;
           unwritten = λ unfailed reads. served.unwritten unfailed reads ∙ ap upgraded bytes_are;

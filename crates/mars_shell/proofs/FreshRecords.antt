@@ -10,6 +10,9 @@ use Rattle.eaw_device.specs.Made.{HasPages}
 use Rattle.record_slots.specs.Fresh.{fresh_page, fresh_super}
 use Rattle.record_slots.proofs.MainAlone.{says_main}
 use Rattle.page_store.specs.Pairs.{Pair}
+use Rattle.history.specs.Key.{main_name}
+use Rattle.record_slots.specs.Names.{names_in}
+use Rattle.record_table.specs.Names.{names_of}
 use Rattle.record_slots.specs.Places.{page_bytes, next_page, tables_of, IsSuper}
 use Rattle.record_slots.specs.Super.{SaysSuper, HasTables, main_table, tables_in, tables_said}
 use Rattle.record_slots.specs.declared.super_page.TableEntry.{TableEntry}
@@ -42,6 +45,9 @@ module _ (shape : Shape) (bytes : List ℕ) (pages : HasPages shape fresh_page (
   alone : tables_of (data_of shape bytes) ≡ main_table ∷ []
   unfolding tables_said
   alone = (λ i. tables_in (sym first.version i) (sym first.entries i)) ∙ main_used
+
+  pub fresh_names : names_of (data_of shape bytes) ≡ main_name ∷ []
+  fresh_names = ap names_in alone
 
   front : IsSuper 1 (data_of shape bytes)
   front = record {

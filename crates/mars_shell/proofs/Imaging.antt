@@ -1,5 +1,5 @@
 -- What images hold, without their bytes.
-use Rattle.std.proofs.Common.{◌≡◌, ℕ, ◌^◌, ◌<◌, ◌≤◌, ◌⊎◌, inl, inr, ⊎_elim, List, length, Bool, true, false, sym, ap, subst, ◌∙◌, arith}
+use Rattle.std.proofs.Common.{◌≡◌, ℕ, ◌^◌, ◌<◌, ◌≤◌, ◌⊎◌, inl, inr, ⊎_elim, List, [], ◌∷◌, ◌++◌, length, Bool, true, false, refl, sym, ap, subst, ◌∙◌, arith}
 use Rattle.std.proofs.lemmas.List.Elements.{All-nil}
 use Rattle.std.specs.FinMap.{empty}
 use Rattle.history.specs.declared.transaction.Done.{Done}
@@ -13,7 +13,9 @@ use Rattle.row_bytes.proofs.OneShape.{one_shape}
 use Rattle.eaw_device.specs.Opens.{header_of, Opens, AllOpen, HoldsArray, OpensLike}
 use Rattle.page_store.specs.Index.{Index}
 use Rattle.history.specs.Writes.{Table}
-use Rattle.record_table.specs.Does.{OpensWith, OpensNamed}
+use Rattle.history.specs.Key.{main_name}
+use Rattle.record_table.specs.Does.{OpensNamed}
+use Rattle.record_table.specs.Names.{names_of}
 use Rattle.record_table.specs.Shown.{table_of}
 use Rattle.record_table.specs.Upgrading.{upgraded}
 use Rattle.caller_steps.specs.State.{State}
@@ -22,18 +24,20 @@ use Rattle.caller_steps.specs.Run.{Turn}
 use Rattle.command_words.specs.declared.words.FormatNumbers.{FormatNumbers}
 use Rattle.command_words.specs.declared.words.Words.{Words}
 use Rattle.command_words.specs.declared.words.Words.TheVariants.{Run, Callers, Eaw, Dump, Drill, Format, Make, Purge, Follow}
+use Rattle.mars_core.specs.Over.{OpensWithTables}
 use Rattle.script_run.specs.declared.ended.Ended.{Ended}
 use Rattle.script_run.specs.declared.ended.Ended.TheVariants as script
 use Rattle.array_runs.specs.Forms.{index_of_form, index_at, index_in}
 use Rattle.array_runs.specs.Outcome.{Idle, OpensInTwo}
 use Rattle.array_runs.specs.Records.{IsDamaged, Exceeds, OverRecords}
+use Rattle.array_runs.specs.declared.status.Refusal.{Refusal}
 use Rattle.array_runs.specs.declared.status.Status.{Status}
-use Rattle.array_runs.specs.declared.status.Status.TheVariants.{Good, WriteFault}
+use Rattle.array_runs.specs.declared.status.Status.TheVariants.{Good, WriteFault, Refused}
 use Rattle.array_runs.proofs.Forming.{sound_is_own}
 use Rattle.told_commands.specs.Dump.{DumpsRecords}
-use Rattle.told_commands.specs.Tables.{Tries, HasNames, HasNewName, MadeBy}
-use Rattle.told_commands.specs.Purge.{HasRecords, PurgedBy}
-use Rattle.told_commands.specs.Told.{WorksOn}
+use Rattle.told_commands.specs.Tables.{Tries, HasNewName, MakesTable, MadeBy, names_on}
+use Rattle.told_commands.specs.Purge.{PurgedBy}
+use Rattle.told_commands.specs.Told.{HasNames, WorksOn}
 use Rattle.reader_work.specs.Readership.{passes_for}
 use Rattle.mars_shell.specs.Asked.{OutcomeFor}
 use Rattle.mars_shell.specs.Drill.{Drills}
@@ -41,46 +45,71 @@ use Rattle.mars_shell.specs.Formats.{HasAsked, IsFormatted, FormatOutcome}
 use Rattle.mars_shell.specs.FramedRun.{RunsAs}
 use Rattle.mars_shell.specs.Joint.{JointWork}
 use Rattle.mars_shell.specs.Late.{is_late}
-use Rattle.mars_shell.specs.Next.{AllSound, IsOf, AllAreOf, IsOfPrefix, IsOfRecords, ChangesNone, records_on}
+use Rattle.mars_shell.specs.Next.{AllSound, IsOf, AllAreOf, IsOfPrefix, IsOfRecords, ChangesNone, MayName, records_on}
 use Rattle.mars_shell.specs.PrefixLaw.{PrefixLaw, Recovers}
 use Rattle.mars_shell.specs.Run.{TakesTurns, Answers}
 use Rattle.mars_shell.proofs.Composing.{data_short, outcome_gives, own_index, all_open}
+use Rattle.mars_shell.proofs.FreshRecords.{fresh_names}
 
 -- the records of the data that an image settles to, under the index that this data names
 abbrev own_records : List ℕ → Table
 own_records bytes = table_of (index_at bytes) bytes
 
-records_are : (shape : Shape) (form : ℕ) (table : Table) (image : List ℕ) → IsOf shape form table image → own_records (settled_data shape image) ≡ table
+-- a status with which something was told is no refusal
+abbrev IsTold : Status → Type 0
+IsTold (Refused refusal) = ⊥
+IsTold status = Unit {0}
+
+not_refused : (status : Status) (refusal : Refusal) → IsTold status → status ≡ Refused refusal → ⊥
+not_refused status refusal told is = subst IsTold is told
+
+records_are : (shape : Shape) (form : ℕ) (names : List (List ℕ)) (table : Table) (image : List ℕ) → IsOf shape form names table image → own_records (settled_data shape image) ≡ table
 unfolding table_of
-records_are shape form table image of =
+records_are shape form names table image of =
     ap own_records of.opened.stands.gives ∙ (ap (λ (i : Index). table_of i of.bytes) (sound_is_own form of.bytes of.sound) ∙ of.shows)
 
-pub one : (shape other : Shape) (form its : ℕ) (table records : Table) (image : List ℕ) → IsOf shape form table image → IsOf other its records image → (shape ≡ other) × (table ≡ records)
-one shape other form its table records image of also =
-    let same : shape ≡ other = one_shape (header_of image) shape other of.opened.header also.opened.header in
-    (same, sym (records_are shape form table image of) ∙ (ap (λ (s : Shape). own_records (settled_data s image)) same ∙ records_are other its records image also))
+names_are : (shape : Shape) (form : ℕ) (names : List (List ℕ)) (table : Table) (image : List ℕ) → IsOf shape form names table image → names_of (settled_data shape image) ≡ names
+names_are shape form names table image of = ap names_of of.opened.stands.gives ∙ of.named
 
-formatted : (numbers : FormatNumbers) (old new : View) (cut : Bool) (text : List ℕ) → IsFormatted numbers old new cut text → (shape : Shape) × HasAsked numbers shape × AllAreOf shape 1 empty new.content
-formatted numbers old new cut text made =
-    (made.begun.shape, made.begun.numbers, λ image left. record { bytes = _; opened = made.opens image left; sound = made.sound; shows = made.none })
+pub one : (shape other : Shape) (form its : ℕ) (names called : List (List ℕ)) (table records : Table) (image : List ℕ) → IsOf shape form names table image → IsOf other its called records image
+    → (shape ≡ other) × (names ≡ called) × (table ≡ records)
+one shape other form its names called table records image of also =
+    let same : shape ≡ other = one_shape (header_of image) shape other of.opened.header also.opened.header in (
+      same,
+      sym (names_are shape form names table image of) ∙ (ap (λ (s : Shape). names_of (settled_data s image)) same ∙ names_are other its called records image also),
+      sym (records_are shape form names table image of) ∙ (ap (λ (s : Shape). own_records (settled_data s image)) same ∙ records_are other its called records image also),
+    )
+
+formatted : (numbers : FormatNumbers) (old new : View) (cut : Bool) (text : List ℕ) → IsFormatted numbers old new cut text → (shape : Shape) × HasAsked numbers shape × AllAreOf shape 1 (main_name ∷ []) empty new.content
+formatted numbers old new cut text made = (
+  made.begun.shape,
+  made.begun.numbers,
+  λ image left. record {
+    bytes = _;
+    opened = made.opens image left;
+    sound = made.sound;
+    named = fresh_names made.begun.shape new.content.bytes made.fresh.parts.pages;
+    shows = made.none;
+  },
+)
 
 pub made : (numbers : FormatNumbers) (old new : View) (status : Status) (cut : Bool) (text : List ℕ) → (status ≡ Good) ⊎ (status ≡ WriteFault) → FormatOutcome numbers old status new cut text
-    → (shape : Shape) × HasAsked numbers shape × AllAreOf shape 1 empty new.content
+    → (shape : Shape) × HasAsked numbers shape × AllAreOf shape 1 (main_name ∷ []) empty new.content
 made numbers old new status cut text (inl is) outcome = formatted numbers old new cut text (subst (λ (s : Status). FormatOutcome numbers old s new cut text) is outcome).1
 made numbers old new status cut text (inr is) outcome = formatted numbers old new cut text (subst (λ (s : Status). FormatOutcome numbers old s new cut text) is outcome).1
 
-module _ (old : View) (shape : Shape) (form : ℕ) (table : Table) (all : AllAreOf shape form table old.content) where
-  here : IsOf shape form table old.content.bytes
+module _ (old : View) (shape : Shape) (form : ℕ) (names : List (List ℕ)) (table : Table) (all : AllAreOf shape form names table old.content) where
+  here : IsOf shape form names table old.content.bytes
   here = all old.content.bytes (left_as_read old.content)
 
   all_sound : AllSound shape form old.content
   all_sound image left = let of = all image left in (of.bytes, of.opened, of.sound)
 
-  pub reads : records_on shape old ≡ table
-  reads = records_are shape form table old.content.bytes here
+  pub reads : (names_on shape old ≡ names) × (records_on shape old ≡ table)
+  reads = (names_are shape form names table old.content.bytes here, records_are shape form names table old.content.bytes here)
 
-  -- data with which an image opens that could be left at first is sound, and has the records
-  like_of : (earlier image bytes : List ℕ) → MayLeave old.content earlier → Opens shape earlier bytes → Opens shape image bytes → IsOf shape form table image
+  -- data with which an image opens that could be left at first is sound, and has the tables and the records
+  like_of : (earlier image bytes : List ℕ) → MayLeave old.content earlier → Opens shape earlier bytes → Opens shape image bytes → IsOf shape form names table image
   like_of earlier image bytes left opens opened =
       let first = all earlier left in
       let same : first.bytes ≡ bytes = sym first.opened.stands.gives ∙ opens.stands.gives in
@@ -88,15 +117,19 @@ module _ (old : View) (shape : Shape) (form : ℕ) (table : Table) (all : AllAre
         bytes = bytes;
         opened = opened;
         sound = subst (λ (b : List ℕ). (index_of_form form).sound b) same first.sound;
+        named = subst (λ (b : List ℕ). names_of b ≡ names) same first.named;
         shows = subst (λ (b : List ℕ). table_of (index_of_form form) b ≡ table) same first.shows;
       }
 
-  like : (image : List ℕ) → OpensLike shape old.content image → IsOf shape form table image
+  like : (image : List ℕ) → OpensLike shape old.content image → IsOf shape form names table image
   like image opens = like_of opens.0 image opens.2 opens.1 opens.3 opens.4
 
   -- so does data of the index that the medium's data names
-  own : (records : Table) (image : List ℕ) → OpensWith (Opens shape) (index_in shape old) image records → IsOf shape form records image
-  own records image opens = subst (λ (i : Index). OpensWith (Opens shape) i image records) (own_index old shape form all_sound) opens
+  own : (called : List (List ℕ)) (records : Table) (image : List ℕ) → OpensNamed (Opens shape) (index_in shape old) image called records → IsOf shape form called records image
+  own called records image opens = subst (λ (i : Index). OpensNamed (Opens shape) i image called records) (own_index old shape form all_sound) opens
+
+  own_tables : (called : List (List ℕ)) (records : Table) (image : List ℕ) → OpensWithTables (Opens shape) (index_in shape old) called image records → IsOf shape form called records image
+  own_tables called records image o = own called records image (record { bytes = o.bytes; opened = o.opened; sound = o.sound; named = o.named; shows = o.shows })
 
   own_prefix : (final : State) (least : ℕ) (image : List ℕ) → Recovers shape (index_in shape old) final least image → IsOfPrefix shape form final least image
   own_prefix final least image recovers = record {
@@ -104,13 +137,16 @@ module _ (old : View) (shape : Shape) (form : ℕ) (table : Table) (all : AllAre
     at_least = recovers.at_least;
     at_most = recovers.at_most;
     whole = recovers.whole;
-    opens = own _ image recovers.opens;
+    opens = own_tables final.names _ image recovers.opens;
   }
 
-  module _ (new : View) (final : State) (base : final.base ≡ records_on shape old) (law : PrefixLaw shape old final new) where
+  module _ (new : View) (final : State) (called : final.names ≡ names_on shape old) (base : final.base ≡ records_on shape old) (law : PrefixLaw shape old final new) where
+    at_first : (image : List ℕ) → IsOf shape form names table image → IsOf shape form final.names final.base image
+    at_first image of = subst (λ (x : List (List ℕ) × Table). IsOf shape form x.0 x.1 image) (λ i. (sym (called ∙ reads.0) i, sym (base ∙ reads.1) i)) of
+
     pub prefix : (image : List ℕ) → new.left_since old.moment image → IsOfPrefix shape form final 0 image
     prefix image left = ⊎_elim
-        (λ as_first. record { count = 0; at_least = omega arith; at_most = omega arith; whole = All-nil (λ (done : Done). done.last ≤ 0); opens = subst (λ (t : Table). IsOf shape form t image) (sym (base ∙ reads)) (like image as_first) })
+        (λ as_first. record { count = 0; at_least = omega arith; at_most = omega arith; whole = All-nil (λ (done : Done). done.last ≤ 0); opens = at_first image (like image as_first) })
         (own_prefix final 0 image) (law.since (all_open old shape form all_sound) image left)
 
     pub last : (image : List ℕ) → MayLeave new.content image → IsOfPrefix shape form final (length final.history) image
@@ -119,77 +155,102 @@ module _ (old : View) (shape : Shape) (form : ℕ) (table : Table) (all : AllAre
   pub opens : AllOpen shape old.content
   opens = all_open old shape form all_sound
 
-  module _ (version_two : (form : ℕ) (bytes : List ℕ) → (index_of_form form).sound bytes → length bytes < 2 ^ 32
-      → (index_of_form form).sound (upgraded bytes) × (table_of (index_of_form form) (upgraded bytes) ≡ table_of (index_of_form form) bytes)) where
-    in_two : (image : List ℕ) → OpensInTwo shape old.content image → IsOf shape form table image
-    unfolding like_of
-    in_two image told =
-        let first = like_of told.0 told.0 told.2 told.1 told.3 told.3 in
-        let two = version_two form told.2 first.sound (data_short shape told.0 told.2 told.3) in
-        record { bytes = upgraded told.2; opened = told.4; sound = two.0; shows = two.1 ∙ first.shows }
+  -- the shape that the header says is this one
+  this_shape : (at : Shape) → SaysShape (header_of old.content.bytes) at → at ≡ shape
+  this_shape at says = one_shape (header_of old.content.bytes) at shape says here.opened.header
 
-    pub kept : (image : List ℕ) → OpensLike shape old.content image ⊎ OpensInTwo shape old.content image → IsOf shape form table image
+  -- an image with the records that there were, and the names
+  with_own : (image : List ℕ) → HasNames shape old image → IsOf shape form names table image
+  with_own image has = subst (λ (x : List (List ℕ) × Table). IsOf shape form x.0 x.1 image) (λ i. (reads.0 i, reads.1 i)) (own (names_on shape old) (records_on shape old) image has)
+
+  -- and one more
+  with_more : (name image : List ℕ) → HasNewName name shape old image → IsOf shape form (names ++ name ∷ []) table image
+  with_more name image has = subst (λ (x : List (List ℕ) × Table). IsOf shape form (x.0 ++ name ∷ []) x.1 image) (λ i. (reads.0 i, reads.1 i)) (own (names_on shape old ++ name ∷ []) (records_on shape old) image has)
+
+  -- a table that was told is there from then on
+  module _ (new : View) (name : List ℕ) where
+    told_one : (cut : Bool) (text : List ℕ) (ended : Ended) → MakesTable name old new cut text ended → AllAreOf shape form (names ++ name ∷ []) table new.content
+    told_one cut text ended makes image left =
+        with_more name image (subst (λ (s : Shape). HasNewName name s old image) (this_shape makes.shape makes.tries.holds.array.header) (makes.finishes.now image left))
+
+    pub named : (status : Status) (input : List ℕ) (cut : Bool) (text : List ℕ) → (status ≡ Good) ⊎ (status ≡ WriteFault) → OutcomeFor (Make name) old status new input cut text
+        → AllAreOf shape form (names ++ name ∷ []) table new.content
+    named status input cut text (inl is) outcome =
+        ⊎_elim (λ makes. told_one cut text script.All makes) (λ refused. absurd (not_refused Good refused.0 tt refused.1)) (subst (λ (s : Status). OutcomeFor (Make name) old s new input cut text) is outcome)
+    named status input cut text (inr is) outcome =
+        ⊎_elim (λ makes. told_one cut text script.WriteFault makes) (λ refused. absurd (not_refused WriteFault refused.0 tt refused.1)) (subst (λ (s : Status). OutcomeFor (Make name) old s new input cut text) is outcome)
+
+  module _ (version_two : (form : ℕ) (bytes : List ℕ) → (index_of_form form).sound bytes → length bytes < 2 ^ 32
+      → (index_of_form form).sound (upgraded bytes) × (names_of (upgraded bytes) ≡ names_of bytes) × (table_of (index_of_form form) (upgraded bytes) ≡ table_of (index_of_form form) bytes)) where
+    in_two : (image : List ℕ) → OpensInTwo shape old.content image → IsOf shape form names table image
+    unfolding like_of
+    in_two image opens =
+        let first = like_of opens.0 opens.0 opens.2 opens.1 opens.3 opens.3 in
+        let two = version_two form opens.2 first.sound (data_short shape opens.0 opens.2 opens.3) in
+        record { bytes = upgraded opens.2; opened = opens.4; sound = two.0; named = two.1 ∙ first.named; shows = two.2 ∙ first.shows }
+
+    pub kept : (image : List ℕ) → OpensLike shape old.content image ⊎ OpensInTwo shape old.content image → IsOf shape form names table image
     kept image either = ⊎_elim (like image) (in_two image) either
 
     module _ (new : View) (image : List ℕ) (left : new.left_since old.moment image) where
-      idle : (cut : Bool) (text : List ℕ) (spares : Bool) (MayWrite Cause : Type 0) → Idle spares MayWrite Cause old new cut text → IsOf shape form table image
+      idle : (cut : Bool) (text : List ℕ) (spares : Bool) (MayWrite Cause : Type 0) → Idle spares MayWrite Cause old new cut text → IsOf shape form names table image
       idle cut text spares MayWrite Cause none = ⊎_elim (like image) (λ two. in_two image two.1) (none.keeps shape (all_open old shape form all_sound) image left)
 
       -- what is said of images in the shape that the header says is said of them in this shape
       in_shape : (Said : Shape → Type 0) (at : Shape) → SaysShape (header_of old.content.bytes) at → (AllOpen at old.content → Said at) → Said shape
       in_shape Said at says since =
-          let same : at ≡ shape = one_shape (header_of old.content.bytes) at shape says here.opened.header in
+          let same = this_shape at says in
           subst Said same (since (subst (λ (s : Shape). AllOpen s old.content) (sym same) (all_open old shape form all_sound)))
 
-      -- an image with the records that there were
-      with_own : HasRecords shape old image → IsOf shape form table image
-      with_own has = subst (λ (t : Table). IsOf shape form t image) reads (own (records_on shape old) image has)
-
-      named : (names : List (List ℕ)) → OpensNamed (Opens shape) (index_in shape old) image names (records_on shape old) → IsOf shape form table image
-      named names o = with_own (record { bytes = o.bytes; opened = o.opened; sound = o.sound; shows = o.shows })
+      -- the tables that a command leaves of those that there were, and the records
+      abbrev HasTables : Words → Type 0
+      HasTables asked = (called : List (List ℕ)) × MayName asked names called × IsOf shape form called table image
 
       -- work that leaves images of one kind, or such as were there
-      worked : (Is : Shape → Type 0) → (Is shape → IsOf shape form table image) → (at : Shape) (Of : List ℕ → Type 0) → (Of image → Is at) → WorksOn at Of old new → IsOf shape form table image
-      worked Is gives at Of of works =
+      worked : (P : Type 0) → (IsOf shape form names table image → P) → (Is : Shape → Type 0) → (Is shape → P) → (at : Shape) (Of : List ℕ → Type 0) → (Of image → Is at) → WorksOn at Of old new → P
+      worked P as_before Is gives at Of of works =
           let seen : OpensLike shape old.content image ⊎ Is shape
           = in_shape (λ (s : Shape). OpensLike s old.content image ⊎ Is s) at works.holds.array.header
           (λ all. ⊎_elim (λ opens. inl opens) (λ is. inr (of is)) (works.since all image left)) in
-          ⊎_elim (like image) gives seen
+          ⊎_elim (λ opens. as_before (like image opens)) gives seen
 
-      dumped : (cut : Bool) (text : List ℕ) (ended : Ended) → DumpsRecords old new cut text ended → IsOf shape form table image
-      dumped cut text ended dumps = worked (λ s. ⊥) (λ none. absurd none) dumps.shape (λ i. ⊥) (λ none. none) dumps.works
+      dumped : (cut : Bool) (text : List ℕ) (ended : Ended) → DumpsRecords old new cut text ended → HasTables Dump
+      dumped cut text ended dumps = worked (HasTables Dump) (λ of. (names, refl, of)) (λ s. ⊥) (λ none. absurd none) dumps.shape (λ i. ⊥) (λ none. none) dumps.works
 
-      tried : (name : List ℕ) (at : Shape) → Tries name at old new → IsOf shape form table image
-      tried name at tries = worked (λ (s : Shape). HasNames s old image ⊎ HasNewName name s old image) (λ either. ⊎_elim (named _) (named _) either) at
+      tried : (name : List ℕ) (at : Shape) → Tries name at old new → HasTables (Make name)
+      tried name at tries = worked (HasTables (Make name)) (λ of. (names, inl refl, of)) (λ (s : Shape). HasNames s old image ⊎ HasNewName name s old image)
+          (λ either. ⊎_elim (λ has. (names, inl refl, with_own image has)) (λ has. (names ++ name ∷ [], inr refl, with_more name image has)) either) at
           (λ (i : List ℕ). HasNames at old i ⊎ HasNewName name at old i) (λ either. either) tries
 
-      made_by : (name : List ℕ) (cut : Bool) (text : List ℕ) (ended : Ended) → MadeBy name old new cut text ended → IsOf shape form table image
+      made_by : (name : List ℕ) (cut : Bool) (text : List ℕ) (ended : Ended) → MadeBy name old new cut text ended → HasTables (Make name)
       made_by name cut text script.All makes = tried name makes.shape makes.tries
       made_by name cut text script.WriteFault makes = tried name makes.shape makes.tries
       made_by name cut text script.MediaFault makes = tried name makes.1.0 makes.1.1
       made_by name cut text script.NoMemory makes = absurd makes
 
-      cleared : (at : Shape) → WorksOn at (HasRecords at old) old new → IsOf shape form table image
-      cleared at clears = worked (λ (s : Shape). HasRecords s old image) with_own at (HasRecords at old) (λ has. has) clears
+      cleared : (at : Shape) → WorksOn at (HasNames at old) old new → HasTables Purge
+      cleared at clears = worked (HasTables Purge) (λ of. (names, refl, of)) (λ (s : Shape). HasNames s old image) (λ has. (names, refl, with_own image has)) at (HasNames at old) (λ has. has) clears
 
-      purged_by : (cut : Bool) (text : List ℕ) (ended : Ended) → PurgedBy old new cut text ended → IsOf shape form table image
+      purged_by : (cut : Bool) (text : List ℕ) (ended : Ended) → PurgedBy old new cut text ended → HasTables Purge
       purged_by cut text script.All purged = cleared purged.shape purged.works
       purged_by cut text script.WriteFault purged = cleared purged.shape purged.works
       purged_by cut text script.MediaFault purged = cleared purged.1.0 purged.1.1
       purged_by cut text script.NoMemory purged = absurd purged
 
       -- an array over whose records work was done
-      over : (P : Type 0) → (IsOf shape form table image → P) → (spares : Bool) (callers : ℕ) (Works : Ended → Type 0) (status : Status) (cut : Bool) (text : List ℕ) → ((ended : Ended) → Works ended → P)
+      over : (P : Type 0) → (IsOf shape form names table image → P) → (spares : Bool) (callers : ℕ) (Works : Ended → Type 0) (status : Status) (cut : Bool) (text : List ℕ) → ((ended : Ended) → Works ended → P)
           → OverRecords spares callers Works old status new cut text → P
       over P as_before spares callers Works status cut text works outcome =
           outcome_gives P spares Works (λ page. IsDamaged old page × (Exceeds callers old → ⊥)) (HoldsArray old × (Exceeds callers old → ⊥)) (Exceeds callers old) old status new cut text
           (λ spared MayWrite Cause none. as_before (idle cut text spared MayWrite Cause none)) works outcome
 
-      pub unchanged : (asked : Words) (status : Status) (input : List ℕ) (cut : Bool) (text : List ℕ) → ChangesNone asked → OutcomeFor asked old status new input cut text → IsOf shape form table image
-      unchanged Dump status input cut text none outcome = over (IsOf shape form table image) (λ of. of) true 0 (DumpsRecords old new cut text) status cut text (dumped cut text) outcome
-      unchanged (Make name) status input cut text none outcome =
-          ⊎_elim (λ over-it. over (IsOf shape form table image) (λ of. of) true 0 (MadeBy name old new cut text) status cut text (made_by name cut text) over-it) (λ refused. tried name refused.2.shape refused.2.tries) outcome
-      unchanged Purge status input cut text none outcome = over (IsOf shape form table image) (λ of. of) false 0 (PurgedBy old new cut text) status cut text (purged_by cut text) outcome
+      pub unchanged : (asked : Words) (status : Status) (input : List ℕ) (cut : Bool) (text : List ℕ) → ChangesNone asked → OutcomeFor asked old status new input cut text
+          → (called : List (List ℕ)) × MayName asked names called × IsOf shape form called table image
+      unchanged Dump status input cut text none outcome = over (HasTables Dump) (λ of. (names, refl, of)) true 0 (DumpsRecords old new cut text) status cut text (dumped cut text) outcome
+      unchanged (Make name) status input cut text none outcome = ⊎_elim
+          (λ over-it. over (HasTables (Make name)) (λ of. (names, inl refl, of)) true 0 (MadeBy name old new cut text) status cut text (made_by name cut text) over-it)
+          (λ refused. tried name refused.2.shape refused.2.tries) outcome
+      unchanged Purge status input cut text none outcome = over (HasTables Purge) (λ of. (names, refl, of)) false 0 (PurgedBy old new cut text) status cut text (purged_by cut text) outcome
       unchanged (Run given) status input cut text none outcome = absurd none
       unchanged (Callers numbers) status input cut text none outcome = absurd none
       unchanged (Drill numbers) status input cut text none outcome = absurd none
@@ -197,30 +258,37 @@ module _ (old : View) (shape : Shape) (form : ℕ) (table : Table) (all : AllAre
       unchanged Follow status input cut text none outcome = absurd none
       unchanged (Format numbers) status input cut text none outcome = absurd none
 
+      -- the same tables, and some records
       abbrev HasSome : Type 0
-      HasSome = (records : Table) × IsOf shape form records image
+      HasSome = (called : List (List ℕ)) × (called ≡ names) × (records : Table) × IsOf shape form called records image
+
+      as_before : IsOf shape form names table image → HasSome
+      as_before of = (names, refl, table, of)
 
       turned : (late : Bool) (Says : Limits → List Turn → State → Type 0) (ended : Ended) → TakesTurns late Says old ended new → HasSome
       turned late Says ended taken =
           let seen : OpensLike shape old.content image ⊎ Recovers shape (index_in shape old) taken.final 0 image
           = in_shape (λ (s : Shape). OpensLike s old.content image ⊎ Recovers s (index_in s old) taken.final 0 image) taken.shape taken.holds.array.header (λ all. taken.prefix_law.since all image left) in
-          ⊎_elim (λ opens. (table, like image opens)) (λ recovers. (_, own _ image recovers.opens)) seen
+          let same = this_shape taken.shape taken.holds.array.header in
+          ⊎_elim (λ opens. as_before (like image opens))
+          (λ recovers. (taken.final.names, taken.names ∙ ap (λ (s : Shape). names_on s old) same ∙ reads.0, _, own_tables taken.final.names _ image recovers.opens)) seen
 
       run_by : (frames late : Bool) (input : List ℕ) (cut : Bool) (text : List ℕ) (ended : Ended) → RunsAs frames late input cut text old ended new → HasSome
       run_by true late input cut text ended framed = turned late _ ended framed.taken
       run_by false late input cut text ended taken = turned late (Answers input ended cut text) ended taken
 
-      pub some : (asked : Words) (status : Status) (input : List ℕ) (cut : Bool) (text : List ℕ) → IsOfRecords asked → OutcomeFor asked old status new input cut text → HasSome
-      some (Run given) status input cut text of outcome = over HasSome (λ before. (table, before)) false 0 (λ ended. RunsAs given.frames (is_late given.writing) input cut text old ended new) status cut text
+      pub some : (asked : Words) (status : Status) (input : List ℕ) (cut : Bool) (text : List ℕ) → IsOfRecords asked → OutcomeFor asked old status new input cut text
+          → (called : List (List ℕ)) × MayName asked names called × (records : Table) × IsOf shape form called records image
+      some (Run given) status input cut text of outcome = over HasSome as_before false 0 (λ ended. RunsAs given.frames (is_late given.writing) input cut text old ended new) status cut text
           (λ ended taken. run_by given.frames (is_late given.writing) input cut text ended taken) outcome
-      some (Callers numbers) status input cut text of outcome = over HasSome (λ before. (table, before)) false (passes_for numbers.callers numbers.readers)
+      some (Callers numbers) status input cut text of outcome = over HasSome as_before false (passes_for numbers.callers numbers.readers)
           (λ ended. TakesTurns (is_late numbers.writing) (JointWork numbers.callers numbers.readers numbers.tries input ended cut text) old ended new) status cut text
           (λ ended taken. turned (is_late numbers.writing) (JointWork numbers.callers numbers.readers numbers.tries input ended cut text) ended taken) outcome
-      some (Drill numbers) status input cut text of outcome = over HasSome (λ before. (table, before)) false 0 (λ ended. TakesTurns (is_late numbers.writing) (Drills numbers ended cut text) old ended new) status cut text
+      some (Drill numbers) status input cut text of outcome = over HasSome as_before false 0 (λ ended. TakesTurns (is_late numbers.writing) (Drills numbers ended cut text) old ended new) status cut text
           (λ ended taken. turned (is_late numbers.writing) (Drills numbers ended cut text) ended taken) outcome
-      some Dump status input cut text of outcome = (table, unchanged Dump status input cut text tt outcome)
-      some (Make name) status input cut text of outcome = (table, unchanged (Make name) status input cut text tt outcome)
-      some Purge status input cut text of outcome = (table, unchanged Purge status input cut text tt outcome)
+      some Dump status input cut text of outcome = let has = unchanged Dump status input cut text tt outcome in (has.0, has.1, table, has.2)
+      some (Make name) status input cut text of outcome = let has = unchanged (Make name) status input cut text tt outcome in (has.0, has.1, table, has.2)
+      some Purge status input cut text of outcome = let has = unchanged Purge status input cut text tt outcome in (has.0, has.1, table, has.2)
       some (Eaw given) status input cut text of outcome = absurd of
       some Follow status input cut text of outcome = absurd of
       some (Format numbers) status input cut text of outcome = absurd of

@@ -1,14 +1,16 @@
 -- A run over an array that was opened: its records were read, and its lines answered.
-use Rattle.std.proofs.Common.{◌≡◌, ℕ, ◌≤◌, length, false, inl, inr, ⊎_elim, List, Bool, sym, ap, subst, ◌∙◌, arith}
+use Rattle.std.proofs.Common.{◌≡◌, ◌⊎◌, ℕ, ◌≤◌, length, false, inl, inr, ⊎_elim, List, Bool, sym, ap, subst, ◌∙◌, arith}
 use Rattle.std.specs.Prelude.{IsTrue}
 use Rattle.pcm_media.specs.Images.{MayLeave}
 use Rattle.pcm_media.specs.View.{View}
+use Rattle.pcm_media.proofs.Left.{left_as_read}
 use Rattle.array_shape.specs.declared.shape.Shape.{Shape}
 use Rattle.array_image.specs.Decided.{settled_data}
 use Rattle.device_recovery.specs.Recovered.{HasNoVote}
 use Rattle.eaw_face.specs.StoreView.{StoreView}
-use Rattle.eaw_device.specs.Opens.{Opens, KeepsData, Attached, IsBehind}
+use Rattle.eaw_device.specs.Opens.{Opens, AllOpen, OpensLike, KeepsData, Attached, IsBehind}
 use Rattle.page_store.specs.Index.{Index}
+use Rattle.record_table.specs.Names.{names_of}
 use Rattle.record_table.specs.Shown.{table_of}
 use Rattle.record_table.specs.Upgrading.{upgraded}
 use Rattle.caller_steps.specs.State.{State}
@@ -36,6 +38,14 @@ module _ (tells : Bool) (told : IsTrue tells) (old : View) (only_now : (image : 
         recovers : (least : ℕ) (image : List ℕ) → opens_of Opens store.shape (index_at store.state.bytes) served.final least image → Recovers store.shape (index_in store.shape old) served.final least image
         recovers least image has = subst (λ (b : List ℕ). Recovers store.shape (index_at b) served.final least image) (attached.bytes told) has
 
+        -- within the opening, or behind it
+        as_opened : AllOpen store.shape old.content → (image : List ℕ) → Opens store.shape image store.state.bytes ⊎ opens_of Opens store.shape (index_at store.state.bytes) served.final 0 image
+            → OpensLike store.shape old.content image ⊎ Recovers store.shape (index_in store.shape old) served.final 0 image
+        as_opened all image (inl opens) =
+            let first = all old.content.bytes (left_as_read old.content) in
+            inl (old.content.bytes, left_as_read old.content, first.0, first.1, subst (λ (b : List ℕ). Opens store.shape image b) (attached.bytes told ∙ first.1.stands.gives) opens)
+        as_opened all image (inr has) = inr (recovers 0 image has)
+
         bytes_now : later.is_dead ≡ false → settled_data store.shape new.content.bytes ≡ later.state.bytes
         bytes_now alive = ap (λ (s : Shape). settled_data s new.content.bytes) (sym served.shape) ∙ behind.bytes told alive
 
@@ -54,11 +64,12 @@ module _ (tells : Bool) (told : IsTrue tells) (old : View) (only_now : (image : 
           final = served.final;
           runs = subst (λ (b : List ℕ). Runs (limits_of (index_at b) store.shape) (begun_on (index_at b) b) served.turns served.final) (attached.bytes told) served.runs;
           says = subst (λ (b : List ℕ). Says (limits_of (index_at b) store.shape) served.turns served.final) (attached.bytes told) served.says;
+          names = served.names ∙ ap names_of (attached.bytes told);
           base = served.base ∙ ap (λ (b : List ℕ). table_of (index_at b) b) (attached.bytes told);
           legal = served.legal;
           prefix_law = record {
             now = λ image left. recovers (length served.final.history) image (served.now image (left_now image left));
-            since = λ all image left. ⊎_elim (λ was. inl (at_entry tells told old only_now store attached keeps store.shape all image was)) (λ anew. inr (recovers 0 image anew))
+            since = λ all image left. ⊎_elim (λ was. inl (at_entry tells told old only_now store attached keeps store.shape all image was)) (λ anew. as_opened all image anew)
                 (served.since.only old.moment image (keeps told store.shape all).later (behind.left old.moment image left));
           };
           quiet = λ unfailed at_once. subst (λ (s : Shape). HasNoVote s new.content.bytes) served.shape (behind.quiet told (served.left unfailed).0 at_once);

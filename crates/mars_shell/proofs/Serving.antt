@@ -1,5 +1,5 @@
 -- The work over the records of a store, from what it makes of a core.
-use Rattle.std.proofs.Common.{◌≡◌, ℕ, ◌≤◌, inl, inr, ⊎_elim, List, [], ◌++◌, length, take, Bool, false, refl, sym, ap, subst, ◌∙◌, arith}
+use Rattle.std.proofs.Common.{◌≡◌, ◌⊎◌, ℕ, ◌≤◌, inl, inr, ⊎_elim, List, [], ◌++◌, length, take, Bool, false, refl, sym, ap, subst, ◌∙◌, arith}
 use Rattle.std.proofs.lemmas.List.Elements.{All-nil}
 use Rattle.history.specs.declared.transaction.Done.{Done}
 use Rattle.std.specs.Prelude.{IsTrue}
@@ -7,7 +7,7 @@ use Rattle.mars_base.proofs.Going as going
 use Rattle.array_shape.specs.declared.shape.Shape.{Shape}
 use Rattle.eaw_face.specs.StoreView.{StoreView, LeavesOnly}
 use Rattle.page_store.specs.Index.{Index}
-use Rattle.record_table.specs.Does.{OpensWith}
+use Rattle.record_slots.specs.Places.{version_of}
 use Rattle.record_table.specs.Names.{names_of}
 use Rattle.record_table.specs.Shown.{table_of}
 use Rattle.record_table.specs.Upgrading.{upgraded, OpensUpgraded}
@@ -22,7 +22,7 @@ use Rattle.caller_steps.specs.Prefix.{HasPrefixOf}
 use Rattle.caller_steps.specs.Core.{CoreView, Continues}
 use Rattle.caller_steps.proofs.Reading.{reads_leave}
 use Rattle.caller_steps.proofs.Sound.{opened_sound}
-use Rattle.mars_core.specs.Over.{limits_of, index_of, IsOver, Begins}
+use Rattle.mars_core.specs.Over.{limits_of, index_of, IsOver, Begins, OpensWithTables}
 use Rattle.mars_core.specs.declared.fault.CoreFault.TheVariants.{NoMemory}
 use Rattle.mars_manager.specs.Sharing.{CanShare}
 use Rattle.script_run.specs.declared.ended.Ended.{Ended}
@@ -69,6 +69,8 @@ module _ (tells : Bool) (Opens : Shape → List ℕ → List ℕ → Type 0) (in
             bytes = mid.state.bytes;
             opened = subst (λ (s : Shape). Opens s image mid.state.bytes) begins.shape (only told image here);
             sound = begins.over.sound told begins.alive;
+            version = begins.version told;
+            named = begins.over.names told begins.alive;
             shows = begins.over.table told begins.alive ∙ ap (records core.state.base) begins.fresh.0;
           })
 
@@ -79,6 +81,9 @@ module _ (tells : Bool) (Opens : Shape → List ℕ → List ℕ → Type 0) (in
     base_is : later.state.base ≡ table_of index old.state.bytes
     base_is = on.base ∙ ap (λ (s : State). s.base) (begun_is told)
 
+    names_are : later.state.names ≡ names_of old.state.bytes
+    names_are = on.names ∙ ap (λ (s : State). s.names) (begun_is told)
+
     -- in terms of the store
     opens_now : (more least : ℕ) (image : List ℕ) → least ≤ more → HasPrefixOf later.opens later.state more image → opens_of Opens old.shape index later.state least image
     opens_now more least image le has =
@@ -88,7 +93,7 @@ module _ (tells : Bool) (Opens : Shape → List ℕ → List ℕ → Type 0) (in
           at_least = omega (arith, le, has.at_least);
           at_most = has.at_most;
           whole = has.whole;
-          opens = subst (λ (s : Shape). OpensWith (Opens s) index image table) shape ((over.opens_to image table).1 has.opens);
+          opens = subst (λ (s : Shape). OpensWithTables (Opens s) index later.state.names image table) shape ((over.opens_to image table).1 has.opens);
         }
 
     turns_time : LeavesOnly (opens_of Opens old.shape index later.state 0) mid new
@@ -99,19 +104,30 @@ module _ (tells : Bool) (Opens : Shape → List ℕ → List ℕ → Type 0) (in
           (on.time.only t image (omega (arith, le, begins.over.moment)) ((over.left t image).0 left));
     }
 
-    -- data in version 2 has the same records
+    -- data in version 2 has the same names and the same records
+    names_two : names_of (upgraded old.state.bytes) ≡ later.state.names
+    names_two = ap names_of (sym (begins.bytes told)) ∙ begins.over.names told begins.alive ∙ sym on.names
+
     base_two : table_of index (upgraded old.state.bytes) ≡ later.state.base
     base_two = ap (table_of index) (sym (begins.bytes told)) ∙ begins.over.table told begins.alive ∙ ap (records core.state.base) begins.fresh.0 ∙ sym on.base
 
-    base_opens : (image : List ℕ) → OpensUpgraded (Opens old.shape) old.state.bytes image → opens_of Opens old.shape index later.state 0 image
-    base_opens image opens = record {
+    -- within the opening
+    base_opens : (image : List ℕ) → OpensUpgraded (Opens old.shape) old.state.bytes image → Opens old.shape image old.state.bytes ⊎ opens_of Opens old.shape index later.state 0 image
+    base_opens image (inl was) = inl was
+    base_opens image (inr is) = inr (record {
       count = 0;
       at_least = omega arith;
       at_most = omega arith;
       whole = All-nil (λ (done : Done). done.last ≤ 0);
-      opens = ⊎_elim (λ was. record { bytes = old.state.bytes; opened = was; sound = begins.sound told; shows = sym base_is })
-          (λ is. record { bytes = upgraded old.state.bytes; opened = is; sound = subst index.sound (begins.bytes told) (begins.over.sound told begins.alive); shows = base_two }) opens;
-    }
+      opens = record {
+        bytes = upgraded old.state.bytes;
+        opened = is;
+        sound = subst index.sound (begins.bytes told) (begins.over.sound told begins.alive);
+        version = subst (λ (b : List ℕ). version_of b ≡ 2) (begins.bytes told) (begins.version told);
+        named = names_two;
+        shows = base_two;
+      };
+    })
 
     -- what holds of the first state
     of_first : (P : Limits → State → Type 0) → P core.limits core.state → P (limits_of index old.shape) (begun_on index old.state.bytes)
@@ -125,9 +141,10 @@ module _ (tells : Bool) (Opens : Shape → List ℕ → List ℕ → Type 0) (in
       final = later.state;
       runs = of_first (λ l s. Runs l s turns.turns later.state) turns.runs;
       says = subst (λ (l : Limits). Says l turns.turns later.state) limits_are turns.does;
+      names = names_are;
       base = base_is;
       legal = on.sound.doubtful;
-      since = going.then (going.weaker base_opens (begins.time told)) turns_time;
+      since = going.then (going.weaker base_opens (begins.time told)) (going.weaker (λ image has. inr has) turns_time);
       now = λ image left. opens_now (length later.state.history) (length later.state.history) image (omega arith)
           (on.now image ((over.left later.moment image).0 (subst (λ (t : ℕ). new.left_since t image) (sym over.moment) left)));
       left = λ unfailed.

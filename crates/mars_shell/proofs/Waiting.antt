@@ -1,5 +1,10 @@
 -- How many commits may wait for their write-back, by what words ask for.
-use Rattle.std.proofs.Common.{◌≡◌, ℕ, zero, suc, ◌<◌, ◌≤◌, List, Option, Some, None, arith}
+use Rattle.std.proofs.Common.{◌≡◌, ℕ, zero, suc, ◌<◌, ◌≤◌, Bool, nat_lt, List, Option, Some, None, refl, ◌∙◌, ap, subst, arith}
+use Rattle.std.proofs.lemmas.Bool.{lt-ltb}
+use Rattle.pcm_media.specs.View.{View}
+use Rattle.eaw_face.specs.StoreView.{StoreView}
+use Rattle.eaw_device.specs.Depths.{IsOfDepth}
+use Rattle.eaw_device.specs.Opens.{IsBehind}
 use Rattle.command_words.specs.Asked.{IsNumber, GivesWriting, AsksFor}
 use Rattle.command_words.specs.declared.words.CallersNumbers.{CallersNumbers}
 use Rattle.command_words.specs.declared.words.DrillNumbers.{DrillNumbers}
@@ -8,7 +13,19 @@ use Rattle.command_words.specs.declared.words.Writing.{Writing}
 use Rattle.command_words.specs.declared.words.Writing.TheVariants.{AtOnce, Late}
 use Rattle.command_words.specs.declared.words.Words.TheVariants.{Run, Callers, Drill}
 use Rattle.reader_work.specs.Readership.{passes_for}
-use Rattle.mars_shell.specs.Late.{HasDepth}
+use Rattle.mars_shell.specs.Late.{depth_of, is_late, HasDepth}
+
+late_is : (writing : Writing) → HasDepth writing → nat_lt 0 (depth_of writing) ≡ is_late writing
+late_is AtOnce has = refl
+late_is (Late depth) has = lt-ltb 0 depth has.0
+
+-- where the type of a device says what the words ask for
+module _ (writing : Writing) (least most : ℕ) (is : (least ≡ depth_of writing) × (most ≡ depth_of writing)) where
+  pub of_depth : (depth : ℕ) → depth ≤ 64 → depth ≡ depth_of writing → IsOfDepth least most depth
+  of_depth depth few same = (omega (arith, is.0, same), omega (arith, is.1, same), few)
+
+  pub behind_late : HasDepth writing → (tells : Bool) (store : StoreView) (media : View) → IsBehind tells (nat_lt 0 most) store media → IsBehind tells (is_late writing) store media
+  behind_late has tells store media behind = subst (λ (late : Bool). IsBehind tells late store media) (ap (nat_lt 0) is.1 ∙ late_is writing has) behind
 
 given_depth : (first : Option (List ℕ)) (writing : Writing) → GivesWriting first writing → HasDepth writing
 given_depth first AtOnce gives = tt

@@ -5,6 +5,7 @@ use Rattle.pcm_media.specs.View.{View}
 use Rattle.array_shape.specs.declared.shape.Shape.{Shape}
 use Rattle.array_image.specs.Decided.{settled_data}
 use Rattle.device_recovery.specs.Recovered.{HasNoVote}
+use Rattle.record_table.specs.Names.{names_of}
 use Rattle.record_table.specs.Shown.{table_of}
 use Rattle.record_table.specs.Upgrading.{upgraded}
 use Rattle.history.specs.Legal.{IsLegal}
@@ -25,7 +26,7 @@ use Rattle.mars_shell.specs.Lines.{call_script}
 use Rattle.mars_shell.specs.PrefixLaw.{PrefixLaw}
 
 -- Callers took turns over an array whose records are sound: there is a run of steps from the state that was opened to the last one. Says
--- tells, of the limits of the array, the turns and the last state, what was written. The history, also with what is in doubt, is legal on
+-- tells, of the limits of the array, the turns and the last state, what was written. The names are those of the array. The history, also with what is in doubt, is legal on
 -- the base and obeys the prefix law. Unless the medium failed, the data that the array settles to at the end has exactly the records of the
 -- history, and if no turn asked to write or to remove a record, it is byte for byte what was opened, in version 2. Then also no row is
 -- voted, except that on a late device commits may wait for their write-back.
@@ -36,6 +37,7 @@ pub record TakesTurns (late : Bool) (Says : Limits → List Turn → State → T
   pub final : State
   pub runs : Runs (limits_of (index_in shape old) shape) (begun_on (index_in shape old) (settled_data shape old.content.bytes)) turns final
   pub says : Says (limits_of (index_in shape old) shape) turns final
+  pub names : final.names ≡ names_of (settled_data shape old.content.bytes)
   pub base : final.base ≡ table_of (index_in shape old) (settled_data shape old.content.bytes)
   pub legal : IsLegal final.base (final.history ++ final.doubt)
   pub prefix_law : PrefixLaw shape old final new

@@ -1,11 +1,11 @@
 -- What is done over a store whose records are read first.
-use Rattle.std.specs.Prelude.{ℕ, ◌≡◌, ◌≢◌, List, ◌++◌, length, Bool, false, IsFalse, Result, Ok, Err}
+use Rattle.std.specs.Prelude.{ℕ, ◌≡◌, ◌≢◌, ◌⊎◌, List, ◌++◌, length, Bool, false, IsFalse, Result, Ok, Err}
 use Rattle.mars_base.specs.Causes.{Rose}
 use Rattle.array_shape.specs.declared.shape.Shape.{Shape}
 use Rattle.eaw_face.specs.Causes.{IsAlive}
 use Rattle.eaw_face.specs.StoreView.{StoreView, LeavesOnly}
 use Rattle.page_store.specs.Index.{Index}
-use Rattle.record_table.specs.Does.{OpensWith}
+use Rattle.record_table.specs.Names.{names_of}
 use Rattle.record_table.specs.Shown.{table_of}
 use Rattle.record_table.specs.Upgrading.{upgraded}
 use Rattle.history.specs.Legal.{IsLegal}
@@ -14,7 +14,7 @@ use Rattle.caller_steps.specs.Room.{Limits}
 use Rattle.caller_steps.specs.Run.{Turn, has_write}
 use Rattle.caller_steps.specs.Step.{Runs}
 use Rattle.caller_steps.specs.Prefix.{HasPrefixOf}
-use Rattle.mars_core.specs.Over.{limits_of}
+use Rattle.mars_core.specs.Over.{limits_of, OpensWithTables}
 use Rattle.mars_core.specs.declared.fault.CoreFault.{CoreFault}
 use Rattle.mars_core.specs.declared.fault.CoreFault.TheVariants.{Media}
 use Rattle.script_run.specs.Counts.{Counts}
@@ -23,9 +23,9 @@ use Rattle.script_run.specs.declared.ended.Ended.TheVariants.{MediaFault}
 use Rattle.array_runs.specs.Untaken.{Untaken}
 use Rattle.array_runs.specs.Records.{begun_on, HasAll}
 
--- how images of an array of this shape open with records, under an index
+-- how images of an array of this shape open with the tables of a state and the records of its first transactions, under an index
 abbrev pub opens_of : (Shape → List ℕ → List ℕ → Type 0) → Shape → Index → State → ℕ → List ℕ → Type 0
-opens_of Opens shape index final least image = HasPrefixOf (OpensWith (Opens shape) index) final least image
+opens_of Opens shape index final least image = HasPrefixOf (OpensWithTables (Opens shape) index final.names) final least image
 
 -- Callers took turns over the records of the store's data, which are sound under an index. This is what is said of a run, in terms of the
 -- store.
@@ -36,9 +36,10 @@ pub record Served (Says : Limits → List Turn → State → Type 0) (Opens : Sh
   pub final : State
   pub runs : Runs (limits_of index old.shape) (begun_on index old.state.bytes) turns final
   pub says : Says (limits_of index old.shape) turns final
+  pub names : final.names ≡ names_of old.state.bytes
   pub base : final.base ≡ table_of index old.state.bytes
   pub legal : IsLegal final.base (final.history ++ final.doubt)
-  pub since : LeavesOnly (opens_of Opens old.shape index final 0) old new
+  pub since : LeavesOnly (λ image. Opens old.shape image old.state.bytes ⊎ opens_of Opens old.shape index final 0 image) old new
   pub now : (image : List ℕ) → new.left_since new.moment image → opens_of Opens old.shape index final (length final.history) image
   pub left : ended ≢ MediaFault → IsAlive new × HasAll index new.state.bytes final
   pub unwritten : ended ≢ MediaFault → IsFalse (has_write turns) → new.state.bytes ≡ upgraded old.state.bytes

@@ -11,22 +11,21 @@ ghost use Rattle.mars_shell.specs.Asked.{OutcomeFor};
 ghost use Rattle.array_runs.specs.Forms.{index_at};
 ghost use Rattle.array_runs.specs.Input.{InputSays};
 ghost use Rattle.mars_shell.specs.Joint.{JointWork};
-ghost use Rattle.mars_shell.specs.Late.{HasDepth};
+ghost use Rattle.mars_shell.specs.Late.{depth_of, HasDepth};
 ghost use Rattle.mars_shell.specs.OnCore.{RanOut, Works};
-ghost use Rattle.mars_shell.specs.Run.{TakesTurns};
-ghost use Rattle.array_runs.specs.Records.{OverRecords};
 ghost use Rattle.mars_shell.specs.Served.{Serves, ServedCounts};
 ghost use Rattle.array_runs.specs.Statuses.{Counts, IsEarly, IsRefusal};
 
 use crate::joint::{WorkLines, tell_end};
 use crate::kept::{base_of, history_of};
+use crate::late::depth_of;
 use array_runs::{Status, find_form, open_for, served_status};
 use btree_pages::BTreePages;
 use caller_plans::{Script, read_script};
 use caller_steps::Core as Steps;
 use caller_work::Gate;
-use command_words::{CallersNumbers, Writing};
-use eaw_device::{AtOnce, Late, WriteBack};
+use command_words::CallersNumbers;
+use eaw_device::Depth;
 use eaw_face::EawStore;
 use key_list::KeyList;
 use mars_base::NoMemory;
@@ -58,6 +57,7 @@ pub fn run_callers<
     S: Source,
     K: Sink,
     M: Media + Drop + Send,
+    D: Depth + Send,
     G: Gate + Sync,
 >(alloc: Global, source: &mut S, sink: &mut K, media: M, crew: &Crew<R, G>) -> (Status, M)
     requires some { 0 < crew.now.numbers.callers }
@@ -65,6 +65,7 @@ pub fn run_callers<
     requires readers { crew.now.numbers.readers ≤ 8 }
     requires tries { 1 ≤ crew.now.numbers.tries }
     requires depth { HasDepth crew.now.numbers.writing }
+    requires of_type { (D.least ≡ depth_of crew.now.numbers.writing) × (D.most ≡ depth_of crew.now.numbers.writing) }
     ensures early { IsEarly result.0 → result.1 ≡ media }
     ensures silent { IsEarly result.0 ⊎ IsRefusal result.0 → sink.new ≡ sink.old }
     ensures short { result.0 ≡ Status.NoMemory → sink.new ≡ sink.old }
@@ -75,47 +76,11 @@ pub fn run_callers<
         (λ cut text. (input : List ℕ) × (IsTrue S.tells → S.left source.old ≡ input)
         × (IsTrue M.tells → OutcomeFor (Callers crew.now.numbers) (M.view media) result.0 (M.view result.1) input cut text)) }
 {
-    match crew.numbers.writing {
-        Writing::AtOnce => run_callers_on(alloc, source, sink, media, AtOnce, crew),
-        Writing::Late(depth) => {
-            run_callers_on(alloc, source, sink, media, Late::new(depth), crew)
-        }
-    }
-}
-
-// The same on a device of this type.
-fn run_callers_on<
-    R: Threads + Wait + Sync,
-    S: Source,
-    K: Sink,
-    M: Media + Drop + Send,
-    B: WriteBack + Send,
-    G: Gate + Sync,
->(
-    alloc: Global,
-    source: &mut S,
-    sink: &mut K,
-    media: M,
-    write_back: B,
-    crew: &Crew<R, G>,
-) -> (Status, M)
-    requires some { 0 < crew.now.numbers.callers }
-    requires few { passes_for crew.now.numbers.callers crew.now.numbers.readers ≤ 32 }
-    requires readers { crew.now.numbers.readers ≤ 8 }
-    requires tries { 1 ≤ crew.now.numbers.tries }
-    ensures early { IsEarly result.0 → result.1 ≡ media }
-    ensures silent { IsEarly result.0 ⊎ IsRefusal result.0 → sink.new ≡ sink.old }
-    ensures short { result.0 ≡ Status.NoMemory → sink.new ≡ sink.old }
-    ensures counts { Counts result.0 (S.faults source.old) (S.faults source.new) (K.faults sink.old) (K.faults sink.new) (M.view media).faults (M.view result.1).faults }
-    ensures steady { IsTrue (S.steady source.old) → result.0 ≡ Status.ReadFault → ⊥ }
-    ensures input { IsTrue S.tells → InputSays result.0 (S.left source.old) (S.left source.new) }
-    ensures ran { Wrote K.tells (K.written sink.old) (K.written sink.new) (K.faults sink.old) (K.faults sink.new)
-        (λ cut text. (input : List ℕ) × (IsTrue S.tells → S.left source.old ≡ input) × (IsTrue M.tells → OverRecords false (passes_for crew.now.numbers.callers crew.now.numbers.readers)
-        (λ ended. TakesTurns B.defers (JointWork crew.now.numbers.callers crew.now.numbers.readers crew.now.numbers.tries input ended cut text) (M.view media) ended (M.view result.1))
-        (M.view media) result.0 (M.view result.1) cut text)) }
-{
     let passes = passes_for(crew.numbers.callers, crew.numbers.readers);
-    let (room, input, store) = match open_for(alloc, true, passes, source, media, write_back) {
+    let depth = depth_of(crew.numbers.writing);
+    let (room, input, store) = match open_for::<S, M, D>(
+        alloc, true, passes, source, media, depth,
+    ) {
         Ok(opened) => opened,
         Err(ended) => return ended,
     };

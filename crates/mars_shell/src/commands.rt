@@ -8,11 +8,11 @@ ghost use Rattle.array_runs.specs.Statuses.{Counts, IsEarly, IsRefusal};
 
 use array_runs::{Status, open, script_status};
 use command_words::EawOptions;
-use eaw_device::AtOnce;
 use eaw_script::answer_script;
 use outside::{Sink, Source};
 use pcm_media::Media;
 use std::alloc::Global;
+use std::marker::Brand;
 
 /// Answers the raw commands of the source over the array that the medium holds, whatever its records are, and writes the frames that they
 /// send if that is asked for.
@@ -32,7 +32,7 @@ pub(crate) fn run_commands<S: Source, K: Sink, M: Media>(
     ensures ran { Wrote K.tells (K.written sink.old) (K.written sink.new) (K.faults sink.old) (K.faults sink.new)
         (λ cut text. (input : List ℕ) × (IsTrue S.tells → S.left source.old ≡ input) × (IsTrue M.tells → OutcomeFor (Eaw options) (M.view media) result.0 (M.view result.1) input cut text)) }
 {
-    let (input, store) = match open(alloc, true, source, media, AtOnce) {
+    let (input, store) = match open::<S, M, Brand>(alloc, true, source, media, 0) {
         Ok(opened) => opened,
         Err(ended) => return ended,
     };

@@ -1,5 +1,5 @@
 // The work of a drawn script, which ends with a summary.
-ghost use Rattle.std.specs.Prelude.{◌≡◌, ◌<◌, ◌^◌, IsTrue, IfOk, IfErr};
+ghost use Rattle.std.specs.Prelude.{◌≡◌, ◌<◌, ◌^◌, IsTrue, IsFalse, IfOk, IfErr};
 ghost use Rattle.eaw_face.specs.Causes.{IsAlive};
 ghost use Rattle.drill_gen.specs.Drill.{drill};
 ghost use Rattle.mars_core.specs.Held.{core_of};
@@ -77,6 +77,7 @@ fn sum_up<S: EawStore, I: KeyIndex, H: Keeper>(
     core: &mut Core<S, I, H>,
 ) -> Result<Vec<u8>, Stop>
     requires keeps { IsTrue H.keeps }
+    requires whole { IsFalse H.forgets }
     requires seed { numbers.now.seed < 2 ^ 31 }
     requires callers { callers ≡ (S.view core.old.records.store).shape.numbers }
     requires alive { IsAlive (S.view core.old.records.store) }

@@ -16,7 +16,7 @@ use std::alloc::Global;
 pub fn final_rows(history: &[Done], base: &Tables, alloc: Global) -> Result<Rows, NoMemory>
     ensures { IfOk result (λ rows. rows ≡ rows_of main_name (records (table_of base.now) history.now)) }
 {
-    let tables = play(history, base, alloc)?;
+    let tables = play(alloc, history, base)?;
     rows_under(alloc, &main_table(), tables.as_slice())
 }
 

@@ -8,11 +8,11 @@ ghost use Rattle.array_runs.specs.Input.{InputSays};
 ghost use Rattle.array_runs.specs.Statuses.{Counts, IsEarly, IsRefusal};
 
 use array_runs::{Status, open};
-use eaw_device::AtOnce;
 use frame_lines::{FollowEnd, follow_lines};
 use outside::{Sink, Source};
 use pcm_media::Media;
 use std::alloc::Global;
+use std::marker::Brand;
 
 /// Applies the frames that lines of the source say to the array that the medium holds, whatever its records are.
 pub(crate) fn run_follow<S: Source, K: Sink, M: Media>(
@@ -30,7 +30,7 @@ pub(crate) fn run_follow<S: Source, K: Sink, M: Media>(
     ensures ran { Wrote K.tells (K.written sink.old) (K.written sink.new) (K.faults sink.old) (K.faults sink.new)
         (λ cut text. (input : List ℕ) × (IsTrue S.tells → S.left source.old ≡ input) × (IsTrue M.tells → OutcomeFor Follow (M.view media) result.0 (M.view result.1) input cut text)) }
 {
-    let (input, store) = match open(alloc, true, source, media, AtOnce) {
+    let (input, store) = match open::<S, M, Brand>(alloc, true, source, media, 0) {
         Ok(opened) => opened,
         Err(ended) => return ended,
     };

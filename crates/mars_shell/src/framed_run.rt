@@ -1,25 +1,22 @@
-// The lines of callers over the records of an array, with the frames that it sends or without.
+// The lines of callers over the records of an array, with the frames that it sends.
 ghost use Rattle.std.specs.Prelude.{◌≡◌, ◌⊎◌, ℕ, List, None, false, IsTrue, IfErr};
 ghost use Rattle.eaw_face.specs.Causes.{IsAlive};
 ghost use Rattle.texts.specs.Written.{Wrote};
-ghost use Rattle.command_words.specs.declared.words.Words.TheVariants.{Run};
 ghost use Rattle.array_runs.specs.Forms.{index_at};
 ghost use Rattle.array_runs.specs.Input.{InputSays};
 ghost use Rattle.array_runs.specs.Records.{OverRecords};
 ghost use Rattle.array_runs.specs.Statuses.{Counts, IsEarly, IsRefusal};
-ghost use Rattle.mars_shell.specs.Asked.{OutcomeFor};
-ghost use Rattle.mars_shell.specs.Late.{HasDepth};
+ghost use Rattle.mars_shell.specs.Late.{depth_of, is_late, HasDepth};
 ghost use Rattle.mars_shell.specs.Served.{Serves, ServedCounts};
 ghost use Rattle.mars_shell.specs.FramedRun.{TakesFramed, says_framed};
 
-use crate::lines::ByTurns;
+use crate::late::depth_of;
 use crate::mirrored::ShownLines;
-use crate::records::over_records;
 use crate::responder::LineCore;
 use array_runs::{Status, find_form, open_for, served_status};
 use btree_pages::BTreePages;
-use command_words::{RunOptions, Writing};
-use eaw_device::{AtOnce, Late, WriteBack};
+use command_words::Writing;
+use eaw_device::Depth;
 use eaw_face::EawStore;
 use frame_lines::answer_framed;
 use key_list::KeyList;
@@ -33,49 +30,16 @@ use record_table::Form;
 use script_run::Ended;
 use std::alloc::Global;
 
-/// Answers the lines of callers over the records of the array that the medium holds, if they are sound, and writes the frames that it sends
-/// if that is asked for.
-pub(crate) fn run_lines<S: Source, K: Sink, M: Media + Drop + Send>(
+/// Answers the lines of callers over the records of the array that the medium holds, if they are sound, and writes the frames that it sends.
+pub(crate) fn run_framed<S: Source, K: Sink, M: Media + Drop + Send, D: Depth + Send>(
     alloc: Global,
     source: &mut S,
     sink: &mut K,
     media: M,
-    options: RunOptions,
+    writing: Writing,
 ) -> (Status, M)
-    requires depth { HasDepth options.writing }
-    ensures no_usage { result.0 ≡ Status.Usage → ⊥ }
-    ensures early { IsEarly result.0 → result.1 ≡ media }
-    ensures silent { IsEarly result.0 ⊎ IsRefusal result.0 → sink.new ≡ sink.old }
-    ensures counts { Counts result.0 (S.faults source.old) (S.faults source.new) (K.faults sink.old) (K.faults sink.new) (M.view media).faults (M.view result.1).faults }
-    ensures steady { IsTrue (S.steady source.old) → result.0 ≡ Status.ReadFault → ⊥ }
-    ensures input { IsTrue S.tells → InputSays result.0 (S.left source.old) (S.left source.new) }
-    ensures ran { Wrote K.tells (K.written sink.old) (K.written sink.new) (K.faults sink.old) (K.faults sink.new)
-        (λ cut text. (input : List ℕ) × (IsTrue S.tells → S.left source.old ≡ input) × (IsTrue M.tells → OutcomeFor (Run options) (M.view media) result.0 (M.view result.1) input cut text)) }
-{
-    if !options.frames {
-        return over_records::<S, K, M, KeepsNothing, ByTurns>(
-            alloc,
-            source,
-            sink,
-            media,
-            options.writing,
-            &ByTurns,
-        );
-    }
-    match options.writing {
-        Writing::AtOnce => run_framed(alloc, source, sink, media, AtOnce),
-        Writing::Late(depth) => run_framed(alloc, source, sink, media, Late::new(depth)),
-    }
-}
-
-// With the frames, on a device of this type.
-fn run_framed<S: Source, K: Sink, M: Media + Drop + Send, B: WriteBack + Send>(
-    alloc: Global,
-    source: &mut S,
-    sink: &mut K,
-    media: M,
-    write_back: B,
-) -> (Status, M)
+    requires depth { HasDepth writing }
+    requires of_type { (D.least ≡ depth_of writing) × (D.most ≡ depth_of writing) }
     ensures no_usage { result.0 ≡ Status.Usage → ⊥ }
     ensures early { IsEarly result.0 → result.1 ≡ media }
     ensures silent { IsEarly result.0 ⊎ IsRefusal result.0 → sink.new ≡ sink.old }
@@ -84,9 +48,10 @@ fn run_framed<S: Source, K: Sink, M: Media + Drop + Send, B: WriteBack + Send>(
     ensures input { IsTrue S.tells → InputSays result.0 (S.left source.old) (S.left source.new) }
     ensures ran { Wrote K.tells (K.written sink.old) (K.written sink.new) (K.faults sink.old) (K.faults sink.new)
         (λ cut text. (input : List ℕ) × (IsTrue S.tells → S.left source.old ≡ input) × (IsTrue M.tells → OverRecords false 0
-        (λ ended. TakesFramed B.defers input cut text (M.view media) ended (M.view result.1)) (M.view media) result.0 (M.view result.1) cut text)) }
+        (λ ended. TakesFramed (is_late writing) input cut text (M.view media) ended (M.view result.1)) (M.view media) result.0 (M.view result.1) cut text)) }
 {
-    let (room, input, store) = match open_for(alloc, true, 0, source, media, write_back) {
+    let depth = depth_of(writing);
+    let (room, input, store) = match open_for::<S, M, D>(alloc, true, 0, source, media, depth) {
         Ok(opened) => opened,
         Err(ended) => return ended,
     };

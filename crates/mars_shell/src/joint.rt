@@ -74,7 +74,7 @@ fn work_text(
     let Ok(answers) = &lines.answers else {
         return Err(NoMemory);
     };
-    let tables = play(history, base, alloc)?;
+    let tables = play(alloc, history, base)?;
     let mut text = Vec::new(alloc);
     write_faults(&mut text, lines.faults.as_slice())?;
     put_history(&mut text, history)?;

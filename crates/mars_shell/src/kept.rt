@@ -1,5 +1,5 @@
 // What a core has kept in memory.
-ghost use Rattle.std.specs.Prelude.{◌≡◌, IsTrue};
+ghost use Rattle.std.specs.Prelude.{◌≡◌, IsTrue, IsFalse};
 
 use caller_steps::Core as Steps;
 use eaw_face::EawStore;
@@ -8,12 +8,13 @@ use mars_core::Core;
 use noted::Keeper;
 use page_store::KeyIndex;
 
-/// The transactions that were committed, if the core keeps them.
+/// All transactions that were committed, if the core keeps them and gives none up.
 pub fn history_of<S: EawStore, I: KeyIndex, H: Keeper>(core: &Core<S, I, H>) -> &[Done]
-    requires { IsTrue H.keeps }
+    requires keeps { IsTrue H.keeps }
+    requires whole { IsFalse H.forgets }
     ensures { result.now ≡ core.now.history }
 {
-    core.history().unwrap()
+    core.history().unwrap().1
 }
 
 /// The records at the opening, if the core keeps them.

@@ -21,6 +21,7 @@ mod framed_run;
 mod images;
 mod joint;
 mod kept;
+mod late;
 mod laws;
 mod lines;
 mod media_room;

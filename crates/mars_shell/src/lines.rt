@@ -1,14 +1,55 @@
-// The work of callers that take turns by the lines of the input.
+// Callers that take turns by the lines of the input.
+ghost use Rattle.std.specs.Prelude.{◌≡◌, ◌⊎◌, ℕ, List, IsTrue};
+ghost use Rattle.texts.specs.Written.{Wrote};
+ghost use Rattle.command_words.specs.declared.words.Words.TheVariants.{Run};
+ghost use Rattle.array_runs.specs.Input.{InputSays};
+ghost use Rattle.array_runs.specs.Statuses.{Counts, IsEarly, IsRefusal};
+ghost use Rattle.mars_shell.specs.Asked.{OutcomeFor};
+ghost use Rattle.mars_shell.specs.Late.{depth_of, HasDepth};
+
 use crate::core_work::CoreWork;
+use crate::framed_run::run_framed;
+use crate::records::over_records;
 use crate::responder::LineCore;
+use array_runs::Status;
+use command_words::RunOptions;
+use eaw_device::Depth;
 use eaw_face::EawStore;
 use mars_base::NoMemory;
 use mars_core::Core;
-use noted::Keeper;
-use outside::Sink;
+use noted::{Keeper, KeepsNothing};
+use outside::{Sink, Source};
 use page_store::KeyIndex;
+use pcm_media::Media;
 use script_run::{Ended, answer_lines};
 use std::alloc::Global;
+
+/// Answers the lines of callers over the records of the array that the medium holds, if they are sound, and writes the frames that it sends
+/// if that is asked for.
+pub(crate) fn run_lines<S: Source, K: Sink, M: Media + Drop + Send, D: Depth + Send>(
+    alloc: Global,
+    source: &mut S,
+    sink: &mut K,
+    media: M,
+    options: RunOptions,
+) -> (Status, M)
+    requires depth { HasDepth options.writing }
+    requires of_type { (D.least ≡ depth_of options.writing) × (D.most ≡ depth_of options.writing) }
+    ensures no_usage { result.0 ≡ Status.Usage → ⊥ }
+    ensures early { IsEarly result.0 → result.1 ≡ media }
+    ensures silent { IsEarly result.0 ⊎ IsRefusal result.0 → sink.new ≡ sink.old }
+    ensures counts { Counts result.0 (S.faults source.old) (S.faults source.new) (K.faults sink.old) (K.faults sink.new) (M.view media).faults (M.view result.1).faults }
+    ensures steady { IsTrue (S.steady source.old) → result.0 ≡ Status.ReadFault → ⊥ }
+    ensures input { IsTrue S.tells → InputSays result.0 (S.left source.old) (S.left source.new) }
+    ensures ran { Wrote K.tells (K.written sink.old) (K.written sink.new) (K.faults sink.old) (K.faults sink.new)
+        (λ cut text. (input : List ℕ) × (IsTrue S.tells → S.left source.old ≡ input) × (IsTrue M.tells → OutcomeFor (Run options) (M.view media) result.0 (M.view result.1) input cut text)) }
+{
+    let writing = options.writing;
+    if options.frames {
+        return run_framed::<S, K, M, D>(alloc, source, sink, media, writing);
+    }
+    over_records::<S, K, M, D, KeepsNothing, ByTurns>(alloc, source, sink, media, writing, &ByTurns)
+}
 
 /// The lines of the input are answered one by one.
 #[derive(Drop)]

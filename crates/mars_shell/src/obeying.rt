@@ -16,7 +16,7 @@ use crate::commands::run_commands;
 use crate::drilling::DrawnScript;
 use crate::following::run_follow;
 use crate::formatting::run_format;
-use crate::framed_run::run_lines;
+use crate::lines::run_lines;
 use crate::records::over_records;
 use array_runs::Status;
 use caller_work::Gate;
@@ -24,6 +24,7 @@ use command_words::Words;
 use noted::KeepsAll;
 use outside::{Sink, Source};
 use pcm_media::Media;
+use std::marker::Brand;
 use std::sync::Wait;
 use std::thread::Threads;
 use told_commands::{Dump, NewTable, Purge, run_told};
@@ -53,17 +54,23 @@ pub fn obey<
         → IsComplete asked result.0 }
 {
     match asked {
-        Words::Run(options) => run_lines(rt.alloc(), source, sink, media, options),
+        Words::Run(options) => run_lines::<S, K, M, Brand>(
+            rt.alloc(),
+            source,
+            sink,
+            media,
+            options,
+        ),
         Words::Callers(numbers) => {
             let crew = Crew { rt, numbers, gate };
-            run_callers(rt.alloc(), source, sink, media, &crew)
+            run_callers::<R, S, K, M, Brand, G>(rt.alloc(), source, sink, media, &crew)
         }
         Words::Eaw(options) => run_commands(rt.alloc(), source, sink, media, options),
         Words::Follow => run_follow(rt.alloc(), source, sink, media),
         Words::Dump => run_told(rt.alloc(), source, sink, media, &Dump),
         Words::Drill(numbers) => {
             let work = DrawnScript { numbers };
-            over_records::<S, K, M, KeepsAll, DrawnScript>(
+            over_records::<S, K, M, Brand, KeepsAll, DrawnScript>(
                 rt.alloc(),
                 source,
                 sink,

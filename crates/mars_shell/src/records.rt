@@ -4,7 +4,7 @@ ghost use Rattle.eaw_face.specs.Causes.{IsAlive};
 ghost use Rattle.texts.specs.Written.{Wrote};
 ghost use Rattle.array_runs.specs.Forms.{index_at};
 ghost use Rattle.array_runs.specs.Input.{InputSays};
-ghost use Rattle.mars_shell.specs.Late.{is_late, HasDepth};
+ghost use Rattle.mars_shell.specs.Late.{depth_of, is_late, HasDepth};
 ghost use Rattle.array_runs.specs.Records.{OverRecords};
 ghost use Rattle.mars_shell.specs.OnCore.{RanOut};
 ghost use Rattle.mars_shell.specs.Run.{TakesTurns};
@@ -12,10 +12,11 @@ ghost use Rattle.mars_shell.specs.Served.{Serves, ServedCounts};
 ghost use Rattle.array_runs.specs.Statuses.{Counts, IsEarly, IsRefusal};
 
 use crate::core_work::{CoreWork, work_over};
+use crate::late::depth_of;
 use array_runs::{Status, find_form, open_for, served_status};
 use btree_pages::BTreePages;
 use command_words::Writing;
-use eaw_device::{AtOnce, Eaw, Late, WriteBack};
+use eaw_device::{Depth, Eaw};
 use eaw_face::EawStore;
 use key_list::KeyList;
 use mars_core::CoreFault;
@@ -27,19 +28,21 @@ use record_table::Form;
 use script_run::Ended;
 use std::alloc::Global;
 
-/// Does work over the records of the array that the medium holds, if they are sound, on a device that writes the data of commits to its
-/// place when it is told so.
-pub fn over_records<S: Source, K: Sink, M: Media + Drop + Send, H: Keeper, W: CoreWork>(
-    alloc: Global,
-    source: &mut S,
-    sink: &mut K,
-    media: M,
-    writing: Writing,
-    work: &W,
-) -> (Status, M)
+/// Does work over the records of the array that the medium holds, if they are sound. The data of commits is written to its place when the
+/// words say so.
+pub fn over_records<
+    S: Source,
+    K: Sink,
+    M: Media + Drop + Send,
+    D: Depth + Send,
+    H: Keeper,
+    W: CoreWork,
+>(alloc: Global, source: &mut S, sink: &mut K, media: M, writing: Writing, work: &W) -> (Status, M)
     requires depth { HasDepth writing }
+    requires of_type { (D.least ≡ depth_of writing) × (D.most ≡ depth_of writing) }
     requires set { W.can_be_done work.now }
     requires keeps { IsTrue W.reads_kept → IsTrue H.keeps }
+    requires whole { IsTrue W.reads_kept → IsFalse H.forgets }
     ensures no_usage { result.0 ≡ Status.Usage → ⊥ }
     ensures early { IsEarly result.0 → IsTrue W.reads × (result.1 ≡ media) }
     ensures silent { IsEarly result.0 ⊎ IsRefusal result.0 → sink.new ≡ sink.old }
@@ -53,52 +56,19 @@ pub fn over_records<S: Source, K: Sink, M: Media + Drop + Send, H: Keeper, W: Co
         (λ ended. TakesTurns (is_late writing) (W.does work.now input ended cut text) (M.view media) ended (M.view result.1))
         (M.view media) result.0 (M.view result.1) cut text)) }
 {
-    match writing {
-        Writing::AtOnce => over_records_on::<S, K, M, AtOnce, H, W>(
-            alloc, source, sink, media, AtOnce, work,
-        ),
-        Writing::Late(depth) => {
-            over_records_on::<S, K, M, Late, H, W>(
-                alloc,
-                source,
-                sink,
-                media,
-                Late::new(depth),
-                work,
-            )
-        }
-    }
-}
-
-// The same on a device of this type.
-fn over_records_on<
-    S: Source,
-    K: Sink,
-    M: Media + Drop + Send,
-    B: WriteBack + Send,
-    H: Keeper,
-    W: CoreWork,
->(alloc: Global, source: &mut S, sink: &mut K, media: M, write_back: B, work: &W) -> (Status, M)
-    requires set { W.can_be_done work.now }
-    requires keeps { IsTrue W.reads_kept → IsTrue H.keeps }
-    ensures no_usage { result.0 ≡ Status.Usage → ⊥ }
-    ensures early { IsEarly result.0 → IsTrue W.reads × (result.1 ≡ media) }
-    ensures silent { IsEarly result.0 ⊎ IsRefusal result.0 → sink.new ≡ sink.old }
-    ensures short { IsTrue W.at_once → result.0 ≡ Status.NoMemory → sink.new ≡ sink.old }
-    ensures counts { Counts result.0 (S.faults source.old) (S.faults source.new) (K.faults sink.old) (K.faults sink.new) (M.view media).faults (M.view result.1).faults }
-    ensures steady { IsTrue (S.steady source.old) → result.0 ≡ Status.ReadFault → ⊥ }
-    ensures input { IsTrue W.reads → IsTrue S.tells → InputSays result.0 (S.left source.old) (S.left source.new) }
-    ensures unread { IsFalse W.reads → source.new ≡ source.old }
-    ensures ran { Wrote K.tells (K.written sink.old) (K.written sink.new) (K.faults sink.old) (K.faults sink.new)
-        (λ cut text. (input : List ℕ) × (IsTrue W.reads → IsTrue S.tells → S.left source.old ≡ input) × (IsTrue M.tells → OverRecords false 0
-        (λ ended. TakesTurns B.defers (W.does work.now input ended cut text) (M.view media) ended (M.view result.1))
-        (M.view media) result.0 (M.view result.1) cut text)) }
-{
-    let (room, input, store) = match open_for(alloc, work.reads(), 0, source, media, write_back) {
+    let depth = depth_of(writing);
+    let (room, input, store) = match open_for::<S, M, D>(
+        alloc,
+        work.reads(),
+        0,
+        source,
+        media,
+        depth,
+    ) {
         Ok(opened) => opened,
         Err(ended) => return ended,
     };
-    let (served, store) = serve::<K, Eaw<M, B>, H, W>(alloc, &input, sink, room, store, work);
+    let (served, store) = serve::<K, Eaw<M, D>, H, W>(alloc, &input, sink, room, store, work);
     (served_status(served), store.into_media())
 }
 
@@ -114,6 +84,7 @@ fn serve<K: Sink, S: EawStore + Drop + Send, H: Keeper, W: CoreWork>(
 ) -> (Result<Ended, CoreFault>, S)
     requires set { W.can_be_done work.now }
     requires keeps { IsTrue W.reads_kept → IsTrue H.keeps }
+    requires whole { IsTrue W.reads_kept → IsFalse H.forgets }
     requires alive { IsAlive (S.view store) }
     requires free { (t : ℕ) → (S.view store).ranges t ≡ None }
     ensures served { Wrote K.tells (K.written sink.old) (K.written sink.new) (K.faults sink.old) (K.faults sink.new)

@@ -72,6 +72,7 @@ impl<H: Keeper> Doubt<H> {
     }
 
     pub fn group(dones: Dones<H>) -> Doubt<H>
+        requires { dones.first ≡ 0 }
         ensures { result ≡ dones.items }
     {
         let (dones, notes) = dones.into_parts();

@@ -16,5 +16,5 @@ pub use base::Base;
 pub use calls::{LiveCalls, LiveCallsWithRoom};
 pub use dones::Dones;
 pub use doubt::Doubt;
-pub use keeper::{Keeper, KeepsAll, KeepsNothing};
+pub use keeper::{Keeper, KeepsAll, KeepsNews, KeepsNothing};
 pub use rows::NotedRows;

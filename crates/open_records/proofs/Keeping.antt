@@ -76,13 +76,13 @@ module _ (tells : Bool) (told : IsTrue tells) (old : View) (store : StoreView) (
         }
 
     -- the array is as it was opened
-    pub still : IsFalse defers → later.shape ≡ store.shape → later.is_dead ≡ false → later.state.bytes ≡ store.state.bytes → StillHolds old new
-    still at_once shape alive bytes = record {
+    pub still : later.shape ≡ store.shape → later.is_dead ≡ false → later.state.bytes ≡ store.state.bytes → StillHolds defers old new
+    still shape alive bytes = record {
       shape = store.shape;
       array = holds_array;
       size = behind.size ∙ ap media_len shape ∙ sym attached.sized;
       bytes = ap (λ (s : Shape). settled_data s new.content.bytes) (sym shape) ∙ behind.bytes told alive ∙ bytes ∙ attached.bytes told;
-      quiet = subst (λ (s : Shape). HasNoVote s new.content.bytes) shape (behind.quiet told alive at_once);
+      quiet = λ at_once. subst (λ (s : Shape). HasNoVote s new.content.bytes) shape (behind.quiet told alive at_once);
     }
 
     pub alone : later ≡ store → (fault : OpenFault) → ((shape : Shape) (image : List ℕ) → OpensLike shape old.content image → OpensAt fault shape old.content image) → KeepsAt tells old new fault
@@ -101,14 +101,14 @@ module _ (tells : Bool) (told : IsTrue tells) (old : View) (store : StoreView) (
           by (Damaged page) gives = since _ _ (gives.time told) shape all (λ image opens. opens) (λ image opens. ⊎_elim (like shape all image) (λ two. absurd (false≢true two.0)) opens)
 
 -- the store of records that were not taken
-pub given_back : (tells defers : Bool) (old new : View) (store later : StoreView) → Attached tells old store → IsBehind tells defers later new → KeepsData tells old store.moment store.left_since → IsFalse defers
-    → (fault : CoreFault) → core.GivesBack tells (Opens store.shape) (is_media_fault fault) store later → opening.GivesBack tells old new (Records fault)
-given_back tells defers old new store later attached behind keeps at_once fault gives = by fault gives
+pub given_back : (tells defers : Bool) (old new : View) (store later : StoreView) → Attached tells old store → IsBehind tells defers later new → KeepsData tells old store.moment store.left_since
+    → (fault : CoreFault) → core.GivesBack tells (Opens store.shape) (is_media_fault fault) store later → opening.GivesBack tells defers old new (Records fault)
+given_back tells defers old new store later attached behind keeps fault gives = by fault gives
   where
-    by : (fault : CoreFault) → core.GivesBack tells (Opens store.shape) (is_media_fault fault) store later → opening.GivesBack tells old new (Records fault)
+    by : (fault : CoreFault) → core.GivesBack tells (Opens store.shape) (is_media_fault fault) store later → opening.GivesBack tells defers old new (Records fault)
     by Media gives = λ told. (store.shape, holds_array tells told old store attached)
-    by NoMemory gives = λ told. still tells told old store attached defers later new behind keeps at_once gives.shape ((gives.kept refl).0 ∙ attached.alive) (gives.unwritten told refl)
-    by (Damaged page) gives = λ told. still tells told old store attached defers later new behind keeps at_once gives.shape ((gives.kept refl).0 ∙ attached.alive) (gives.unwritten told refl)
+    by NoMemory gives = λ told. still tells told old store attached defers later new behind keeps gives.shape ((gives.kept refl).0 ∙ attached.alive) (gives.unwritten told refl)
+    by (Damaged page) gives = λ told. still tells told old store attached defers later new behind keeps gives.shape ((gives.kept refl).0 ∙ attached.alive) (gives.unwritten told refl)
 
 -- the array was not opened
 pub kept_unopened : (tells : Bool) (old new : View) (fault : AttachFault) → KeepsData tells old new.moment new.left_since → KeepsAt tells old new (Array fault)

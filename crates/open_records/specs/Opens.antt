@@ -1,5 +1,5 @@
 -- How records are opened, and why not.
-use Rattle.std.specs.Prelude.{ℕ, ◌≡◌, ◌<◌, ◌≤◌, ◌⊎◌, Bool, true, false, IsTrue, List, []}
+use Rattle.std.specs.Prelude.{ℕ, ◌≡◌, ◌<◌, ◌≤◌, ◌⊎◌, Bool, true, false, IsTrue, IsFalse, List, []}
 use Rattle.mars_base.specs.Moments.{Elapses}
 use Rattle.pcm_media.specs.Images.{Content, MayLeave, Touched}
 use Rattle.pcm_media.specs.View.{View}
@@ -68,21 +68,21 @@ is_media (Array array.Media) = true
 is_media (Records Media) = true
 is_media fault = false
 
--- The medium holds the array that it held: it is as long, and settles to the same data, and no row is voted.
-pub record StillHolds (old new : View) : Type 0 where
+-- The medium holds the array that it held: it is as long, and settles to the same data, and unless commits may wait, no row is voted.
+pub record StillHolds (late : Bool) (old new : View) : Type 0 where
   pub shape : Shape
   pub array : IsArray shape old
   pub size : new.size ≡ old.size
   pub bytes : settled_data shape new.content.bytes ≡ settled_data shape old.content.bytes
-  pub quiet : HasNoVote shape new.content.bytes
+  pub quiet : IsFalse late → HasNoVote shape new.content.bytes
 
 -- How the medium is given back: nothing was written unless it holds an array, and unless it failed, that array is the same.
-abbrev pub GivesBack : Bool → View → View → OpenFault → Type 0
-GivesBack tells old new (Array fault) = AttachLeaves tells old new fault
-GivesBack tells old new (Records Media) = IsTrue tells → HoldsArray old
-GivesBack tells old new (Records fault) = IsTrue tells → StillHolds old new
-GivesBack tells old new (Callers numbers) = IsTrue tells → StillHolds old new
-GivesBack tells old new NoMemory = IsTrue tells → Touched [] old.content new.content
+abbrev pub GivesBack : (tells late : Bool) → View → View → OpenFault → Type 0
+GivesBack tells late old new (Array fault) = AttachLeaves tells old new fault
+GivesBack tells late old new (Records Media) = IsTrue tells → HoldsArray old
+GivesBack tells late old new (Records fault) = IsTrue tells → StillHolds late old new
+GivesBack tells late old new (Callers numbers) = IsTrue tells → StillHolds late old new
+GivesBack tells late old new NoMemory = IsTrue tells → Touched [] old.content new.content
 
 -- From one view of a medium to a later one no moment is repeated, and each image that is new among those that might have been left has P.
 pub record LeavesNew (P : List ℕ → Type 0) (old new : View) : Type 0 where

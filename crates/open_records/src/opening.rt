@@ -1,12 +1,13 @@
 // Records on a medium.
-ghost use Rattle.std.specs.Prelude.{◌≡◌, ◌≤◌, [], ℕ, None, IfOk, IfErr, IsTrue, IsFalse};
+ghost use Rattle.std.specs.Prelude.{◌≡◌, ◌≤◌, [], ℕ, None, IfOk, IfErr, IsTrue, IsFalse, nat_lt};
 ghost use Rattle.mars_base.specs.Causes.{Rose};
 ghost use Rattle.caller_steps.specs.Sound.{IsSound};
 ghost use Rattle.caller_steps.specs.State.{unoffered};
+ghost use Rattle.eaw_device.specs.Depths.{IsOfDepth};
 ghost use Rattle.open_records.specs.Opens.{Begins, BeginsOn, GivesBack, KeepsAt, KeepsRecords, OfData, IsUnopened, is_media};
 
 use caller_steps::{Core as Steps, steps_keep_all_sound};
-use eaw_device::{AttachFault, Eaw};
+use eaw_device::{AttachFault, Depth, Eaw};
 use eaw_face::EawStore;
 use mars_core::{Core, CoreFault};
 use noted::Keeper;
@@ -31,26 +32,29 @@ pub enum OpenFault {
     NoMemory,
 }
 
-/// Opens the array that the medium holds, as a loss of power left it, and its records under the index, for at least so many callers. With
-/// `KeepsNothing` its memory does not grow with what is committed. An error returns the medium.
-pub fn open<M: Media, K: KeyIndex, H: Keeper>(
+/// Opens the array that the medium holds, as a loss of power left it, and its records under the index, for at least so many callers. At most
+/// `depth` commits may wait for their write-back: 0 on an `Eaw<M>`, and as many as are given on an `Eaw<M, AnyDepth>`. With `KeepsNothing`
+/// its memory does not grow with what is committed. An error returns the medium.
+pub fn open<M: Media, K: KeyIndex, H: Keeper, D: Depth>(
     alloc: Global,
     media: M,
     callers: u8,
-) -> Result<Core<Eaw<M>, K, H>, (OpenFault, M)>
+    depth: u8,
+) -> Result<Core<Eaw<M, D>, K, H>, (OpenFault, M)>
+    requires { IsOfDepth D.least D.most depth }
     // The medium holds an array, and the core begins with the records of its data, which are those of the data with which the image opens.
-    ensures array { IfOk result (λ core. IsTrue M.tells → BeginsOn K.index (M.view media) (⟦<Core<Eaw<M>, K, H> as Steps>⟧.view core)) }
-    ensures opened { IfOk result (λ core. OfData M.tells (M.view media) (λ shape bytes. Begins K.index shape bytes (⟦<Core<Eaw<M>, K, H> as Steps>⟧.view core))) }
-    ensures sound { IfOk result (λ core. IsTrue M.tells → IsSound (⟦<Core<Eaw<M>, K, H> as Steps>⟧.view core).state) }
-    ensures fresh { IfOk result (λ core. ((⟦<Core<Eaw<M>, K, H> as Steps>⟧.view core).state.history ≡ []) × ((caller : ℕ) → (⟦<Core<Eaw<M>, K, H> as Steps>⟧.view core).state.live caller ≡ None)
-        × ((⟦<Core<Eaw<M>, K, H> as Steps>⟧.view core).state.doubt ≡ []) × ((caller : ℕ) → (⟦<Core<Eaw<M>, K, H> as Steps>⟧.view core).state.offers caller ≡ unoffered)) }
-    ensures enough { IfOk result (λ core. callers ≤ (⟦<Core<Eaw<M>, K, H> as Steps>⟧.view core).limits.callers) }
-    ensures whole { IfOk result (λ core. (⟦<Core<Eaw<M>, K, H> as Steps>⟧.view core).faults ≡ (M.view media).faults) }
+    ensures array { IfOk result (λ core. IsTrue M.tells → BeginsOn K.index (M.view media) (⟦<Core<Eaw<M, D>, K, H> as Steps>⟧.view core)) }
+    ensures opened { IfOk result (λ core. OfData M.tells (M.view media) (λ shape bytes. Begins K.index shape bytes (⟦<Core<Eaw<M, D>, K, H> as Steps>⟧.view core))) }
+    ensures sound { IfOk result (λ core. IsTrue M.tells → IsSound (⟦<Core<Eaw<M, D>, K, H> as Steps>⟧.view core).state) }
+    ensures fresh { IfOk result (λ core. ((⟦<Core<Eaw<M, D>, K, H> as Steps>⟧.view core).state.history ≡ []) × ((caller : ℕ) → (⟦<Core<Eaw<M, D>, K, H> as Steps>⟧.view core).state.live caller ≡ None)
+        × ((⟦<Core<Eaw<M, D>, K, H> as Steps>⟧.view core).state.doubt ≡ []) × ((caller : ℕ) → (⟦<Core<Eaw<M, D>, K, H> as Steps>⟧.view core).state.offers caller ≡ unoffered)) }
+    ensures enough { IfOk result (λ core. callers ≤ (⟦<Core<Eaw<M, D>, K, H> as Steps>⟧.view core).limits.callers) }
+    ensures whole { IfOk result (λ core. (⟦<Core<Eaw<M, D>, K, H> as Steps>⟧.view core).faults ≡ (M.view media).faults) }
     // At each moment of it, what a loss of power leaves opens with data that was left before, or with the same in version 2.
-    ensures time { IfOk result (λ core. KeepsRecords M.tells (M.view media) (⟦<Core<Eaw<M>, K, H> as Steps>⟧.view core).moment (⟦<Core<Eaw<M>, K, H> as Steps>⟧.view core).left_since) }
+    ensures time { IfOk result (λ core. KeepsRecords M.tells (M.view media) (⟦<Core<Eaw<M, D>, K, H> as Steps>⟧.view core).moment (⟦<Core<Eaw<M, D>, K, H> as Steps>⟧.view core).left_since) }
     ensures cause { IfErr result (λ failed. IsUnopened M.tells K.index callers (M.view media) (M.view failed.1).faults failed.0) }
     // The medium that is given back is as it was, unless it failed, but that an array on it may be recovered.
-    ensures gives_back { IfErr result (λ failed. GivesBack M.tells (M.view media) (M.view failed.1) failed.0) }
+    ensures gives_back { IfErr result (λ failed. GivesBack M.tells (nat_lt 0 D.most) (M.view media) (M.view failed.1) failed.0) }
     ensures keeps { IfErr result (λ failed. KeepsAt M.tells (M.view media) (M.view failed.1) failed.0) }
     ensures fails { IfErr result (λ failed. IsTrue (is_media failed.0) → Rose (M.view media).faults (M.view failed.1).faults) }
     ensures kept { IfErr result (λ failed. IsFalse (is_media failed.0) → (M.view failed.1).faults ≡ (M.view media).faults) }
@@ -60,7 +64,7 @@ pub fn open<M: Media, K: KeyIndex, H: Keeper>(
     let Ok(room) = SaveRoom::new(alloc) else {
         return Err((OpenFault::NoMemory, media));
     };
-    let store = match Eaw::attach(alloc, media) {
+    let store = match Eaw::<M, D>::attach_late(alloc, media, depth) {
         Ok(store) => store,
         Err((fault, media)) => return Err((OpenFault::Array(fault), media)),
     };

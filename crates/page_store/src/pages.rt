@@ -23,6 +23,8 @@ ghost use Rattle.page_store.specs.Shown.{IsInPage, IsUnmarked, address, counts_i
 ghost use Rattle.page_store.specs.Told.{IsKnown, TellsAs, DoesWhereLive};
 ghost use Rattle.page_store.specs.State.{view_of};
 
+mod taped;
+
 use crate::fault::PageFault;
 use crate::marks::Marks;
 use crate::room::SaveRoom;

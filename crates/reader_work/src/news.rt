@@ -59,7 +59,8 @@ impl<C: Core + Drop, B: Board> News<'_, C, B> {
     }
 }
 
-// Tries once for the turn and, if it gets it, publishes all that was committed. `None` if memory was short, or if the core keeps no history.
+// Tries once for the turn and, if it gets it, publishes all that was committed. `None` if memory was short, or if the core keeps no history, or
+// has given up what was not published. What the feed has taken in before, a core that forgets need not keep any longer.
 fn try_publish<R: Wait, C: Core + Drop>(
     rt: &R,
     alloc: Global,
@@ -75,7 +76,8 @@ fn try_publish<R: Wait, C: Core + Drop>(
     ensures onlooker { (number : ℕ) → IsOnlooker number pass.old.known → IsOnlooker number pass.new.known }
     ensures shown { IfOk result (λ shown. IfSome shown (λ receipt. joined (told receipt) ≡ pass.new.known.seen)) }
 {
-    match mars.since(alloc, pass, feed.fed()) {
+    let fed = feed.fed();
+    match mars.since(alloc, pass, fed, fed) {
         Ok(Ok(news)) => match feed.feed(rt, news.as_slice()) {
             Ok(receipt) => Ok(Some(receipt)),
             Err(NoMemory) => Ok(None),
@@ -86,7 +88,7 @@ fn try_publish<R: Wait, C: Core + Drop>(
 }
 
 /// Publishes all that callers have committed so far: the receipt says all that the pass has then seen. `None` if memory was short, and what is
-/// left out then goes out with the next; or if the core keeps no history. It waits for its turn on the core.
+/// left out then goes out with the next; or if the core does not have the history any longer. It waits for its turn on the core.
 pub fn publish<R: Wait, C: Core + Drop>(
     rt: &R,
     alloc: Global,

@@ -28,6 +28,8 @@ ghost use Rattle.record_table.specs.Walked.{Walked, data_cost};
 ghost use Rattle.record_table.specs.Works.{RemovesFrom};
 ghost use Rattle.record_table.specs.Names.{BeginsWithMain, IsNew, IsCalled, names_of, name_at, key_in};
 
+mod taped;
+
 use crate::fault::{AttachRecords, TableFault};
 use crate::hearings::Hearings;
 use crate::making::{MakeFault, make};

@@ -82,7 +82,8 @@ fn blank(alloc: Global, len: u64) -> Result<MemoryMedia, NoMemory> {
 
 /// Whether a medium begins as an array of its length does.
 pub fn holds_array<M: Media>(media: &mut M) -> Result<bool, Failed>
-    ensures { IfOk result (λ held. IsTrue M.tells → IsTrue held → BeginsAsArray (M.view media.old)) }
+    ensures held { IfOk result (λ held. IsTrue M.tells → IsTrue held → BeginsAsArray (M.view media.old)) }
+    ensures each { IfOk result (λ held. IsTrue M.tells → BeginsAsArray (M.view media.old) → IsTrue held) }
 {
     let len = media.len();
     if len < HEADER_LEN {

@@ -38,7 +38,8 @@ pub fn publish_and_get<R: Wait>(
 
 /// Publishes what the callers of a shared core have committed since the feed's last transaction, all at once. The pass is one that makes no
 /// calls of its own, and nothing else is fed. `None` if another pass had the turn just then, or if memory was short: the next time makes up
-/// for it.
+/// for it. What the feed has taken in need not be kept any longer: a core with `KeepsNews` then has in memory what was committed since, and its
+/// memory does not grow with the run.
 pub fn publish_news<R: Wait, C: Core + Drop>(
     rt: &R,
     alloc: Global,
@@ -52,7 +53,8 @@ pub fn publish_news<R: Wait, C: Core + Drop>(
     ensures behind { length (joined (fed feed.new)) ≤ length pass.new.known.seen }
     ensures book { fed_book feed.new ≡ fed_book feed.old }
 {
-    match mars.since(alloc, pass, feed.fed()) {
+    let fed = feed.fed();
+    match mars.since(alloc, pass, fed, fed) {
         Ok(Ok(news)) => feed.feed(rt, news.as_slice()).ok(),
         Ok(Err(_)) | Err(_) => None,
     }

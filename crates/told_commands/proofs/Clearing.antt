@@ -13,11 +13,10 @@ use Rattle.eaw_face.specs.State as face
 use Rattle.eaw_face.specs.StoreView.{StoreView, LeavesOnly}
 use Rattle.eaw_device.specs.Opens.{Opens, KeepsData, Attached, HoldsArray, IsBehind}
 use Rattle.page_store.specs.Index.{Index}
-use Rattle.record_table.specs.Does.{OpensWith}
+use Rattle.record_table.specs.Names.{names_of}
 use Rattle.record_table.specs.Shown.{table_of}
 use Rattle.record_table.specs.Upgrading.{upgraded, OpensUpgraded}
 use Rattle.history.specs.Legal.{records}
-use Rattle.history.specs.Writes.{Table}
 use Rattle.history.specs.declared.transaction.Done.{Done}
 use Rattle.history.specs.Table.{Granted}
 use Rattle.history.specs.declared.call.Call.TheVariants.{Purge}
@@ -32,6 +31,7 @@ use Rattle.caller_steps.specs.Room.{Limits}
 use Rattle.caller_steps.specs.State.{State, Offer, unoffered}
 use Rattle.caller_steps.specs.Step.{StepAt, StepBy, StepIf, Step}
 use Rattle.caller_steps.specs.Step as steps_of_callers
+use Rattle.mars_core.specs.Making.{OpensAsNamed}
 use Rattle.mars_core.specs.Over.{IsOver, Begins, limits_of}
 use Rattle.mars_core.specs.declared.fault.CoreFault.{CoreFault}
 use Rattle.mars_core.specs.declared.fault.CoreFault.TheVariants as core
@@ -41,8 +41,8 @@ use Rattle.script_run.specs.declared.ended.Ended.{Ended}
 use Rattle.script_run.specs.declared.ended.Ended.TheVariants as script
 use Rattle.array_runs.specs.Forms.{index_of_form, index_at, SaysForm}
 use Rattle.array_runs.specs.Records.{HoldsRecords, IsDamaged, Exceeds, OverRecords, HasAll, begun_on}
-use Rattle.told_commands.specs.Purge.{ClearsTo, ClearsStore, ClearedCounts, IsAnswer, StopCause, cleared, HasRecords, PurgesRecords, PurgedBy, purged_end, LeavesPurged}
-use Rattle.told_commands.specs.Told.{WorksOn, Tells, FaultCounts, Ran}
+use Rattle.told_commands.specs.Purge.{ClearsTo, ClearsStore, ClearedCounts, IsAnswer, StopCause, cleared, PurgesRecords, PurgedBy, purged_end, LeavesPurged}
+use Rattle.told_commands.specs.Told.{HasNames, WorksOn, Tells, FaultCounts, Ran}
 use Rattle.array_runs.specs.Statuses.{Counts, IsEarly, served_status}
 use Rattle.array_runs.specs.declared.status.Status.{Status}
 use Rattle.array_runs.specs.declared.status.Status.TheVariants.{Good, WriteFault, NoMemory}
@@ -69,7 +69,7 @@ answers old _ alive idle cause = absurd cause
 cleared_step : (limits : Limits) (old new : State) (reply : Reply) → old.is_dead ≡ false → old.live 0 ≡ None → old.offers 0 ≡ unoffered → Step limits old 0 Purge reply new → steps_of_callers.Clears limits old reply new
 cleared_step limits old new reply alive none free step =
     subst (λ (o : Option Granted). StepAt limits o old 0 Purge reply new) none
-    (subst (λ (o : Offer). StepBy limits o old 0 Purge reply new) free (subst (λ (b : Bool). StepIf limits b old 0 Purge reply new) alive step))
+    (subst (λ (o : Offer). StepBy limits o old 0 Purge reply new) free (subst (λ (b : Bool). StepIf limits b old 0 Purge reply new) alive step.acts))
 
 -- it changes neither the history nor what is in doubt
 unchanged : (limits : Limits) (old new : State) (reply : Reply) → steps_of_callers.Clears limits old reply new → (new.history ≡ old.history) × (new.doubt ≡ old.doubt)
@@ -133,15 +133,25 @@ module _ (tells : Bool) (Opens : Shape → List ℕ → List ℕ → Type 0) (in
   first_base : IsTrue tells → core.state.base ≡ table_of index old.state.bytes
   first_base told = ap (λ (s : State). s.base) (begins.state told)
 
-  -- what has a prefix of no transactions has the records at first
-  has_records : IsTrue tells → (least : ℕ) (image : List ℕ) → HasPrefixOf later.opens later.state least image → OpensWith (Opens old.shape) index image (table_of index old.state.bytes)
+  first_names : IsTrue tells → core.state.names ≡ names_of old.state.bytes
+  first_names told = ap (λ (s : State). s.names) (begins.state told)
+
+  -- what has a prefix of no transactions has the records and the names at first
+  has_records : IsTrue tells → (least : ℕ) (image : List ℕ) → HasPrefixOf later.opens later.state least image → OpensAsNamed (Opens old.shape) index old.state.bytes image
   has_records told least image has =
       let table = records later.state.base (take has.count (later.state.history ++ later.state.doubt)) in
       let is : table ≡ table_of index old.state.bytes =
       ap (λ (l : List Done). records later.state.base (take has.count l)) (empty told) ∙ ap (records later.state.base) (none_taken has.count) ∙ steps.moves.base ∙ first_base told in
-      subst (λ (x : Shape × Table). OpensWith (Opens x.0) index image x.1) (λ i. (shape i, is i)) ((over.opens_to image table).1 has.opens)
+      let opens = (over.opens_to image table).1 has.opens in
+      record {
+        bytes = opens.bytes;
+        opened = subst (λ (s : Shape). Opens s image opens.bytes) shape opens.opened;
+        sound = opens.sound;
+        named = opens.named ∙ steps.moves.names ∙ first_names told;
+        shows = opens.shows ∙ is;
+      }
 
-  purge_time : IsTrue tells → LeavesOnly (λ image. OpensWith (Opens old.shape) index image (table_of index old.state.bytes)) mid new
+  purge_time : IsTrue tells → LeavesOnly (OpensAsNamed (Opens old.shape) index old.state.bytes) mid new
   purge_time told = record {
     later = omega (arith, begins.over.moment, over.moment, (steps.time told).later);
     keeps = λ t image le left. (over.left t image).1 ((steps.time told).keeps t image (omega (arith, le, begins.over.moment)) ((begins.over.left t image).0 left));
@@ -149,13 +159,21 @@ module _ (tells : Bool) (Opens : Shape → List ℕ → List ℕ → Type 0) (in
         ((steps.time told).only t image (omega (arith, le, begins.over.moment)) ((over.left t image).0 left));
   }
 
-  -- data in version 2 has the same records
+  -- data in version 2 has the same names and the same records
+  names_two : IsTrue tells → names_of (upgraded old.state.bytes) ≡ names_of old.state.bytes
+  names_two told = ap names_of (sym (begins.bytes told)) ∙ begins.over.names told begins.alive ∙ first_names told
+
   same_two : IsTrue tells → table_of index (upgraded old.state.bytes) ≡ table_of index old.state.bytes
   same_two told = ap (table_of index) (sym (begins.bytes told)) ∙ begins.over.table told begins.alive ∙ ap (records core.state.base) begins.fresh.0 ∙ first_base told
 
-  first_has : IsTrue tells → (image : List ℕ) → OpensUpgraded (Opens old.shape) old.state.bytes image → OpensWith (Opens old.shape) index image (table_of index old.state.bytes)
-  first_has told image opens = ⊎_elim (λ was. record { bytes = old.state.bytes; opened = was; sound = begins.sound told; shows = refl })
-      (λ is. record { bytes = upgraded old.state.bytes; opened = is; sound = subst index.sound (begins.bytes told) (begins.over.sound told begins.alive); shows = same_two told }) opens
+  first_has : IsTrue tells → (image : List ℕ) → OpensUpgraded (Opens old.shape) old.state.bytes image → OpensAsNamed (Opens old.shape) index old.state.bytes image
+  first_has told image opens = ⊎_elim (λ was. record { bytes = old.state.bytes; opened = was; sound = begins.sound told; named = refl; shows = refl }) (λ is. record {
+    bytes = upgraded old.state.bytes;
+    opened = is;
+    sound = subst index.sound (begins.bytes told) (begins.over.sound told begins.alive);
+    named = names_two told;
+    shows = same_two told;
+  }) opens
 
   counts : ClearedCounts (cleared reply) old.faults new.faults
   counts =
@@ -210,9 +228,9 @@ clears_over tells Opens form old mid new says r clears = record {
   counts = subst (λ (n : ℕ). ClearedCounts r n new.faults) says.faults clears.counts;
   alive = clears.alive;
   cleared = λ told. moved told (λ h b i. IfOk r (λ n. ClearsTo i h b n new.state.bytes)) (clears.cleared told);
-  time = λ told. going.then (going.weaker (λ image opens. record { bytes = old.state.bytes; opened = opens; sound = sound told; shows = refl }) (says.time told))
-      (moved told (λ h b i. LeavesOnly (λ image. OpensWith (Opens h) i image (table_of i b)) mid new) (clears.time told));
-  now = λ told. moved told (λ h b i. (image : List ℕ) → new.left_since new.moment image → OpensWith (Opens h) i image (table_of i b)) (clears.now told);
+  time = λ told. going.then (going.weaker (λ image opens. record { bytes = old.state.bytes; opened = opens; sound = sound told; named = refl; shows = refl }) (says.time told))
+      (moved told (λ h b i. LeavesOnly (OpensAsNamed (Opens h) i b) mid new) (clears.time told));
+  now = λ told. moved told (λ h b i. (image : List ℕ) → new.left_since new.moment image → OpensAsNamed (Opens h) i b image) (clears.now told);
 }
   where
     bytes : IsTrue tells → mid.state.bytes ≡ old.state.bytes
@@ -246,10 +264,10 @@ module _ (tells : Bool) (told : IsTrue tells) (old : View) (only_now : (image : 
   left_now image left = subst (λ (t : ℕ). later.left_since t image) behind.moment (behind.left new.moment image (counts_now new.moment image told (omega arith) left))
 
   module _ (result : Result ℕ CoreFault) (clears : ClearsStore tells (Opens store.shape) (index_at store.state.bytes) store later result) where
-    has : (image : List ℕ) → OpensWith (Opens store.shape) (index_at store.state.bytes) image (table_of (index_at store.state.bytes) store.state.bytes) → HasRecords store.shape old image
-    has image opens = own (λ b. OpensWith (Opens store.shape) (index_at b) image (table_of (index_at b) b)) opens
+    has : (image : List ℕ) → OpensAsNamed (Opens store.shape) (index_at store.state.bytes) store.state.bytes image → HasNames store.shape old image
+    has image opens = own (λ b. OpensAsNamed (Opens store.shape) (index_at b) b image) opens
 
-    clear : WorksOn store.shape (HasRecords store.shape old) old new
+    clear : WorksOn store.shape (HasNames store.shape old) old new
     clear = record {
       holds = holds tells told old only_now store attached keeps (clears.sound told);
       later = λ all. omega (arith, (keeps told store.shape all).later, (clears.time told).later, behind.moment);

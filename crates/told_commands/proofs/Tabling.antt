@@ -29,8 +29,8 @@ use Rattle.script_run.specs.declared.ended.Ended.TheVariants as script
 use Rattle.array_runs.specs.Forms.{index_of_form, index_at, SaysForm}
 use Rattle.array_runs.specs.Records.{HoldsRecords, IsDamaged, Exceeds, OverRecords}
 use Rattle.array_runs.specs.Statuses.{Counts, IsEarly}
-use Rattle.told_commands.specs.Tables.{made_status, table_line, HasNames, HasNewName, Tries, MakesTable, MadeBy, RefusalCause, Refuses, made_end, LeavesTable}
-use Rattle.told_commands.specs.Told.{Tells, FaultCounts, IsStop, Ran}
+use Rattle.told_commands.specs.Tables.{made_status, table_line, HasNewName, Tries, MakesTable, MadeBy, RefusalCause, Refuses, made_end, LeavesTable}
+use Rattle.told_commands.specs.Told.{HasNames, Tells, FaultCounts, IsStop, Ran}
 use Rattle.array_runs.specs.declared.status.Refusal.{Refusal}
 use Rattle.array_runs.specs.declared.status.Refusal.TheVariants.{Exists, TablesFull, PagesFull}
 use Rattle.array_runs.specs.declared.status.Status.{Status}

@@ -6,14 +6,12 @@ use Rattle.array_shape.specs.declared.shape.Shape.{Shape}
 use Rattle.array_image.specs.Decided.{settled_data}
 use Rattle.eaw_face.specs.Causes.{IsAlive}
 use Rattle.eaw_face.specs.StoreView.{StoreView, LeavesOnly}
-use Rattle.eaw_device.specs.Opens.{Opens}
 use Rattle.page_store.specs.Index.{Index}
-use Rattle.record_table.specs.Does.{OpensWith}
-use Rattle.record_table.specs.Shown.{table_of}
 use Rattle.history.specs.declared.call.Reply.{Reply}
 use Rattle.history.specs.declared.call.Reply.TheVariants as says
 use Rattle.caller_steps.specs.Purging.{Purges}
 use Rattle.caller_steps.specs.State.{State}
+use Rattle.mars_core.specs.Making.{OpensAsNamed}
 use Rattle.mars_core.specs.Over.{limits_of}
 use Rattle.mars_core.specs.declared.fault.CoreFault.{CoreFault}
 use Rattle.mars_core.specs.declared.fault.CoreFault.TheVariants as core
@@ -25,7 +23,7 @@ use Rattle.array_runs.specs.Forms.{index_in}
 use Rattle.array_runs.specs.Records.{HasAll, begun_on}
 use Rattle.array_runs.specs.Statuses.{served_status}
 use Rattle.array_runs.specs.declared.status.Status.{Status}
-use Rattle.told_commands.specs.Told.{WorksOn, Finishes}
+use Rattle.told_commands.specs.Told.{HasNames, WorksOn, Finishes}
 
 -- Of n keys without a record the index, in version 2, has lost each, and each key without a record that it still has is the last of its page.
 -- This is said of the data of a store.
@@ -59,7 +57,7 @@ ClearedCounts (Err core.Media) media media' = Rose media media'
 ClearedCounts _ media media' = media' ≡ media
 
 -- A purge of the records of a store, which are sound. What stops it is a fault of the medium, or a damaged page. Whatever a loss of
--- power might have left meanwhile, or may leave now, opens with the records that there were.
+-- power might have left meanwhile, or may leave now, opens with the records that there were, under the names that there were.
 pub record ClearsStore (tells : Bool) (Opens : List ℕ → List ℕ → Type 0) (index : Index) (old new : StoreView) (result : Result ℕ CoreFault) : Type 0 where
   pub shape : new.shape ≡ old.shape
   pub sound : IsTrue tells → index.sound old.state.bytes
@@ -67,28 +65,24 @@ pub record ClearsStore (tells : Bool) (Opens : List ℕ → List ℕ → Type 0)
   pub counts : ClearedCounts result old.faults new.faults
   pub alive : IfOk result (λ n. IsAlive new)
   pub cleared : IsTrue tells → IfOk result (λ n. ClearsTo index old.shape old.state.bytes n new.state.bytes)
-  pub time : IsTrue tells → LeavesOnly (λ image. OpensWith Opens index image (table_of index old.state.bytes)) old new
-  pub now : IsTrue tells → (image : List ℕ) → new.left_since new.moment image → OpensWith Opens index image (table_of index old.state.bytes)
-
--- an image opens with the records that were there
-abbrev pub HasRecords : Shape → View → List ℕ → Type 0
-HasRecords shape old image = OpensWith (Opens shape) (index_in shape old) image (table_of (index_in shape old) (settled_data shape old.content.bytes))
+  pub time : IsTrue tells → LeavesOnly (OpensAsNamed Opens index old.state.bytes) old new
+  pub now : IsTrue tells → (image : List ℕ) → new.left_since new.moment image → OpensAsNamed Opens index old.state.bytes image
 
 -- The records were purged. The index of the data in version 2 has lost so many keys, each without a record, and it has no other key without
--- a record but such as are the last of their page. The records are as they were, and so whatever a loss of power may leave has them. How many
--- keys they are is told.
+-- a record but such as are the last of their page. The records and the names are as they were, and so whatever a loss of power may leave has
+-- them. How many keys they are is told.
 pub record PurgesRecords (old new : View) (cut : Bool) (text : List ℕ) (ended : Ended) : Type 0 where
   pub shape : Shape
-  pub works : WorksOn shape (HasRecords shape old) old new
+  pub works : WorksOn shape (HasNames shape old) old new
   pub count : ℕ
   pub final : State
   pub purged : Purges (limits_of (index_in shape old) shape) (begun_on (index_in shape old) (settled_data shape old.content.bytes)) count final
   pub left : HasAll (index_in shape new) (settled_data shape new.content.bytes) final
-  pub finishes : Finishes shape (HasRecords shape old) (number_line (codes "purged") count) new cut text ended
+  pub finishes : Finishes shape (HasNames shape old) (number_line (codes "purged") count) new cut text ended
 
 -- By how it ended. If the medium failed, nothing is told.
 abbrev pub PurgedBy : View → View → Bool → List ℕ → Ended → Type 0
-PurgedBy old new cut text MediaFault = IsWritten cut text [] × ((shape : Shape) × WorksOn shape (HasRecords shape old) old new)
+PurgedBy old new cut text MediaFault = IsWritten cut text [] × ((shape : Shape) × WorksOn shape (HasNames shape old) old new)
 PurgedBy old new cut text NoMemory = ⊥
 PurgedBy old new cut text ended = PurgesRecords old new cut text ended
 

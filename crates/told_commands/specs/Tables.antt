@@ -15,7 +15,7 @@ use Rattle.record_table.specs.Upgrading.{upgraded}
 use Rattle.record_table.specs.declared.making.MakeFault.{MakeFault}
 use Rattle.record_table.specs.declared.making.MakeFault.TheVariants as make
 use Rattle.mars_core.specs.Making as making
-use Rattle.mars_core.specs.Making.{OpensAsNamed, OpensWithName}
+use Rattle.mars_core.specs.Making.{OpensWithName}
 use Rattle.texts.specs.Written.{IsWritten}
 use Rattle.script_run.specs.declared.ended.Ended.{Ended}
 use Rattle.script_run.specs.declared.ended.Ended.TheVariants.{MediaFault, NoMemory}
@@ -25,7 +25,7 @@ use Rattle.array_runs.specs.declared.status.Refusal.TheVariants.{Exists, TablesF
 use Rattle.array_runs.specs.declared.status.Status.{Status}
 use Rattle.array_runs.specs.declared.status.Status.TheVariants.{Refused, Damaged}
 use Rattle.array_runs.specs.declared.status.Status.TheVariants.{MediaFault as MediaStatus}
-use Rattle.told_commands.specs.Told.{WorksOn, Finishes}
+use Rattle.told_commands.specs.Told.{HasNames, WorksOn, Finishes}
 
 -- the line that tells a new table: its number and its name
 abbrev pub table_line : ℕ → List ℕ → List ℕ
@@ -35,11 +35,7 @@ table_line number name = codes "table " ++ (decimal number ++ 32 ∷ (name ++ 10
 abbrev pub names_on : Shape → View → List (List ℕ)
 names_on shape media = names_of (settled_data shape media.content.bytes)
 
--- an image opens with the records and the names that were there
-abbrev pub HasNames : Shape → View → List ℕ → Type 0
-HasNames shape old image = OpensAsNamed (Opens shape) (index_in shape old) (settled_data shape old.content.bytes) image
-
--- the same with one more name, which is the last
+-- an image opens with the records that were there, and with one more name, which is the last
 abbrev pub HasNewName : List ℕ → Shape → View → List ℕ → Type 0
 HasNewName name shape old image = OpensWithName (Opens shape) (index_in shape old) name (settled_data shape old.content.bytes) image
 

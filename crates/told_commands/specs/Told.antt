@@ -4,15 +4,17 @@ use Rattle.mars_base.specs.Causes.{Rose}
 use Rattle.pcm_media.specs.Images.{MayLeave}
 use Rattle.pcm_media.specs.View.{View}
 use Rattle.array_shape.specs.declared.shape.Shape.{Shape}
+use Rattle.array_image.specs.Decided.{settled_data}
 use Rattle.device_recovery.specs.Recovered.{HasNoVote}
 use Rattle.eaw_face.specs.StoreView.{StoreView}
-use Rattle.eaw_device.specs.Opens.{AllOpen, OpensLike, KeepsData, Attached, IsBehind}
+use Rattle.eaw_device.specs.Opens.{Opens, AllOpen, OpensLike, KeepsData, Attached, IsBehind}
 use Rattle.page_store.specs.Index.{Index}
+use Rattle.mars_core.specs.Making.{OpensAsNamed}
 use Rattle.mars_core.specs.declared.fault.CoreFault.{CoreFault}
 use Rattle.texts.specs.Written.{IsWritten}
 use Rattle.script_run.specs.declared.ended.Ended.{Ended}
 use Rattle.script_run.specs.declared.ended.Ended.TheVariants as script
-use Rattle.array_runs.specs.Forms.{index_of_form, index_at, SaysForm}
+use Rattle.array_runs.specs.Forms.{index_of_form, index_at, index_in, SaysForm}
 use Rattle.array_runs.specs.Records.{HoldsRecords}
 use Rattle.array_runs.specs.Statuses.{served_status}
 use Rattle.array_runs.specs.Untaken.{Untaken}
@@ -49,6 +51,10 @@ pub record WorksOn (shape : Shape) (Is : List ℕ → Type 0) (old new : View) :
   pub holds : HoldsRecords shape old
   pub later : AllOpen shape old.content → old.moment ≤ new.moment
   pub since : AllOpen shape old.content → (image : List ℕ) → new.left_since old.moment image → OpensLike shape old.content image ⊎ Is image
+
+-- an image opens with the records and the names that were there
+abbrev pub HasNames : Shape → View → List ℕ → Type 0
+HasNames shape old image = OpensAsNamed (Opens shape) (index_in shape old) (settled_data shape old.content.bytes) image
 
 -- The work came to its end: whatever a loss of power may leave is such, no row is voted, and this is told, or a front of it if the sink cut it
 -- short.

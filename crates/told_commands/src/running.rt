@@ -8,7 +8,7 @@ ghost use Rattle.told_commands.specs.Told.{said, IsStop, FaultCounts, Tells, Lea
 use crate::told_work::{Told, ToldWork};
 use array_runs::{Status, find_form, open_for, script_status, served_status, write_ended};
 use btree_pages::BTreePages;
-use eaw_device::{AtOnce, Eaw};
+use eaw_device::Eaw;
 use eaw_face::EawStore;
 use key_list::KeyList;
 use outside::{Sink, Source};
@@ -16,6 +16,7 @@ use page_store::SaveRoom;
 use pcm_media::Media;
 use record_table::Form;
 use std::alloc::Global;
+use std::marker::Brand;
 
 /// Does the work over the records of the array that the medium holds, if they are sound, writes what is told of it, and returns the medium.
 pub fn run_told<S: Source, K: Sink, M: Media + Drop + Send, W: ToldWork>(
@@ -35,8 +36,8 @@ pub fn run_told<S: Source, K: Sink, M: Media + Drop + Send, W: ToldWork>(
     ensures ran { Wrote K.tells (K.written sink.old) (K.written sink.new) (K.faults sink.old) (K.faults sink.new)
         (λ cut text. IsTrue M.tells → W.comes work.now (M.view media) result.0 (M.view result.1) cut text) }
 {
-    work.laws::<Eaw<M, AtOnce>, M>();
-    let (room, _, store) = match open_for(alloc, false, 0, source, media, AtOnce) {
+    work.laws::<Eaw<M>, M>();
+    let (room, _, store) = match open_for::<S, M, Brand>(alloc, false, 0, source, media, 0) {
         Ok(opened) => opened,
         Err(ended) => return ended,
     };

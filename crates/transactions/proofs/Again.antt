@@ -31,7 +31,7 @@ use Rattle.transactions.proofs.Trying.{tries_on}
 dead_on : (limits : Limits) (old new : State) (turns : List Turn) → Runs limits old turns new → old.is_dead ≡ true → new.is_dead ≡ true
 dead_on limits old new [] runs dead = ap (λ (s : State). s.is_dead) runs ∙ dead
 dead_on limits old new (turn ∷ turns) runs dead =
-    let still = subst (λ (b : Bool). StepIf limits b old turn.0 turn.1 turn.2 runs.0) dead runs.1 in
+    let still = subst (λ (b : Bool). StepIf limits b old turn.0 turn.1 turn.2 runs.0) dead runs.1.acts in
     dead_on limits runs.0 new turns runs.2 (ap (λ (s : State). s.is_dead) still.1 ∙ dead)
 
 alive_before : (caller : ℕ) (mid new : CoreView) → Went caller mid new → new.state.is_dead ≡ false → mid.state.is_dead ≡ false

@@ -53,6 +53,13 @@ impl LateData {
         Ok(LateData { queue, parts })
     }
 
+    /// How many commits may wait.
+    pub fn depth(&self) -> u8
+        ensures { result ≡ self.now.queue.depth }
+    {
+        self.queue.depth
+    }
+
     /// How many commits wait.
     pub fn len(&self) -> usize
         ensures { result ≡ length self.now.queue.ballots.items }

@@ -67,8 +67,8 @@ fn a_history_is_played(rt: HostRuntime) -> Result<(), Fail> {
     let table = main_table();
     let base = one_row(alloc, table, one)?;
     let history = history_of(alloc, back_and_look(alloc, table, other)?, 1)?;
-    assert!(rt; the_one(&play(history.as_slice(), &base, alloc)?, table) == Some(other));
-    assert!(rt; is_legal(history.as_slice(), &base, alloc)?);
+    assert!(rt; the_one(&play(alloc, history.as_slice(), &base)?, table) == Some(other));
+    assert!(rt; is_legal(alloc, history.as_slice(), &base)?);
     Ok(())
 }
 
@@ -85,7 +85,7 @@ fn records_of_two_tables_are_apart(rt: HostRuntime) -> Result<(), Fail> {
     };
     calls.push(get, Reply::Absent)?;
     let history = history_of(alloc, calls, 1)?;
-    assert!(rt; is_legal(history.as_slice(), &base, alloc)?);
+    assert!(rt; is_legal(alloc, history.as_slice(), &base)?);
     let mut calls = Calls::new(alloc);
     let put = Call::Put {
         table: other,
@@ -94,7 +94,7 @@ fn records_of_two_tables_are_apart(rt: HostRuntime) -> Result<(), Fail> {
     };
     calls.push(put, Reply::Fine)?;
     let history = history_of(alloc, calls, 1)?;
-    assert_eq!(rt; play(history.as_slice(), &base, alloc)?.as_slice().len(), 2);
+    assert_eq!(rt; play(alloc, history.as_slice(), &base)?.as_slice().len(), 2);
     Ok(())
 }
 
@@ -102,7 +102,7 @@ fn records_of_two_tables_are_apart(rt: HostRuntime) -> Result<(), Fail> {
 fn a_skipped_number_is_illegal(rt: HostRuntime) -> Result<(), Fail> {
     let alloc = rt.alloc();
     let history = history_of(alloc, Calls::new(alloc), 2)?;
-    assert!(rt; !is_legal(history.as_slice(), &Tables::new(alloc), alloc)?);
+    assert!(rt; !is_legal(alloc, history.as_slice(), &Tables::new(alloc))?);
     Ok(())
 }
 
@@ -128,7 +128,7 @@ fn a_wrong_reply_is_illegal(rt: HostRuntime) -> Result<(), Fail> {
         let mut calls = Calls::new(alloc);
         calls.push(call, reply)?;
         let history = history_of(alloc, calls, 1)?;
-        assert!(rt; !is_legal(history.as_slice(), &base, alloc)?, "{call:?}");
+        assert!(rt; !is_legal(alloc, history.as_slice(), &base)?, "{call:?}");
     }
     Ok(())
 }

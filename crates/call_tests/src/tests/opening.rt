@@ -20,7 +20,7 @@ pub fn open_bank<M: Media + Drop>(alloc: Global, media: M) -> Option<Bank<M>>
     ensures inside { IfSome result (λ core. 0 < (⟦<Bank<M> as Steps>⟧.view core).limits.callers) }
     ensures sound { IfSome result (λ core. IsTrue M.tells → IsSound (⟦<Bank<M> as Steps>⟧.view core).state) }
 {
-    open(alloc, media, 1).ok()
+    open(alloc, media, 1, 0).ok()
 }
 
 /// The medium of a core.

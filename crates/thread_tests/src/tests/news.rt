@@ -4,10 +4,11 @@ ghost use Rattle.caller_steps.specs.Prefix.{Grows};
 ghost use Rattle.mars_manager.specs.Pass.{dealt};
 ghost use Rattle.mars_manager.specs.Sharing.{CanShare};
 
-use super::sharing::{array, opened};
+use super::sharing::{array, opened_by};
 use caller_steps::Core;
 use history::{Call, Done, History, Key, Reply, Tables, Told, main_table};
-use mars_manager::{Mars, Pass, Passes};
+use mars_manager::{Mars, NotCopied, Pass, Passes};
+use noted::{Keeper, KeepsAll, KeepsNews};
 use pcm_media::Media;
 use record_slots::Value;
 use sample_callers::put_one;
@@ -53,7 +54,7 @@ fn behind<C: Core + Drop>(
     ensures seen { Grows pass.old.known.seen pass.new.known.seen }
     ensures copy { IfSome result (λ history. history ≡ drop from pass.new.known.seen) }
 {
-    match mars.since(alloc, pass, from) {
+    match mars.since(alloc, pass, from, 0) {
         Ok(Ok(history)) => Some(history),
         Ok(Err(_)) | Err(_) => None,
     }
@@ -80,7 +81,7 @@ fn reads_all<C: Core + Drop>(
     Some(right && none.as_slice().is_empty())
 }
 
-// What a reader is answered for the key 1 before it is fed, and then for the keys 1 to 3.
+// What a reader is answered for the key 1 before it is fed, and then for the keys 1 to 3. Then nothing is left to be fed.
 fn answers<C: Core + Drop, R: Wait>(
     rt: &R,
     alloc: Global,
@@ -101,8 +102,9 @@ fn answers<C: Core + Drop, R: Wait>(
     let before = reader.get(rt, &of_main(1));
     let shown = publish_news(rt, alloc, mars, pass, &mut feed).is_some();
     let read = read_three(rt, &mut reader);
+    let shown_again = publish_news(rt, alloc, mars, pass, &mut feed).is_some();
     feed.close(rt);
-    if !shown {
+    if !shown || !shown_again {
         return None;
     }
     Some([before, read.0, read.1, read.2])
@@ -117,6 +119,24 @@ fn of_main(key: u64) -> Key {
 
 type Read = (u64, Option<Value>);
 
+// What the pass reads of the history behind no transaction, and what a reader is answered; and how many transactions are copied, once they were
+// fed.
+type Outcome = (bool, [Read; 4], Result<usize, NotCopied>);
+
+fn copied_again<C: Core + Drop>(
+    alloc: Global,
+    mars: &Mars<C>,
+    pass: &mut Pass<C>,
+) -> Option<Result<usize, NotCopied>>
+    requires { pass.old.table ≡ mars.now.table }
+{
+    match mars.since(alloc, pass, 0, 0) {
+        Ok(Ok(history)) => Some(Ok(history.as_slice().len())),
+        Ok(Err(why)) => Some(Err(why)),
+        Err(_) => None,
+    }
+}
+
 fn read_three<R: Wait>(rt: &R, reader: &mut Reader) -> (Read, Read, Read) {
     let one = reader.get(rt, &of_main(1));
     let two = reader.get(rt, &of_main(2));
@@ -130,7 +150,7 @@ fn two_commits<C: Core + Drop, R: Wait>(
     mars: &Mars<C>,
     mut passes: Passes<C>,
     value: Value,
-) -> Option<(bool, [Read; 4])>
+) -> Option<Outcome>
     requires table { passes.table ≡ mars.now.table }
     requires passes { passes.list ≡ dealt passes.table mars.now.setup 3 }
 {
@@ -144,7 +164,8 @@ fn two_commits<C: Core + Drop, R: Wait>(
     }
     let right = reads_all(alloc, mars, &mut two, value)?;
     let read = answers(rt, alloc, mars, &mut two)?;
-    Some((right, read))
+    let again = copied_again(alloc, mars, &mut two)?;
+    Some((right, read, again))
 }
 
 fn over_core<C: Core + Drop, R: Wait>(
@@ -152,32 +173,37 @@ fn over_core<C: Core + Drop, R: Wait>(
     alloc: Global,
     core: C,
     value: Value,
-) -> Option<(bool, [Read; 4])>
+) -> Option<Outcome>
     requires { CanShare C.tells 3 (C.view core) }
 {
     let (mars, passes) = Mars::share(alloc, core, 3).ok()?;
     two_commits(rt, alloc, &mars, passes, value)
 }
 
-fn over_array<M: Media + Drop, R: Wait>(
+fn over_array<H: Keeper, M: Media + Drop, R: Wait>(
     rt: &R,
     alloc: Global,
     media: M,
     value: Value,
-) -> Option<(bool, [Read; 4])> {
-    let core = opened(alloc, media)?;
+) -> Option<Outcome> {
+    let core = opened_by::<M, H>(alloc, media)?;
     over_core(rt, alloc, core, value)
 }
 
+// What was fed stays where the core keeps all, and is given up where it keeps the news.
 #[test]
 fn what_was_committed_is_read_and_fed(rt: HostRuntime) -> Result<(), Fail> {
     let value = Value::of(b"kept").ok_or("value")?;
+    let answers = [(0, None), (2, Some(value)), (2, Some(value)), (2, None)];
     let media = array(rt.alloc()).ok_or("array")?;
-    let (right, read) = over_array(&rt, rt.alloc(), media, value).ok_or("shared")?;
-    assert!(rt; right);
-    assert_eq!(rt;
-        read,
-        [(0, None), (2, Some(value)), (2, Some(value)), (2, None)]
-    );
+    let all = over_array::<KeepsAll, _, _>(&rt, rt.alloc(), media, value).ok_or("shared")?;
+    assert!(rt; all.0);
+    assert_eq!(rt; all.1, answers);
+    assert_eq!(rt; all.2, Ok(2));
+    let media = array(rt.alloc()).ok_or("array")?;
+    let news = over_array::<KeepsNews, _, _>(&rt, rt.alloc(), media, value).ok_or("shared")?;
+    assert!(rt; news.0);
+    assert_eq!(rt; news.1, answers);
+    assert_eq!(rt; news.2, Err(NotCopied::Forgotten));
     Ok(())
 }

@@ -10,7 +10,7 @@ use caller_steps::Core as Steps;
 use eaw_device::{Eaw, format};
 use eaw_face::EawStore;
 use mars_core::Core;
-use noted::KeepsAll;
+use noted::{Keeper, KeepsAll};
 use page_store::SaveRoom;
 use pcm_media::{Media, MemoryMedia};
 use std::alloc::Global;
@@ -44,6 +44,16 @@ pub fn opened<M: Media + Drop>(
 ) -> Option<Core<Eaw<M>, BTreePages, KeepsAll>>
     ensures shared { IfSome result (λ core. CanShare ⟦<Core<Eaw<M>, BTreePages, KeepsAll> as Steps>⟧.tells 3 (⟦<Core<Eaw<M>, BTreePages, KeepsAll> as Steps>⟧.view core)) }
 {
+    opened_by(alloc, media)
+}
+
+/// The same with any keeper.
+pub fn opened_by<M: Media + Drop, H: Keeper>(
+    alloc: Global,
+    media: M,
+) -> Option<Core<Eaw<M>, BTreePages, H>>
+    ensures shared { IfSome result (λ core. CanShare ⟦<Core<Eaw<M>, BTreePages, H> as Steps>⟧.tells 3 (⟦<Core<Eaw<M>, BTreePages, H> as Steps>⟧.view core)) }
+{
     let Ok(store) = Eaw::attach(alloc, media) else {
         return None;
     };
@@ -54,11 +64,14 @@ pub fn opened<M: Media + Drop>(
 }
 
 // A core of three callers at least over the records of a store.
-fn core_over<S: EawStore + Drop>(alloc: Global, store: S) -> Option<Core<S, BTreePages, KeepsAll>>
+fn core_over<S: EawStore + Drop, H: Keeper>(
+    alloc: Global,
+    store: S,
+) -> Option<Core<S, BTreePages, H>>
     requires alive { IsAlive (S.view store) }
     requires free { (t : ℕ) → (S.view store).ranges t ≡ None }
     requires enough { 3 ≤ (S.view store).shape.numbers }
-    ensures shared { IfSome result (λ core. CanShare ⟦<Core<S, BTreePages, KeepsAll> as Steps>⟧.tells 3 (⟦<Core<S, BTreePages, KeepsAll> as Steps>⟧.view core)) }
+    ensures shared { IfSome result (λ core. CanShare ⟦<Core<S, BTreePages, H> as Steps>⟧.tells 3 (⟦<Core<S, BTreePages, H> as Steps>⟧.view core)) }
 {
     let room = SaveRoom::new(alloc).ok()?;
     match Core::attach(alloc, room, store) {

@@ -37,7 +37,7 @@ returns-then-callers-shape-clause-outcome g c = λ told.
     let media = g.M.Media in
     let old = media.view c.args.media in
     let attached = c.in-Ok-open.ensures.attached in
-    left_alone media.tells told old (g.met.M.Media.only_now c.args.media) _ attached c.in-Ok-open.ensures.keeps g.B.WriteBack.defers _ (media.view c.into_media.result) c.into_media.ensures _ refl
+    left_alone media.tells told old (g.met.M.Media.only_now c.args.media) _ attached c.in-Ok-open.ensures.keeps _ _ (media.view c.into_media.result) c.into_media.ensures.behind _ refl
     (_, array media.tells told old (g.met.M.Media.only_now c.args.media) _ attached c.in-Ok-open.ensures.keeps, omega (arith, c.if-callers-shape.true, ap (λ s. s.numbers) c.shape.ensures))
 
 pub returns-then-callers-shape-clause-usage : goal.returns-then-callers-shape-clause-usage
@@ -47,7 +47,7 @@ pub returns-then-callers-shape-clause-steady : goal.returns-then-callers-shape-c
 returns-then-callers-shape-clause-steady g c = λ steady is. subst IsEarly (sym is) tt
 
 pub returns-then-callers-shape-clause-counts : goal.returns-then-callers-shape-clause-counts
-returns-then-callers-shape-clause-counts g c = λ sink. (c.in-Ok-open.ensures.kept, refl, c.into_media.ensures.faults ∙ c.in-Ok-open.ensures.attached.faults)
+returns-then-callers-shape-clause-counts g c = λ sink. (c.in-Ok-open.ensures.kept, refl, c.into_media.ensures.behind.faults ∙ c.in-Ok-open.ensures.attached.faults)
 
 pub returns-clause-enough : goal.returns-clause-enough
 returns-clause-enough g c = omega (arith, c.if-callers-shape.false, ap (λ s. s.numbers) c.shape.ensures)

@@ -23,5 +23,6 @@ returns c = λ text read has count lines.
       proper = has.proper;
       same = has.same;
       are = are_tables c.args.gathered.now read has (rw same at c.in_ok-tables.ensures.rising);
+      names = has.names;
     } in
     subst (IsDumpOf text) (sym same) told

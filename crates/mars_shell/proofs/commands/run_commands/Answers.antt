@@ -44,7 +44,7 @@ returns-clause-ran g c =
         λ told.
             subst (λ (s : Status). OutcomeFor (Eaw c.args.options) old s new input said.ran.cut said.ran.text) (sym c.script_status.ensures)
             (outcome_of true (λ end. ObeysAs c.args.options.frames old input end new said.ran.cut said.ran.text) (λ page. ⊥) ⊥ ⊥ old new said.ran.cut said.ran.text ended
-            (obeys_as media.tells told old (g.met.M.Media.only_now c.args.media) _ c.in-Ok.ensures.attached c.in-Ok.ensures.keeps _ new c.into_media.ensures (g.met.M.Media.counts_now c.into_media.result)
+            (obeys_as media.tells told old (g.met.M.Media.only_now c.args.media) _ c.in-Ok.ensures.attached c.in-Ok.ensures.keeps _ new c.into_media.ensures.behind (g.met.M.Media.counts_now c.into_media.result)
             input ended said.ran.cut said.ran.text said.alive c.args.options.frames (rw c.deref.ensures.value at (said.ran.holds told)))),
       );
     }
@@ -78,7 +78,7 @@ returns-clause-silent g c = λ either. ⊎_elim (λ early. absurd (script_late c
     (λ refused. absurd (script_accepted c.answer_script-ended.result.0 (subst IsRefusal c.script_status.ensures refused))) either
 
 pub returns-clause-counts : goal.returns-clause-counts
-returns-clause-counts g c = scripted c.answer_script-ended.result.0 c.script_status.result _ _ _ _ _ _ _ _ c.script_status.ensures c.in-Ok.ensures.kept c.in-Ok.ensures.attached.faults c.into_media.ensures.faults c.answer_script-ended.ensures.counts
+returns-clause-counts g c = scripted c.answer_script-ended.result.0 c.script_status.result _ _ _ _ _ _ _ _ c.script_status.ensures c.in-Ok.ensures.kept c.in-Ok.ensures.attached.faults c.into_media.ensures.behind.faults c.answer_script-ended.ensures.counts
 
 pub returns-clause-steady : goal.returns-clause-steady
 returns-clause-steady g c = λ steady is. script_late c.answer_script-ended.result.0 (subst IsEarly c.script_status.ensures (subst IsEarly (sym is) tt))

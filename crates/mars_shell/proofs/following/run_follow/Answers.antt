@@ -34,7 +34,7 @@ returns-clause-ran g c =
         λ told. inr (
           ended,
           c.follow_status.ensures,
-          follows media.tells told old (g.met.M.Media.only_now c.args.media) _ c.in-Ok.ensures.attached c.in-Ok.ensures.keeps _ new c.into_media.ensures (g.met.M.Media.counts_now c.into_media.result)
+          follows media.tells told old (g.met.M.Media.only_now c.args.media) _ c.in-Ok.ensures.attached c.in-Ok.ensures.keeps _ new c.into_media.ensures.behind (g.met.M.Media.counts_now c.into_media.result)
               input ended said.ran.cut said.ran.text (rw c.deref.ensures.value at said.ran.holds) (rw c.deref.ensures.value at (said.moments told)),
         ),
       );
@@ -69,7 +69,7 @@ returns-clause-silent g c = λ either. ⊎_elim (λ early. absurd (follow_late c
     (λ refused. absurd (follow_accepted c.follow_lines-ended.result.0 (subst IsRefusal c.follow_status.ensures refused))) either
 
 pub returns-clause-counts : goal.returns-clause-counts
-returns-clause-counts g c = follow_counted c.follow_lines-ended.result.0 c.follow_status.result _ _ _ _ _ _ _ _ c.follow_status.ensures c.in-Ok.ensures.kept c.in-Ok.ensures.attached.faults c.into_media.ensures.faults c.follow_lines-ended.ensures.counts
+returns-clause-counts g c = follow_counted c.follow_lines-ended.result.0 c.follow_status.result _ _ _ _ _ _ _ _ c.follow_status.ensures c.in-Ok.ensures.kept c.in-Ok.ensures.attached.faults c.into_media.ensures.behind.faults c.follow_lines-ended.ensures.counts
 
 pub returns-clause-steady : goal.returns-clause-steady
 returns-clause-steady g c = λ steady is. follow_late c.follow_lines-ended.result.0 (subst IsEarly c.follow_status.ensures (subst IsEarly (sym is) tt))

@@ -7,7 +7,12 @@ use Rattle.array_runs.proofs.Endings.{served_late, served_refused, served_usage,
 use Rattle.mars_shell.specs.FramedRun.{TakesFramed}
 use Rattle.mars_shell.proofs.Endings.{served}
 use Rattle.mars_shell.proofs.FramedOutcomes.{framed_outcome, framed_none}
+use Rattle.mars_shell.specs.Late.{is_late}
+use Rattle.mars_shell.proofs.Waiting.{behind_late, of_depth}
 use Rattle.mars_shell.proofs.framed_run.run_framed.Goals as goal
+
+pub open_for-requires : goal.open_for-requires
+open_for-requires g c = of_depth c.args.writing _ _ c.requires.of_type _ c.depth_of-depth.ensures.most c.depth_of-depth.ensures.depth
 
 pub returns-in-Err-clause-ran : goal.returns-in-Err-clause-ran
 returns-in-Err-clause-ran g c =
@@ -22,7 +27,7 @@ returns-in-Err-clause-ran g c =
       holds = (
         input,
         (λ _. refl),
-        λ told. framed_none g.B.WriteBack.defers input old c.in-Err.ended.0 new false [] (c.in-Err.ensures.outcome told),
+        λ told. framed_none (is_late c.args.writing) input old c.in-Err.ended.0 new false [] (c.in-Err.ensures.outcome told),
       );
     }
 
@@ -58,8 +63,8 @@ returns-clause-ran g c =
         input,
         c.in-Ok.ensures.read refl,
         λ told.
-            subst (λ (s : Status). OverRecords false 0 (λ ended. TakesFramed g.B.WriteBack.defers input said.cut said.text old ended new) old s new said.cut said.text) (sym c.served_status.ensures)
-            (framed_outcome media.tells told old (met.only_now c.args.media) _ c.in-Ok.ensures.attached c.in-Ok.ensures.keeps g.B.WriteBack.defers _ new c.into_media.ensures (met.counts_now c.into_media.result)
+            subst (λ (s : Status). OverRecords false 0 (λ ended. TakesFramed (is_late c.args.writing) input said.cut said.text old ended new) old s new said.cut said.text) (sym c.served_status.ensures)
+            (framed_outcome media.tells told old (met.only_now c.args.media) _ c.in-Ok.ensures.attached c.in-Ok.ensures.keeps (is_late c.args.writing) _ new (behind_late c.args.writing _ _ c.requires.of_type c.requires.depth _ _ _ c.into_media.ensures.behind) (met.counts_now c.into_media.result)
             input said.cut said.text c.serve_framed-served.result.0 (rw c.deref.ensures.value at (said.holds told))),
       );
     }
@@ -75,7 +80,7 @@ returns-clause-silent g c = λ either. ⊎_elim (λ early. absurd (served_late c
     (λ refused. served_refused _ c.serve_framed-served.result.0 c.serve_framed-served.ensures.untold (subst IsRefusal c.served_status.ensures refused)) either
 
 pub returns-clause-counts : goal.returns-clause-counts
-returns-clause-counts g c = served c.serve_framed-served.result.0 c.served_status.result _ _ _ _ _ _ _ _ c.served_status.ensures c.in-Ok.ensures.kept c.in-Ok.ensures.attached.faults c.into_media.ensures.faults c.serve_framed-served.ensures.counts
+returns-clause-counts g c = served c.serve_framed-served.result.0 c.served_status.result _ _ _ _ _ _ _ _ c.served_status.ensures c.in-Ok.ensures.kept c.in-Ok.ensures.attached.faults c.into_media.ensures.behind.faults c.serve_framed-served.ensures.counts
 
 pub returns-clause-steady : goal.returns-clause-steady
 returns-clause-steady g c = λ steady is. served_late c.serve_framed-served.result.0 (subst IsEarly c.served_status.ensures (subst IsEarly (sym is) tt))

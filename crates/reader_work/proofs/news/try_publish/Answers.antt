@@ -12,21 +12,21 @@ returns-in-Ok-clause-behind g c =
     let was = fed c.args.feed.now in
     let seen = c.since.new.pass.known.seen in
     fed_after c.feed.result was _ seen _ _ _ _ (grows (joined was) c.args.pass.now.known.seen seen c.requires.behind c.since.ensures.seen)
-    (c.as_slice.ensures ∙ subst (λ (r : Result (List Done) NotCopied). IfOk r (λ news. news ≡ drop c.fed.result seen)) c.in-Ok-Ok.field-0-is c.in-Ok-Ok.ensures.copy ∙ ap (λ (n : ℕ). drop n seen) c.fed.ensures) c.feed.ensures.ok c.feed.ensures.err
+    (c.as_slice.ensures ∙ subst (λ (r : Result (List Done) NotCopied). IfOk r (λ news. news ≡ drop c.fed-fed.result seen)) c.in-Ok-Ok.field-0-is c.in-Ok-Ok.ensures.copy ∙ ap (λ (n : ℕ). drop n seen) c.fed-fed.ensures) c.feed.ensures.ok c.feed.ensures.err
 
 pub returns-in-Ok-Ok-clause-behind : goal.returns-in-Ok-Ok-clause-behind
 returns-in-Ok-Ok-clause-behind g c =
     let was = fed c.args.feed.now in
     let seen = c.since.new.pass.known.seen in
     fed_after c.feed.result was _ seen _ _ _ _ (grows (joined was) c.args.pass.now.known.seen seen c.requires.behind c.since.ensures.seen)
-    (c.as_slice.ensures ∙ subst (λ (r : Result (List Done) NotCopied). IfOk r (λ news. news ≡ drop c.fed.result seen)) c.in-Ok-Ok.field-0-is c.in-Ok-Ok.ensures.copy ∙ ap (λ (n : ℕ). drop n seen) c.fed.ensures) c.feed.ensures.ok c.feed.ensures.err
+    (c.as_slice.ensures ∙ subst (λ (r : Result (List Done) NotCopied). IfOk r (λ news. news ≡ drop c.fed-fed.result seen)) c.in-Ok-Ok.field-0-is c.in-Ok-Ok.ensures.copy ∙ ap (λ (n : ℕ). drop n seen) c.fed-fed.ensures) c.feed.ensures.ok c.feed.ensures.err
 
 pub returns-in-Ok-clause-shown : goal.returns-in-Ok-clause-shown
 returns-in-Ok-clause-shown g c =
     let was = fed c.args.feed.now in
     let seen = c.since.new.pass.known.seen in
     all_fed was _ seen _ (grows (joined was) c.args.pass.now.known.seen seen c.requires.behind c.since.ensures.seen)
-    (c.as_slice.ensures ∙ subst (λ (r : Result (List Done) NotCopied). IfOk r (λ news. news ≡ drop c.fed.result seen)) c.in-Ok-Ok.field-0-is c.in-Ok-Ok.ensures.copy ∙ ap (λ (n : ℕ). drop n seen) c.fed.ensures) c.in-Ok.ensures.ok.0
+    (c.as_slice.ensures ∙ subst (λ (r : Result (List Done) NotCopied). IfOk r (λ news. news ≡ drop c.fed-fed.result seen)) c.in-Ok-Ok.field-0-is c.in-Ok-Ok.ensures.copy ∙ ap (λ (n : ℕ). drop n seen) c.fed-fed.ensures) c.in-Ok.ensures.ok.0
 
 pub returns-in-Ok-Err-clause-behind : goal.returns-in-Ok-Err-clause-behind
 returns-in-Ok-Err-clause-behind g c = grows (joined (fed c.args.feed.now)) c.args.pass.now.known.seen c.since.new.pass.known.seen c.requires.behind c.since.ensures.seen

@@ -1,7 +1,7 @@
 use Rattle.std.proofs.Common.{◌≡◌, ◌≤◌, ℕ, List, [], ◌∷◌, ◌++◌, Some, map, length, refl, sym, ap, ◌∙◌, arith}
 use Rattle.std.specs.Prelude.{slice_get}
 use Rattle.history.specs.Rows.{NamedRows, records_in}
-use Rattle.dump_text.specs.Causes.{with_name}
+use Rattle.dump_text.specs.Dump.{with_name}
 use Rattle.dump_text.specs.Gathering.{names_of, named}
 use Rattle.dump_text.proofs.Gathering.{Table, is_among, is_new, names-push, records-empty, last_name, as_many, as_many_names}
 use Rattle.dump_text.proofs.gathered.Gathered.place.Goals as goal

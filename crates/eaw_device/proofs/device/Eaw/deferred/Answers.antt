@@ -5,16 +5,17 @@ use Rattle.commit_queue.proofs.Counting.{deferred_are}
 use Rattle.write_back.specs.Waiting.{queue_of}
 use Rattle.write_back.proofs.Counting.{have_rows, many}
 use Rattle.write_back.proofs.Orders.{rise_from}
+use Rattle.eaw_device.proofs.Depths.{none_may_wait}
 use Rattle.eaw_device.proofs.device.Eaw.deferred.Goals as goal
 
 pub overflow_cast-result : goal.overflow_cast-result
-overflow_cast-result g c = omega (arith, c.len.ensures, c.args.self.now.sound.ready.fit.few, c.args.self.now.depth, g.met.W.WriteBack.few c.args.self.now.write_back)
+overflow_cast-result g c = omega (arith, c.len.ensures, c.args.self.now.sound.ready.fit.few, c.args.self.now.depth.2)
 
 pub returns-clause-most : goal.returns-clause-most
-returns-clause-most g c = omega (arith, c.len.ensures, c.args.self.now.sound.ready.fit.few, c.args.self.now.depth)
+returns-clause-most g c = omega (arith, c.len.ensures, c.args.self.now.sound.ready.fit.few)
 
 pub returns-clause-none : goal.returns-clause-none
-returns-clause-none g c = λ now. omega (arith, c.len.ensures, c.args.self.now.sound.ready.fit.few, c.args.self.now.depth, g.met.W.WriteBack.none c.args.self.now.write_back now)
+returns-clause-none g c = λ now. omega (arith, c.len.ensures, c.args.self.now.sound.ready.fit.few, none_may_wait g.D.Depth.least g.D.Depth.most _ c.args.self.now.depth now)
 
 pub returns-clause-counted : goal.returns-clause-counted
 returns-clause-counted g c = λ told alive.

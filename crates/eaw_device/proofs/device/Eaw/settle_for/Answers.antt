@@ -1,6 +1,7 @@
 use Rattle.std.proofs.Common.{◌∙◌}
 use Rattle.eaw_device.proofs.Quiet.{back_sound, quiet_done, quiet_failed}
 use Rattle.eaw_device.proofs.Tables.{sound_dead}
+use Rattle.eaw_device.proofs.Depths.{keeps_depth}
 use Rattle.eaw_device.proofs.device.Eaw.settle_for.Goals as goal
 
 pub write_back_for-requires-clause-ready : goal.write_back_for-requires-clause-ready
@@ -19,7 +20,7 @@ invariant_of-self g c =
     let said = c.in-Ok.ensures in
     record {
       sound = back_sound m.tells (m.view s.media) (m.view c.write_back_for.new.media) s.shape s.logs.items s.late c.write_back_for.new.self s.is_dead s.sound c.requires _ _ said.back said.stays (λ told. g.met.M.Media.long s.media told ∙ s.sound.sized) said.tied said.back.waiting said.back.left;
-      depth = said.back.depth ∙ s.depth;
+      depth = keeps_depth g.D.Depth.least g.D.Depth.most _ _ said.back.depth s.depth;
     }
 
 pub invariant_of-self-in-Err : goal.invariant_of-self-in-Err
@@ -29,7 +30,7 @@ invariant_of-self-in-Err g c =
     let said = c.in-Err.ensures in
     record {
       sound = sound_dead m.tells (m.view s.media) (m.view c.write_back_for.new.media) s.shape s.logs.items s.late c.write_back_for.new.self s.is_dead s.sound said.back.does.does.size said.stays.ready;
-      depth = said.back.depth ∙ s.depth;
+      depth = keeps_depth g.D.Depth.least g.D.Depth.most _ _ said.back.depth s.depth;
     }
 
 pub returns-in-Ok-clause-quiet : goal.returns-in-Ok-clause-quiet

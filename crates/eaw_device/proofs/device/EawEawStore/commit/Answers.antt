@@ -10,6 +10,7 @@ use Rattle.eaw_device.proofs.Costing.{costs_done}
 use Rattle.eaw_device.proofs.Cutting.{order_cut}
 use Rattle.eaw_device.proofs.Tables.{ranges_there, sound_dead}
 use Rattle.eaw_device.proofs.Commits.{its_len, commit_failed, commit_sound, commit_done}
+use Rattle.eaw_device.proofs.Depths.{keeps_depth, some_can_wait}
 use Rattle.eaw_device.proofs.device.EawEawStore.commit.Given.{Over}
 use Rattle.eaw_device.proofs.device.EawEawStore.commit.Goals as goal
 
@@ -83,7 +84,7 @@ invariant_of-self g c =
     let said = c.commit_log.ensures.does in
     record {
       sound = sound_dead m.tells (m.view s.media) (m.view c.commit_log.new.media) s.shape s.logs.items s.late c.commit_log.new.late s.is_dead s.sound said.does.does.size c.commit_log.ensures.stays.ready;
-      depth = said.depth ∙ s.depth;
+      depth = keeps_depth g.D.Depth.least g.D.Depth.most _ _ said.depth s.depth;
     }
 
 pub invariant_of-self-2 : goal.invariant_of-self-2
@@ -100,7 +101,7 @@ invariant_of-self-2 g c =
           (λ told. when_ok c.commit_log.result fine (said.committed told)) said.cells c.clear.new.self c.clear.ensures.kept c.clear.ensures.entries c.in_ok-at.at c.in_ok-at.ensures.at
           (order_cut s.shape s.late c.commit_log.new.late s.logs.items c.args.tid 0 c.index.result.now c.clear.new.self there.there there.below c.clear.ensures.kept c.clear.ensures.entries
           (s.sound.in_order c.in_ok-at.ensures.alive) (when_ok c.commit_log.result fine c.commit_log.ensures.tied) (when_ok c.commit_log.result fine c.commit_log.ensures.before) (when_ok c.commit_log.result fine c.commit_log.ensures.others));
-      depth = said.depth ∙ s.depth;
+      depth = keeps_depth g.D.Depth.least g.D.Depth.most _ _ said.depth s.depth;
     }
 
 pub returns-clause-does : goal.returns-clause-does
@@ -167,4 +168,4 @@ returns-clause-late g c = λ defers more.
     let s = c.args.self.now in
     let there = found m.tells (m.view s.media) s.shape s.logs.items s.late s.is_dead s.sound c.in_ok-at.ensures.alive c.args.tid c.in_ok-at.at c.index.result.now c.in_ok-at.ensures.at c.in_ok-at.ensures.live c.index.ensures in
     let len = its_len m.tells (m.view s.media) (m.view c.commit_log.new.media) s.shape s.logs.items s.late s.is_dead s.sound c.in_ok-at.ensures.alive c.args.tid c.in_ok-at.ensures.live c.index.result.now there in
-    when_ok c.commit_log.result (sym c.is_err.ensures.value ∙ c.if-is_err.false) (c.commit_log.ensures.waits (omega (arith, s.depth, g.met.W.WriteBack.some s.write_back defers)) (omega (arith, more, len)))
+    when_ok c.commit_log.result (sym c.is_err.ensures.value ∙ c.if-is_err.false) (c.commit_log.ensures.waits (some_can_wait g.D.Depth.least g.D.Depth.most _ s.depth defers) (omega (arith, more, len)))

@@ -12,6 +12,7 @@ use Rattle.eaw_device.proofs.Costing.{costs_done}
 use Rattle.eaw_device.proofs.Doing.{when_ok, lacking_group, lacking_group_other, when_err}
 use Rattle.eaw_device.proofs.GroupCommits.{group_failed, group_now_sound, group_done}
 use Rattle.eaw_device.proofs.Tables.{sound_dead}
+use Rattle.eaw_device.proofs.Depths.{keeps_depth, some_can_wait}
 use Rattle.eaw_device.proofs.device.EawEawStore.commit_group.Goals as goal
 
 pub returns-in_err-find_group : goal.returns-in_err-find_group
@@ -86,7 +87,7 @@ invariant_of-self g c =
     let said = (rw (c.deref.ensures.value) at c.commit_logs.ensures.does) in
     record {
       sound = sound_dead m.tells (m.view s.media) (m.view c.commit_logs.new.media) s.shape s.logs.items s.late c.commit_logs.new.late s.is_dead s.sound said.does.does.size c.commit_logs.ensures.stays.ready;
-      depth = said.depth ∙ s.depth;
+      depth = keeps_depth g.D.Depth.least g.D.Depth.most _ _ said.depth s.depth;
     }
 
 pub invariant_of-self-2-clause-sound : goal.invariant_of-self-2-clause-sound
@@ -107,7 +108,7 @@ invariant_of-self-2-clause-sound g c =
     (s.sound.in_order c.in_ok-find_group.ensures.alive) (when_ok c.commit_logs.result fine c.commit_logs.ensures.tied) (when_ok c.commit_logs.result fine c.commit_logs.ensures.others)))
 
 pub invariant_of-self-2-clause-depth : goal.invariant_of-self-2-clause-depth
-invariant_of-self-2-clause-depth g c = c.commit_logs.ensures.does.depth ∙ c.args.self.now.depth
+invariant_of-self-2-clause-depth g c = keeps_depth g.D.Depth.least g.D.Depth.most _ _ c.commit_logs.ensures.does.depth c.args.self.now.depth
 
 pub returns-clause-does : goal.returns-clause-does
 returns-clause-does g c =
@@ -141,4 +142,4 @@ pub returns-clause-late : goal.returns-clause-late
 returns-clause-late g c = λ defers more.
     let s = c.args.self.now in
     let waits = (rw (c.deref.ensures.value) at c.commit_logs.ensures.waits) in
-    when_ok c.commit_logs.result (sym c.is_err.ensures.value ∙ c.if-is_err.false) (waits (omega (arith, s.depth, g.met.W.WriteBack.some s.write_back defers)) more)
+    when_ok c.commit_logs.result (sym c.is_err.ensures.value ∙ c.if-is_err.false) (waits (some_can_wait g.D.Depth.least g.D.Depth.most _ s.depth defers) more)

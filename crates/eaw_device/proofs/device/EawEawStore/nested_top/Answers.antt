@@ -11,6 +11,7 @@ use Rattle.eaw_device.proofs.Costing.{costs_done}
 use Rattle.eaw_device.proofs.Cutting.{order_cut}
 use Rattle.eaw_device.proofs.Tables.{ranges_there, sound_dead}
 use Rattle.eaw_device.proofs.Commits.{its_len, nested_failed, commit_sound, nested_done}
+use Rattle.eaw_device.proofs.Depths.{keeps_depth, some_can_wait}
 use Rattle.eaw_device.proofs.device.EawEawStore.nested_top.Given.{Over}
 use Rattle.eaw_device.proofs.device.EawEawStore.nested_top.Goals as goal
 
@@ -84,7 +85,7 @@ invariant_of-self g c =
     let said = c.commit_log.ensures.does in
     record {
       sound = sound_dead m.tells (m.view s.media) (m.view c.commit_log.new.media) s.shape s.logs.items s.late c.commit_log.new.late s.is_dead s.sound said.does.does.size c.commit_log.ensures.stays.ready;
-      depth = said.depth ∙ s.depth;
+      depth = keeps_depth g.D.Depth.least g.D.Depth.most _ _ said.depth s.depth;
     }
 
 pub invariant_of-self-2 : goal.invariant_of-self-2
@@ -103,7 +104,7 @@ invariant_of-self-2 g c =
           (λ told. when_ok c.commit_log.result fine (said.committed told)) said.cells c.truncate.new.self c.truncate.ensures.kept (c.truncate.ensures.entries ∙ ap (λ (l : Log). take c.args.offset l.entries.items) same) c.in_ok-at.at c.in_ok-at.ensures.at
           (order_cut s.shape s.late c.commit_log.new.late s.logs.items c.args.tid c.args.offset c.index.result.now c.truncate.new.self there.there there.below c.truncate.ensures.kept (c.truncate.ensures.entries ∙ ap (λ (l : Log). take c.args.offset l.entries.items) same)
           (s.sound.in_order c.in_ok-at.ensures.alive) (when_ok c.commit_log.result fine c.commit_log.ensures.tied) (when_ok c.commit_log.result fine c.commit_log.ensures.before) (when_ok c.commit_log.result fine c.commit_log.ensures.others));
-      depth = said.depth ∙ s.depth;
+      depth = keeps_depth g.D.Depth.least g.D.Depth.most _ _ said.depth s.depth;
     }
 
 pub returns-clause-does : goal.returns-clause-does
@@ -186,4 +187,4 @@ returns-clause-late g c = λ defers more.
     let s = c.args.self.now in
     let there = found m.tells (m.view s.media) s.shape s.logs.items s.late s.is_dead s.sound c.in_ok-at.ensures.alive c.args.tid c.in_ok-at.at c.index.result.now c.in_ok-at.ensures.at c.in_ok-at.ensures.live c.index.ensures in
     let len = its_len m.tells (m.view s.media) (m.view c.commit_log.new.media) s.shape s.logs.items s.late s.is_dead s.sound c.in_ok-at.ensures.alive c.args.tid c.in_ok-at.ensures.live c.index.result.now there in
-    when_ok c.commit_log.result (sym c.is_err.ensures.value ∙ c.if-is_err.false) (c.commit_log.ensures.waits (omega (arith, s.depth, g.met.W.WriteBack.some s.write_back defers)) (omega (arith, more, len)))
+    when_ok c.commit_log.result (sym c.is_err.ensures.value ∙ c.if-is_err.false) (c.commit_log.ensures.waits (some_can_wait g.D.Depth.least g.D.Depth.most _ s.depth defers) (omega (arith, more, len)))

@@ -38,16 +38,18 @@ loop-caller-preserved g c =
                 w.take_offer-live.new.self (l.at + 1) refl (left_in c.args.ending l.self w.take_offer-live.new.self l.caller (l.at + 1) w.seat.result within w.seat.ensures w.take_offer-live.ensures.after)
                 w.take_offer-live.result.calls refl w.push_reserved.new.self.items w.push_reserved.ensures.items);
             room = subst (λ (v : Roomy). length was + length (offered_in old) ≤ v.capacity) (sym w.into-is) (subst (λ (n : ℕ). length was + length (offered_in old) ≤ n) (sym w.push_reserved.ensures.capacity) l.invariant.room);
+            first = ap (λ (v : Roomy). v.first) w.into-is ∙ w.push_reserved.ensures.first ∙ l.invariant.first;
           })
       | else-is_offered w ↦ record {
         ended = subst (λ (x : List Done × ℕ × Seats). HasEnded c.args.ending c.args.before c.args.last (l.caller + 1) old was x.0 x.1 x.2) (λ i. (sym (ap (λ (v : Roomy). v.items) w.into-is) i, sym w.at-is i, sym w.self-is i))
             (one_skipped c.args.ending c.args.before c.args.last old was l.caller l.into.items l.at l.self e (sym c.is_offered.ensures ∙ w.if-is_offered.false));
         room = subst (λ (v : Roomy). length was + length (offered_in old) ≤ v.capacity) (sym w.into-is) l.invariant.room;
+        first = ap (λ (v : Roomy). v.first) w.into-is ∙ l.invariant.first;
       }
     ]
 
-pub returns : goal.returns
-returns g c =
+pub returns-clause-ends : goal.returns-clause-ends
+returns-clause-ends g c =
     let l = c.loop-caller in
     let end : l.caller ≡ length c.args.self.now.places = omega (arith, l.invariant.ended.count, c.loop-caller-test.false, l.auto.caller-end, c.len-caller-end.ensures, c.requires.few, ap (λ (seats : Seats). length seats.places) (sym c.self.view_is)) in
     all_ended c.args.ending c.args.before c.args.last c.args.self.now c.args.into.now.items l.caller l.into.items l.at l.self l.invariant.ended end

@@ -1,4 +1,4 @@
-use Rattle.std.proofs.Common.{◌+◌, ◌≤◌, length}
+use Rattle.std.proofs.Common.{◌≡◌, ◌+◌, ◌≤◌, length}
 use Rattle.mars_core.specs.Seats.{offered_in}
 use Rattle.mars_core.proofs.Grouping.{HasEnded}
 use Rattle.mars_core.proofs.seats.Seats.take_offered.Given as goal
@@ -8,4 +8,5 @@ abbrev pub invariant-loop-caller : goal.invariant-loop-caller
 invariant-loop-caller g l = record {
   ended : HasEnded l.fn.ending l.fn.before l.fn.last l.caller l.fn.self l.fn.into.items l.into.items l.at l.self;
   room : length l.fn.into.items + length (offered_in l.fn.self) ≤ l.into.capacity;
+  first : l.into.first ≡ l.fn.into.first;
 }

@@ -21,8 +21,9 @@ use Rattle.mars_core.specs.Over.{limits_of}
 use Rattle.mars_core.specs.Seats.{Seats, live_in, offers_in, bare, calls_in, IsMasked}
 use Rattle.mars_core.specs.Works.{IsShown}
 use Rattle.mars_core.proofs.Answered.{unmade_steps, unmade_plain, unmade_refuses, made_keeps, made_steps, made_plain}
-use Rattle.mars_core.proofs.Answering.{IndexLaws, has_asked}
+use Rattle.mars_core.proofs.Answering.{has_asked}
 use Rattle.mars_core.proofs.Mirroring.{is_of_table}
+use Rattle.record_table.proofs.Sharing.{Laws}
 use Rattle.mars_core.proofs.Prefixes.{StoreLaws}
 use Rattle.mars_core.proofs.Staying.{update_same, free_after, changed_back, changed_twice, kept_same, is_absent_at, absent_steps}
 use Rattle.mars_core.proofs.turns.Core.ask.Given.{Over}
@@ -36,8 +37,8 @@ laws_at g store = record {
   only = λ told alive image left. g.met.S.EawStore.only_now store image told alive left;
 }
 
-index_laws : (g : Over) → IndexLaws g.K.KeyIndex.index
-index_laws g = record { counts = g.met.K.KeyIndex.counts }
+index_laws : (g : Over) → Laws g.K.KeyIndex.index
+index_laws g = let K = g.met.K.KeyIndex in record { rises = K.rises; given = K.given; counts = K.counts; rests = K.rests; extends = K.extends }
 
 -- without a live transaction nothing is taken out
 nothing : (old mid : Seats) (t : ℕ) (o : Option Granted) → o ≡ live_in old t → o ≡ None → live_in mid ≡ update nat_eq (live_in old) t None → live_in mid ≡ live_in old

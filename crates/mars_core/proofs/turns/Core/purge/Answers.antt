@@ -11,7 +11,7 @@ use Rattle.caller_steps.specs.Purging.{PurgeCause}
 use Rattle.caller_steps.specs.State.{unoffered}
 use Rattle.mars_core.specs.Held.{Held, core_of}
 use Rattle.mars_core.specs.Seats.{live_in, offers_in}
-use Rattle.mars_core.proofs.Answering.{IndexLaws}
+use Rattle.record_table.proofs.Sharing.{Laws}
 use Rattle.mars_core.proofs.Prefixes.{StoreLaws}
 use Rattle.mars_core.proofs.Purged.{outcome, outcome_plain, ready, purge_cause, purged_keeps, purged_steps}
 use Rattle.mars_core.proofs.Staying.{none_of}
@@ -27,8 +27,8 @@ laws_at g store = record {
   only = λ told alive image left. g.met.S.EawStore.only_now store image told alive left;
 }
 
-index_laws : (g : Over) → IndexLaws g.K.KeyIndex.index
-index_laws g = record { counts = g.met.K.KeyIndex.counts }
+index_laws : (g : Over) → Laws g.K.KeyIndex.index
+index_laws g = let K = g.met.K.KeyIndex in record { rises = K.rises; given = K.given; counts = K.counts; rests = K.rests; extends = K.extends }
 
 pub is_live-requires : goal.is_live-requires
 is_live-requires g c = subst (λ (n : ℕ). c.args.caller < n) (sym c.self.invariant.seats) (subst (λ (h : Held g.row.S.Denot). c.args.caller < (g.S.EawStore.view h.records.store).shape.numbers) (sym c.self.view_is) c.requires.inside)

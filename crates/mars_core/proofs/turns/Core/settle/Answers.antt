@@ -35,7 +35,7 @@ settle-requires-clause-inside g c =
     let before : length i.history.items ≡ c.count-before.result = omega (arith, ap (λ (dones : List Done). length dones) c.in-Ok.ensures.items, c.count-before.ensures.count) in
     let last : c.count-before.result + c.offered-count.result.1 ≡ length i.history.items + length (offered_in i.seats) = omega (arith, before, c.offered-count.ensures.count) in
     let ends = λ (state : State) (is : IsOf i.seats (length i.history.items) state). subst (λ (was : List Done). Ends ending.Committed (c.count-before.result + c.offered-count.result.1) state (offered_in i.seats) i.seats was c.take_offered.new.into.items c.take_offered.new.self)
-    c.in-Ok.ensures.items (c.take_offered.ensures state (record { live = is.live; offers = is.offers; long = is.long ∙ before })) in
+    c.in-Ok.ensures.items (c.take_offered.ensures.ends state (record { live = is.live; offers = is.offers; long = is.long ∙ before })) in
     has_seat g.S.EawStore.tells g.S.EawStore.opens g.K.KeyIndex.index g.met.S.EawStore.one_data (pages_of (V i.records.store) i.records) (pages_of (V c.commit_group.new.self.store) c.commit_group.new.self) (laws_at g i.records.store) (laws_at g c.commit_group.new.self.store)
     (table_of i.base) i.history.items i.seats i.doubt i.base c.self.invariant (subst (λ (h : Held g.row.S.Denot). IsAlive (V h.records.store)) (sym c.self.view_is) c.requires.alive) c.args.caller
     (subst (λ (h : Held g.row.S.Denot). c.args.caller < (V h.records.store).shape.numbers) (sym c.self.view_is) c.requires.inside) (subst (λ (h : Held g.row.S.Denot). offers_in h.seats c.args.caller ≡ offered) (sym c.self.view_is) c.requires.offered)
@@ -48,7 +48,7 @@ settle-requires-clause-committed g c =
     let before : length i.history.items ≡ c.count-before.result = omega (arith, ap (λ (dones : List Done). length dones) c.in-Ok.ensures.items, c.count-before.ensures.count) in
     let last : c.count-before.result + c.offered-count.result.1 ≡ length i.history.items + length (offered_in i.seats) = omega (arith, before, c.offered-count.ensures.count) in
     let ends = λ (state : State) (is : IsOf i.seats (length i.history.items) state). subst (λ (was : List Done). Ends ending.Committed (c.count-before.result + c.offered-count.result.1) state (offered_in i.seats) i.seats was c.take_offered.new.into.items c.take_offered.new.self)
-    c.in-Ok.ensures.items (c.take_offered.ensures state (record { live = is.live; offers = is.offers; long = is.long ∙ before })) in
+    c.in-Ok.ensures.items (c.take_offered.ensures.ends state (record { live = is.live; offers = is.offers; long = is.long ∙ before })) in
     has_number g.S.EawStore.tells g.S.EawStore.opens g.K.KeyIndex.index g.met.S.EawStore.one_data (pages_of (V i.records.store) i.records) (pages_of (V c.commit_group.new.self.store) c.commit_group.new.self) (laws_at g i.records.store) (laws_at g c.commit_group.new.self.store)
     (table_of i.base) i.history.items i.seats i.doubt i.base c.self.invariant (subst (λ (h : Held g.row.S.Denot). IsAlive (V h.records.store)) (sym c.self.view_is) c.requires.alive) c.args.caller
     (subst (λ (h : Held g.row.S.Denot). c.args.caller < (V h.records.store).shape.numbers) (sym c.self.view_is) c.requires.inside) (subst (λ (h : Held g.row.S.Denot). offers_in h.seats c.args.caller ≡ offered) (sym c.self.view_is) c.requires.offered)
@@ -63,7 +63,7 @@ invariant_of-self-in-Ok-commit_group g c =
     let before : length i.history.items ≡ c.count-before.result = omega (arith, ap (λ (dones : List Done). length dones) c.in-Ok.ensures.items, c.count-before.ensures.count) in
     let last : c.count-before.result + c.offered-count.result.1 ≡ length i.history.items + length (offered_in i.seats) = omega (arith, before, c.offered-count.ensures.count) in
     let ends = λ (state : State) (is : IsOf i.seats (length i.history.items) state). subst (λ (was : List Done). Ends ending.Committed (c.count-before.result + c.offered-count.result.1) state (offered_in i.seats) i.seats was c.take_offered.new.into.items c.take_offered.new.self)
-    c.in-Ok.ensures.items (c.take_offered.ensures state (record { live = is.live; offers = is.offers; long = is.long ∙ before })) in
+    c.in-Ok.ensures.items (c.take_offered.ensures.ends state (record { live = is.live; offers = is.offers; long = is.long ∙ before })) in
     subst (λ (longer : List Done). IsKept g.S.EawStore.tells g.S.EawStore.opens I q (length c.settle.new.self.places) i.base
     (state_at I (V c.commit_group.new.self.store) c.settle.new.self.names (table_of i.base) longer (live_in c.settle.new.self) (offers_in c.settle.new.self) i.doubt)) (λ j. c.take_offered.new.into.items)
     (group_keeps g.S.EawStore.tells g.S.EawStore.opens I g.met.S.EawStore.one_data (pages_of (V i.records.store) i.records) q (laws_at g i.records.store) (laws_at g c.commit_group.new.self.store)
@@ -81,7 +81,7 @@ returns-in-Ok-commit_group-clause-steps g c =
     let before : length i.history.items ≡ c.count-before.result = omega (arith, ap (λ (dones : List Done). length dones) c.in-Ok.ensures.items, c.count-before.ensures.count) in
     let last : c.count-before.result + c.offered-count.result.1 ≡ length i.history.items + length (offered_in i.seats) = omega (arith, before, c.offered-count.ensures.count) in
     let ends = λ (state : State) (is : IsOf i.seats (length i.history.items) state). subst (λ (was : List Done). Ends ending.Committed (c.count-before.result + c.offered-count.result.1) state (offered_in i.seats) i.seats was c.take_offered.new.into.items c.take_offered.new.self)
-    c.in-Ok.ensures.items (c.take_offered.ensures state (record { live = is.live; offers = is.offers; long = is.long ∙ before })) in
+    c.in-Ok.ensures.items (c.take_offered.ensures.ends state (record { live = is.live; offers = is.offers; long = is.long ∙ before })) in
     subst (λ (x : Held g.row.S.Denot × List Done). Steps g.S.EawStore.tells c.args.caller call.Settle (core_of g.S.EawStore.opens I (V x.0.records.store) x.0)
     (core_of g.S.EawStore.opens I (V c.commit_group.new.self.store) (record { records = c.commit_group.new.self; base = i.base; seats = c.settle.new.self; history = x.1; doubt = i.doubt })) (Committed c.settle.result)) (λ j. (c.self.view_is j, c.take_offered.new.into.items))
     (group_steps g.S.EawStore.tells g.S.EawStore.opens I g.met.S.EawStore.one_data (pages_of (V i.records.store) i.records) q (laws_at g i.records.store) (laws_at g c.commit_group.new.self.store)
@@ -101,7 +101,7 @@ invariant_of-self-in-Err g c =
     let before : length i.history.items ≡ c.count-before.result = omega (arith, ap (λ (dones : List Done). length dones) c.in-Ok.ensures.items, c.count-before.ensures.count) in
     let last : c.count-before.result + c.offered-count.result.1 ≡ length i.history.items + length (offered_in i.seats) = omega (arith, before, c.offered-count.ensures.count) in
     let ends = λ (state : State) (is : IsOf i.seats (length i.history.items) state). subst (λ (was : List Done). Ends ending.Doubtful (c.count-before.result + c.offered-count.result.1) state (offered_in i.seats) i.seats was c.take_offered-in-Err.new.into.items c.take_offered-in-Err.new.self)
-    c.in-Ok.ensures.empty (c.take_offered-in-Err.ensures state (record { live = is.live; offers = is.offers; long = is.long ∙ before })) in
+    c.in-Ok.ensures.empty (c.take_offered-in-Err.ensures.ends state (record { live = is.live; offers = is.offers; long = is.long ∙ before })) in
     let fails = c.in-Err.is ∙ ap (λ (f : TableFault). (let r : Result (Unit {0}) TableFault = Err f in r)) (group_fails p alive c.in-Err.fault c.in-Err.ensures.does.cause) in
     subst (λ (x : List Done × List Done). IsKept g.S.EawStore.tells g.S.EawStore.opens I q (length c.take_offered-in-Err.new.self.places) i.base
     (state_at I (V c.commit_group.new.self.store) c.take_offered-in-Err.new.self.names (table_of i.base) x.0 (live_in c.take_offered-in-Err.new.self) (offers_in c.take_offered-in-Err.new.self) x.1)) (λ j. (sym c.in-Ok.ensures.items j, sym c.group.ensures j))
@@ -122,7 +122,7 @@ returns-in-Err-clause-steps g c =
     let before : length i.history.items ≡ c.count-before.result = omega (arith, ap (λ (dones : List Done). length dones) c.in-Ok.ensures.items, c.count-before.ensures.count) in
     let last : c.count-before.result + c.offered-count.result.1 ≡ length i.history.items + length (offered_in i.seats) = omega (arith, before, c.offered-count.ensures.count) in
     let ends = λ (state : State) (is : IsOf i.seats (length i.history.items) state). subst (λ (was : List Done). Ends ending.Doubtful (c.count-before.result + c.offered-count.result.1) state (offered_in i.seats) i.seats was c.take_offered-in-Err.new.into.items c.take_offered-in-Err.new.self)
-    c.in-Ok.ensures.empty (c.take_offered-in-Err.ensures state (record { live = is.live; offers = is.offers; long = is.long ∙ before })) in
+    c.in-Ok.ensures.empty (c.take_offered-in-Err.ensures.ends state (record { live = is.live; offers = is.offers; long = is.long ∙ before })) in
     let fault = group_fails p alive c.in-Err.fault c.in-Err.ensures.does.cause in
     let fails = c.in-Err.is ∙ ap (λ (f : TableFault). (let r : Result (Unit {0}) TableFault = Err f in r)) fault in
     let told = c.from.ensures ∙ ap reply_to fault in

@@ -1,6 +1,7 @@
 use Rattle.std.proofs.Common.{refl, ◌∙◌, ap}
 use Rattle.mars_manager.specs.declared.view.Known.{Known}
 use Rattle.mars_manager.proofs.Knowns.{below_free}
+use Rattle.mars_manager.proofs.Asking.{up_same}
 use Rattle.mars_manager.proofs.Making.{called_locks, called_commits}
 use Rattle.mars_manager.proofs.mars.Mars.call.Goals as goal
 
@@ -34,3 +35,13 @@ returns-then-is_end-clause-idle g c free =
 
 pub returns-clause-idle : goal.returns-clause-idle
 returns-clause-idle g c free = c.in-Ok.ensures.made.met ∙ c.in_default.ensures.held.quiet free
+
+-- a turn tries once, and asks for no stripe
+pub returns-then-is_refusal-clause-rising : goal.returns-then-is_refusal-clause-rising
+returns-then-is_refusal-clause-rising g c = up_same _ _ _ (ap (λ (k : Known g.row.C.Denot). k.met) c.restore-then-is_refusal.ensures.known ∙ c.in-Ok.ensures.made.met) c.ready.ensures.rising
+
+pub returns-then-is_end-clause-rising : goal.returns-then-is_end-clause-rising
+returns-then-is_end-clause-rising g c = up_same _ _ _ (ap (λ (k : Known g.row.C.Denot). k.met) c.restore-then-is_end.ensures.known ∙ c.in-Ok.ensures.made.met) c.ready.ensures.rising
+
+pub returns-clause-rising : goal.returns-clause-rising
+returns-clause-rising g c = up_same _ _ _ c.in-Ok.ensures.made.met c.ready.ensures.rising

@@ -6,7 +6,7 @@ use Rattle.mars_manager.specs.Locks.{with_holds}
 use Rattle.mars_manager.proofs.Knowns.{readable_none, readable_more, refused_after}
 use Rattle.mars_manager.specs.declared.view.Met.{Met}
 use Rattle.mars_manager.specs.Asked.{IsStepFor, IsReadingBelow}
-use Rattle.mars_manager.proofs.Asking.{meets_none, meets_on, meets_as, meets_same}
+use Rattle.mars_manager.proofs.Asking.{meets_none, meets_on, meets_as, meets_same, up_none, up_on, up_same}
 use Rattle.mars_manager.proofs.mars.Mars.lock_all.Goals as goal
 
 -- a step for a stripe of the loop
@@ -14,7 +14,7 @@ reading_at : (t : ℕ) (step : Met) → t < 64 → IsStepFor mode.Shared t step 
 reading_at t step l (is, up) = (subst (λ n. n < 64) (sym is) l, up)
 
 pub loop-stripe-init : goal.loop-stripe-init
-loop-stripe-init g c = record { table = refl; known = readable_none c.args.pass.now.known; steps = meets_none _ _ _ refl }
+loop-stripe-init g c = record { table = refl; known = readable_none c.args.pass.now.known; steps = meets_none _ _ _ refl; up = up_none c.args.pass.now.known }
 
 pub loop-stripe-preserved : goal.loop-stripe-preserved
 loop-stripe-preserved g c =
@@ -22,6 +22,7 @@ loop-stripe-preserved g c =
       table = c.try_lock.ensures.table ∙ i.table;
       known = readable_more c.loop-stripe.stripe c.args.pass.now.known c.loop-stripe.pass.known c.try_lock.new.pass.known (let l = i.known.long in let m = c.number.ensures.stands.long in let t = c.loop-stripe-test.true in omega arith) i.known c.in_default.ensures.held;
       steps = meets_on _ _ _ _ i.steps (meets_as _ _ _ _ (λ step h. reading_at c.loop-stripe.stripe step c.loop-stripe-test.true h) c.try_lock.ensures.steps);
+      up = up_on mode.Shared c.loop-stripe.stripe _ _ _ i.up c.try_lock.ensures.steps;
     }
 
 pub returns-in-Err-clause-busy : goal.returns-in-Err-clause-busy
@@ -39,3 +40,10 @@ pub returns-in-Err-clause-steps : goal.returns-in-Err-clause-steps
 returns-in-Err-clause-steps g c =
     meets_same _ _ _ _ _ refl (ap (λ (k : Known g.row.C.Denot). k.met) c.restore.ensures.known)
     (meets_on _ _ _ _ c.loop-stripe.invariant.steps (meets_as _ _ _ _ (λ step h. reading_at c.loop-stripe.stripe step c.loop-stripe-test.true h) c.try_lock.ensures.steps))
+
+pub returns-in-Err-clause-rising : goal.returns-in-Err-clause-rising
+returns-in-Err-clause-rising g c =
+    up_same _ _ _ (ap (λ (k : Known g.row.C.Denot). k.met) c.restore.ensures.known) (up_on mode.Shared c.loop-stripe.stripe _ _ _ c.loop-stripe.invariant.up c.try_lock.ensures.steps).up
+
+pub returns-clause-rising : goal.returns-clause-rising
+returns-clause-rising g c = c.loop-stripe.invariant.up.up

@@ -1,5 +1,6 @@
 use Rattle.std.proofs.Common.{◌≡◌, ◌≤◌, ℕ, ◌+◌, ◌-◌, List, [], ◌∷◌, length, Option, Some, None, sym, ap, ◌∙◌, subst, arith, map, drop}
 use Rattle.std.specs.Prelude.{IfOk}
+use Rattle.std.proofs.lemmas.List.{length-drop}
 use Rattle.std.proofs.lemmas.Option.{IfSome_then}
 use Rattle.history.specs.declared.transaction.Done.{Done}
 use Rattle.atomic_table.specs.Table.{rest}
@@ -64,8 +65,9 @@ kept_since-copied-requires g c =
     let seen = took.seen in
     let same = ap (λ (x : g.row.C.Denot). length (g.C.Core.view x).state.history) core in
     let from = c.requires.from in
-    let within : c.args.from ≤ length (g.C.Core.view c.unwrap-core.result).state.history = omega arith in
-    IfSome_then c.history.result c.history.ensures.history (λ dones is. subst (λ (log : List Done). c.args.from ≤ length log) (sym is) within)
+    let log = (g.C.Core.view c.unwrap-core.result).state.history in
+    let within : c.args.from ≤ length log = omega arith in
+    IfSome_then c.history.result c.history.ensures.history (λ kept is. omega (arith, within, ap length is, length-drop kept.0 log))
 
 pub store-requires : goal.store-requires
 store-requires g c =
@@ -76,7 +78,7 @@ store-requires g c =
       c.exchange-2.ensures.0 ∙ c.exchange.ensures.0 ∙ e.0 ∙ c.requires.table ∙ sym (ap (λ (m : MarsView g.row.C.Denot). m.table) c.self.view_is),
       (let w = c.self.invariant.0 in omega arith),
       gives_read_as f c.self.inside.table.shared.key _ _ (finds 0 i.known) c.unwrap-core.result _
-          (home_again f _ _ _ _ i.known c.unwrap-core.result _ i.is took c.exchange.ensures.2 c.unwrap-core.ensures c.exchange.ensures.3 c.exchange-2.ensures.3),
+          (home_again f _ _ _ _ i.known c.unwrap-core.result c.forget.new.self c.forget.ensures _ i.is took c.exchange.ensures.2 c.unwrap-core.ensures c.exchange.ensures.3 c.exchange-2.ensures.3),
     )
 
 pub returns-clause-one : goal.returns-clause-one
@@ -84,7 +86,7 @@ returns-clause-one g c =
     let f = face g.C.Core.tells g.C.Core.view in
     let i = c.requires.seat in
     let took = c.compare_exchange-found.ensures.2.0 c.if-found-ne0.false in
-    one_seat_read f _ _ _ _ i.known c.unwrap-core.result _ i.is took c.exchange.ensures.2 c.unwrap-core.ensures c.exchange.ensures.3 c.exchange-2.ensures.3 _ c.store.ensures.2
+    one_seat_read f _ _ _ _ i.known c.unwrap-core.result c.forget.new.self c.forget.ensures _ i.is took c.exchange.ensures.2 c.unwrap-core.ensures c.exchange.ensures.3 c.exchange-2.ensures.3 _ c.store.ensures.2
 
 pub returns-clause-reads : goal.returns-clause-reads
 returns-clause-reads g c =
@@ -93,14 +95,14 @@ returns-clause-reads g c =
     let took = c.compare_exchange-found.ensures.2.0 c.if-found-ne0.false in
     let known : i.known ≡ first_of c.args.seat.now.me.0.passes = sym (ap (λ (m : SeatOf g.row.C.Denot). first_of m.0.passes) i.is) in
     subst (λ (k : Known g.row.C.Denot). Reads g.C.Core.tells g.C.Core.view k (first_of c.store.new.seat.me.0.passes)) known
-    (reads_at f _ _ _ _ i.known c.unwrap-core.result _ i.is took c.exchange.ensures.2 c.unwrap-core.ensures c.exchange.ensures.3 c.exchange-2.ensures.3 _ c.store.ensures.2)
+    (reads_at f _ _ _ _ i.known c.unwrap-core.result c.forget.new.self c.forget.ensures _ i.is took c.exchange.ensures.2 c.unwrap-core.ensures c.exchange.ensures.3 c.exchange-2.ensures.3 _ c.store.ensures.2)
 
 pub returns-clause-copy : goal.returns-clause-copy
 returns-clause-copy g c =
     let f = face g.C.Core.tells g.C.Core.view in
     let i = c.requires.seat in
     let took = c.compare_exchange-found.ensures.2.0 c.if-found-ne0.false in
-    let seen = seen_is f _ _ _ _ i.known c.unwrap-core.result _ i.is took c.exchange.ensures.2 c.unwrap-core.ensures c.exchange.ensures.3 c.exchange-2.ensures.3 _ c.store.ensures.2 in
+    let seen = seen_is f _ _ _ _ i.known c.unwrap-core.result c.forget.new.self c.forget.ensures _ i.is took c.exchange.ensures.2 c.unwrap-core.ensures c.exchange.ensures.3 c.exchange-2.ensures.3 _ c.store.ensures.2 in
     subst (λ (log : List Done). IfOk c.kept_since-copied.result (λ history. history ≡ drop c.args.from log)) (sym seen) (c.kept_since-copied.ensures.copy _ c.history.ensures.history)
 
 pub returns-clause-numbered : goal.returns-clause-numbered
@@ -108,8 +110,11 @@ returns-clause-numbered g c =
     let f = face g.C.Core.tells g.C.Core.view in
     let i = c.requires.seat in
     let took = c.compare_exchange-found.ensures.2.0 c.if-found-ne0.false in
-    let log = seen_numbered f _ _ _ _ i.known c.unwrap-core.result _ i.is took c.exchange.ensures.2 c.unwrap-core.ensures c.exchange.ensures.3 c.exchange-2.ensures.3 _ c.store.ensures.2 in
+    let log = seen_numbered f _ _ _ _ i.known c.unwrap-core.result c.forget.new.self c.forget.ensures _ i.is took c.exchange.ensures.2 c.unwrap-core.ensures c.exchange.ensures.3 c.exchange-2.ensures.3 _ c.store.ensures.2 in
     numbered_copy c.kept_since-copied.result c.args.from _ log (c.kept_since-copied.ensures.copy _ c.history.ensures.history)
 
 pub returns-clause-kept : goal.returns-clause-kept
 returns-clause-kept g c = λ keeps. c.kept_since-copied.ensures.kept (c.history.ensures.kept keeps)
+
+pub returns-clause-whole : goal.returns-clause-whole
+returns-clause-whole g c = λ whole. c.kept_since-copied.ensures.whole (c.history.ensures.whole whole)

@@ -44,3 +44,6 @@ returns-in-Err-NoMemory-clause-works g c =
 
 pub sum_up-requires-clause-keeps : goal.sum_up-requires-clause-keeps
 sum_up-requires-clause-keeps g c = c.requires.keeps refl
+
+pub sum_up-requires-clause-whole : goal.sum_up-requires-clause-whole
+sum_up-requires-clause-whole g c = c.requires.whole refl

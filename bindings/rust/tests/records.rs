@@ -1,0 +1,124 @@
+//! Records and transactions.
+
+mod shared;
+
+use mars::{Array, Device, Shape, MAIN};
+use shared::fresh;
+
+fn keys<D: Device>(array: &Array<D>) -> Vec<u64> {
+    array.begin(0).unwrap().rows(MAIN, ..).unwrap().iter().map(|row| row.0).collect()
+}
+
+#[test]
+fn a_transaction_is_there_once_it_is_committed() -> mars::Result<()> {
+    let array = fresh(Shape::default());
+    let mut work = array.begin(0)?;
+    work.put(MAIN, 5, b"abc")?;
+    work.put(MAIN, 6, b"x")?;
+    assert!(work.delete(MAIN, 6)?);
+    assert!(!work.delete(MAIN, 6)?);
+    assert!(work.get(MAIN, 6)?.is_none());
+    assert_eq!(work.commit()?, 1);
+    assert_eq!(array.moment(), array.done_up_to());
+
+    let mut work = array.begin(0)?;
+    assert_eq!(work.get(MAIN, 5)?.unwrap(), b"abc");
+    work.put(MAIN, 7, b"dropped")?;
+    drop(work);
+    array.begin(0)?.abort();
+    assert_eq!(keys(&array), [5]);
+    Ok(())
+}
+
+#[test]
+fn it_is_durable_once_it_is_synced() -> mars::Result<()> {
+    let array = fresh(Shape::default());
+    let mut work = array.begin(0)?;
+    work.put(MAIN, 5, b"abc")?;
+    work.commit_unsynced()?;
+    assert!(array.done_up_to() < array.moment());
+    array.sync()?;
+    assert_eq!(array.done_up_to(), array.moment());
+    assert_eq!(keys(&Array::open(array.into_device(), 8)?), [5]);
+    Ok(())
+}
+
+#[test]
+fn rows_of_a_range() -> mars::Result<()> {
+    let array = fresh(Shape::default());
+    let mut work = array.begin(0)?;
+    for key in [0, 3, 9, u64::MAX] {
+        work.put(MAIN, key, key.to_string().as_bytes())?;
+    }
+    let found = |from, to| work.rows(MAIN, (from, to)).unwrap().iter().map(|row| row.0).collect::<Vec<_>>();
+    use std::ops::Bound::*;
+    assert_eq!(found(Unbounded, Unbounded), [0, 3, 9, u64::MAX]);
+    assert_eq!(found(Excluded(0), Included(9)), [3, 9]);
+    assert_eq!(found(Included(4), Excluded(9)), []);
+    assert_eq!(found(Included(9), Excluded(u64::MAX)), [9]);
+    assert_eq!(found(Excluded(u64::MAX), Unbounded), []);
+    assert_eq!(found(Unbounded, Excluded(0)), []);
+    assert!(work.rows(MAIN, ..)?.iter().all(|(key, value)| *value == key.to_string().as_bytes()));
+    Ok(())
+}
+
+#[test]
+fn saves() -> mars::Result<()> {
+    let array = fresh(Shape::default());
+    let mut work = array.begin(0)?;
+    work.put(MAIN, 1, b"a")?;
+    let save = work.save()?;
+    work.put(MAIN, 1, b"b")?;
+    work.back(save)?;
+    assert_eq!(work.get(MAIN, 1)?.unwrap(), b"a");
+    Ok(())
+}
+
+#[test]
+fn a_purge_makes_room() -> mars::Result<()> {
+    let array = fresh(Shape::default());
+    assert_eq!(array.tables()?, [MAIN]);
+    let mut work = array.begin(0)?;
+    work.put(MAIN, 1, b"a")?;
+    work.commit()?;
+    let mut work = array.begin(0)?;
+    work.delete(MAIN, 1)?;
+    work.commit()?;
+    assert_eq!((array.purge(0)?, array.purge(0)?), (1, 0));
+    Ok(())
+}
+
+#[test]
+fn a_group_is_committed_at_once() -> mars::Result<()> {
+    let array = fresh(Shape::default());
+    let (mut first, mut second, mut third) = (array.begin(0)?, array.begin(1)?, array.begin(2)?);
+    first.put(MAIN, 1, b"a")?;
+    second.put(MAIN, 2, b"b")?;
+    third.put(MAIN, 3, b"c")?;
+    let (first, second, third) = (first.offer()?, second.offer()?, third.offer()?);
+    assert_eq!(second.settle()?, 2);
+    assert_eq!(first.settle()?, 1);
+    drop(third);
+    assert_eq!(keys(&array), [1, 2, 3]);
+    Ok(())
+}
+
+#[test]
+fn values_of_all_bytes_that_may_be() -> mars::Result<()> {
+    let array = fresh(Shape { entries: 64, ..Shape::default() });
+    let mut work = array.begin(0)?;
+    for byte in 0..=255 {
+        assert_eq!(work.put(MAIN, 1, &[byte; 54]).is_ok(), (b'!'..=b'~').contains(&byte));
+        if let Some(value) = work.get(MAIN, 1)? {
+            assert_eq!(value, [byte.clamp(b'!', b'~'); 54]);
+        }
+    }
+    Ok(())
+}
+
+#[test]
+fn an_array_goes_to_another_thread() {
+    let array = fresh(Shape::default());
+    let moment = std::thread::spawn(move || shared::put_all(&array, 1).map(|_| array.moment())).join().unwrap().unwrap();
+    assert!(moment > 0);
+}

@@ -1,0 +1,140 @@
+// What C calls to read an open array, and to take its tape down. `mars.h` says what it owes.
+ghost use Rattle.std.specs.Prelude.{◌≡◌, pos, true, None, slice_get};
+ghost use Rattle.tape_media.specs.Tape.{next_of};
+ghost use Rattle.mars_c.specs.Shown.{tape_of, core_in};
+ghost use Rattle.mars_c.specs.Status.{is_closed};
+ghost use Rattle.mars_c.specs.Told.{IsPutOut};
+ghost use Rattle.mars_c.specs.Calls.{Looks, Changes};
+ghost use Rattle.mars_c.specs.Tells.{IsRow, IsTold, IsPiece, IsWrite, IsDone, IsDoneUpTo, GoesOn};
+
+use crate::kept::Kept;
+use crate::status::{IS_CLOSED, NOTHING, OK};
+use std::alloc::Global;
+
+/// A row of the last scan, counted from 0: its key, as much of its value as there is room for, and how long that is.
+#[unsafe(no_mangle)]
+pub extern "C" fn mars_row(
+    alloc: Global,
+    m: &mut Kept,
+    at: u64,
+    key: &mut u64,
+    room: &mut [u8],
+    len: &mut u64,
+) -> i32
+    ensures { Looks (λ shell. IsRow (slice_get shell.rows at) result key.old key.new room.old room.new len.old len.new)
+        ((result ≡ is_closed) × (key.new ≡ key.old) × IsPutOut None room.old room.new len.old len.new) m.old.held.shell m.new.held.shell }
+{
+    let Some(shell) = m.take(alloc) else {
+        return IS_CLOSED;
+    };
+    let status = shell.row(at, key, room, len);
+    m.put(shell);
+    status
+}
+
+/// The name of a table by its number, counted from 0: as much of it as there is room for, and its length.
+#[unsafe(no_mangle)]
+pub extern "C" fn mars_table(
+    alloc: Global,
+    m: &mut Kept,
+    number: u8,
+    room: &mut [u8],
+    len: &mut u64,
+) -> i32
+    ensures { Looks (λ shell. IsTold (slice_get (core_in shell).state.names number) result room.old room.new len.old len.new)
+        ((result ≡ is_closed) × IsPutOut None room.old room.new len.old len.new) m.old.held.shell m.new.held.shell }
+{
+    let Some(shell) = m.take(alloc) else {
+        return IS_CLOSED;
+    };
+    let status = shell.table(number, room, len);
+    m.put(shell);
+    status
+}
+
+/// What is to be done next on the device: nothing (0), a write of `len` bytes at the place `at` (1), or a barrier (2).
+#[unsafe(no_mangle)]
+pub extern "C" fn mars_piece(alloc: Global, m: &mut Kept, at: &mut u64, len: &mut u64) -> i32
+    ensures { Looks (λ shell. IsPiece (next_of (tape_of shell)) result at.old at.new len.old len.new)
+        (IsPiece None result at.old at.new len.old len.new) m.old.held.shell m.new.held.shell }
+{
+    let Some(shell) = m.take(alloc) else {
+        return NOTHING;
+    };
+    let kind = shell.piece(at, len);
+    m.put(shell);
+    kind
+}
+
+/// The bytes of the next write from `skip` on: as many as there is room for, and how many there are.
+#[unsafe(no_mangle)]
+pub extern "C" fn mars_piece_bytes(
+    alloc: Global,
+    m: &mut Kept,
+    skip: u64,
+    room: &mut [u8],
+    len: &mut u64,
+) -> i32
+    ensures { Looks (λ shell. IsWrite (next_of (tape_of shell)) skip result room.old room.new len.old len.new)
+        ((result ≡ is_closed) × IsPutOut None room.old room.new len.old len.new) m.old.held.shell m.new.held.shell }
+{
+    let Some(shell) = m.take(alloc) else {
+        return IS_CLOSED;
+    };
+    let status = shell.piece_bytes(skip, room, len);
+    m.put(shell);
+    status
+}
+
+/// The next piece was done on the device. It is forgotten.
+#[unsafe(no_mangle)]
+pub extern "C" fn mars_piece_done(alloc: Global, m: &mut Kept) -> i32
+    ensures { Changes (λ old new. IsDone (next_of (tape_of old)) old new result) (result ≡ is_closed) m.old.held.shell m.new.held.shell }
+{
+    let Some(mut shell) = m.take(alloc) else {
+        return IS_CLOSED;
+    };
+    let status = shell.piece_done();
+    m.put(shell);
+    status
+}
+
+/// The next piece failed on the device. From now on each call that writes fails, and no piece is given out.
+#[unsafe(no_mangle)]
+pub extern "C" fn mars_piece_failed(alloc: Global, m: &mut Kept) -> i32
+    ensures { Changes (λ old new. (result ≡ pos 0) × GoesOn (record (tape_of old) { has_failed = true }) old new) (result ≡ is_closed)
+        m.old.held.shell m.new.held.shell }
+{
+    let Some(mut shell) = m.take(alloc) else {
+        return IS_CLOSED;
+    };
+    shell.piece_failed();
+    m.put(shell);
+    OK
+}
+
+/// The moment of the last call.
+#[unsafe(no_mangle)]
+pub extern "C" fn mars_moment(alloc: Global, m: &mut Kept) -> u64
+    ensures { Looks (λ shell. result ≡ (core_in shell).moment) (result ≡ 0) m.old.held.shell m.new.held.shell }
+{
+    let Some(shell) = m.take(alloc) else {
+        return 0;
+    };
+    let moment = shell.moment();
+    m.put(shell);
+    moment
+}
+
+/// The moment up to which the pieces of all calls were done.
+#[unsafe(no_mangle)]
+pub extern "C" fn mars_done_up_to(alloc: Global, m: &mut Kept) -> u64
+    ensures { Looks (IsDoneUpTo result) (result ≡ 0) m.old.held.shell m.new.held.shell }
+{
+    let Some(shell) = m.take(alloc) else {
+        return 0;
+    };
+    let moment = shell.done_up_to();
+    m.put(shell);
+    moment
+}

@@ -1,0 +1,5 @@
+mod Found
+mod Named
+mod Proper
+mod Short
+mod Restoring
