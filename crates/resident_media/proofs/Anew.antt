@@ -37,7 +37,7 @@ lies_anew tells inner kept len blocks capacity moment stood anew now is fits res
   later = omega arith;
   fits = omega (arith, fits, ap (λ (k : Kept). k.len) anew);
   reserved = omega (arith, reserved, ap (λ (k : Kept). k.len) anew);
-  holds = λ told i lt seen. absurd (not_both (sym (none_known blocks (i / 4096)) ∙ sym (ap (λ (k : Kept). get_or k.known (i / 4096) false) anew) ∙ seen));
+  holds = λ told i lt seen. absurd (not_both (sym (none_known blocks (i / 16384)) ∙ sym (ap (λ (k : Kept). get_or k.known (i / 16384) false) anew) ∙ seen));
 }
 
 pub below_anew : (m t : ℕ) → t ≤ m → below (up_to m) m m t ≡ t

@@ -16,7 +16,7 @@ module _ (at count : ℕ) (part : List ℕ) (kept next : Kept) (long : length pa
   unput : (content : List ℕ) → Holds kept content → (i : ℕ) → i < next.len → (at ≤ i → i < at + count → ⊥) → IsSeen next.known i → byte_at next i ≡ get_or content i 0
   unput content holds i lt out seen =
       let beside : at ≤ i → i < at + length part → ⊥ = λ le lt'. out le (omega (arith, lt', long)) in
-      let was : IsSeen kept.known i = sym (covers.outside (i / 4096) (λ c. beside (omega (arith, c.1)) (omega (arith, c.2, lt, len)))) ∙ seen in
+      let was : IsSeen kept.known i = sym (covers.outside (i / 16384) (λ c. beside (omega (arith, c.1)) (omega (arith, c.2, lt, len)))) ∙ seen in
       is.outside i was beside ∙ holds i (omega (arith, lt, len)) was
 
   -- the part was read from below
@@ -67,8 +67,8 @@ pub holds_beyond : (kept : Kept) (content bytes : List ℕ) (at : ℕ) → at + 
 holds_beyond kept content bytes at fits far holds i lt seen = holds i lt seen ∙ sym (get_or-put_outside content at bytes fits i (λ le lt'. omega (arith, far, lt, le)))
 
 -- whole blocks
-pub marks_fetched : (first end count len : ℕ) (old new : List Bool) → first < end → (end - 1) * 4096 < len → count ≡ min (end * 4096) len - first * 4096
-    → Covers (first * 4096) count len old new → IsMarked first end true old new
+pub marks_fetched : (first end count len : ℕ) (old new : List Bool) → first < end → (end - 1) * 16384 < len → count ≡ min (end * 16384) len - first * 16384
+    → Covers (first * 16384) count len old new → IsMarked first end true old new
 marks_fetched first end count len old new some low few covers = record {
   long = covers.long;
   inside = λ b le lt. covers.inside b (omega (arith, lt, low), omega (arith, le), omega (arith, le, lt, few, low, some));
@@ -77,21 +77,21 @@ marks_fetched first end count len old new some low few covers = record {
 
 -- a write that failed
 pub holds_forgotten : (kept next : Kept) (old new : Content) (at count : ℕ) → Touched ((at, count) ∷ []) old new → next.len ≡ kept.len → next.room ≡ kept.room → next.places ≡ kept.places
-    → ((i : ℕ) → at ≤ i → i < at + count → get_or next.known (i / 4096) false ≡ false) → ((b : ℕ) → get_or next.known b false ≡ true → get_or kept.known b false ≡ true)
+    → ((i : ℕ) → at ≤ i → i < at + count → get_or next.known (i / 16384) false ≡ false) → ((b : ℕ) → get_or next.known b false ≡ true → get_or kept.known b false ≡ true)
     → Holds kept old.bytes → Holds next new.bytes
 holds_forgotten kept next old new at count touched len room places inside others holds i lt seen =
     ap (λ (l : List ℕ). byte_at (record { len = kept.len; room = l; places = next.places; known = kept.known }) i) room
     ∙ ap (λ (l : List ℕ). byte_at (record { len = kept.len; room = kept.room; places = l; known = kept.known }) i) places
-    ∙ holds i (omega (arith, len, lt)) (others (i / 4096) seen) ∙ sym (touched.bytes.same i ((λ le lt'. not_both (sym (inside i le lt') ∙ seen)), tt))
+    ∙ holds i (omega (arith, len, lt)) (others (i / 16384) seen) ∙ sym (touched.bytes.same i ((λ le lt'. not_both (sym (inside i le lt') ∙ seen)), tt))
 
 -- a call that writes nothing
 pub holds_same : (kept : Kept) (old new : Content) → Touched [] old new → Holds kept old.bytes → Holds kept new.bytes
 holds_same kept old new touched holds i lt seen = holds i lt seen ∙ sym (touched.bytes.same i tt)
 
 -- known bytes are those of the content
-pub served : (kept : Kept) (content buf : List ℕ) (at n : ℕ) → at + n ≤ kept.len → at + n ≤ length content → length buf ≡ n → AreKnown kept.known (at / 4096) (end_block at n)
+pub served : (kept : Kept) (content buf : List ℕ) (at n : ℕ) → at + n ≤ kept.len → at + n ≤ length content → length buf ≡ n → AreKnown kept.known (at / 16384) (end_block at n)
     → ((i : ℕ) → i < n → get_or buf i 0 ≡ byte_at kept (at + i)) → Holds kept content → buf ≡ range content at n
 served kept content buf at n fits within long seen is holds =
     let one : length (range content at n) ≡ n = length-range content at n within in
     ext_get_or 0 buf (range content at n) (omega (arith, one, long))
-    (λ i lt. is i (omega (arith, lt, long)) ∙ holds (at + i) (omega (arith, lt, long, fits)) (seen ((at + i) / 4096) (omega arith) (omega (arith, lt, long))) ∙ sym (get_or-range content at n i (omega (arith, lt, long))))
+    (λ i lt. is i (omega (arith, lt, long)) ∙ holds (at + i) (omega (arith, lt, long, fits)) (seen ((at + i) / 16384) (omega arith) (omega (arith, lt, long))) ∙ sym (get_or-range content at n i (omega (arith, lt, long))))

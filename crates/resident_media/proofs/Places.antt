@@ -28,7 +28,7 @@ none_known zero b = refl
 none_known (suc n) zero = refl
 none_known (suc n) (suc b) = none_known n b
 
-pub stands_fresh : (len n capacity : ℕ) (room places : List ℕ) (known : List Bool) → room ≡ [] → places ≡ replicate n 0 → known ≡ replicate n false → len ≤ n * 4096 → n * 4096 < len + 4096 → n * 4096 ≤ capacity
+pub stands_fresh : (len n capacity : ℕ) (room places : List ℕ) (known : List Bool) → room ≡ [] → places ≡ replicate n 0 → known ≡ replicate n false → len ≤ n * 16384 → n * 16384 < len + 16384 → n * 16384 ≤ capacity
     → Stands (record { len = len; room = room; places = places; known = known }) capacity
 stands_fresh len n capacity room places known r p k all last fits =
     let pl : length places ≡ n = ap (λ (l : List ℕ). length l) p ∙ length-replicate n 0 in
@@ -49,26 +49,26 @@ stands_fresh len n capacity room places known r p k all last fits =
 
 module _ (kept : Kept) (capacity : ℕ) (s : Stands kept capacity) (block : ℕ) (lt : block < length kept.known) (none : get_or kept.places block 0 ≡ 0) where
   abbrev place : ℕ
-  place = length kept.room / 4096 + 1
+  place = length kept.room / 16384 + 1
 
   free_less : placeless (set kept.places block place) + 1 ≡ placeless kept.places
   free_less = placeless_set kept.places block place (omega (arith, s.long)) none (omega arith)
 
   -- the room is a whole number of blocks, and there is room for one more
-  pub whole : length kept.room / 4096 * 4096 ≡ length kept.room
+  pub whole : length kept.room / 16384 * 16384 ≡ length kept.room
   whole = omega (arith, s.full)
 
-  pub spare : length kept.room + 4096 ≤ capacity
+  pub spare : length kept.room + 16384 ≤ capacity
   spare = omega (arith, s.full, s.fits, free_less)
 
   here : get_or (set kept.places block place) block 0 ≡ place
   here = get_or-set_same kept.places block place 0 (omega (arith, s.long))
 
-  module _ (zeros : List ℕ) (long : length zeros ≡ 4096) where
+  module _ (zeros : List ℕ) (long : length zeros ≡ 16384) where
     abbrev next : Kept
     next = record { len = kept.len; room = kept.room ++ zeros; places = set kept.places block place; known = kept.known }
 
-    longer : length (kept.room ++ zeros) ≡ length kept.room + 4096
+    longer : length (kept.room ++ zeros) ≡ length kept.room + 16384
     longer = omega (arith, length-append kept.room zeros)
 
     pub gets_new : Gets block kept next

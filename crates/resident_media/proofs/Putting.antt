@@ -13,9 +13,9 @@ use Rattle.resident_media.proofs.Counts.{covers_keep}
 
 -- a part of a block that has its place, of which `from` is the first byte
 module _ (old mid : Kept) (capacity more : ℕ) (block from at : ℕ) (part : List ℕ) (gets : Gets block old mid) (before : Stands old capacity) (after : Stands mid more)
-    (from_is : from + 4096 ≡ get_or mid.places block 0 * 4096) (here : at / 4096 ≡ block) (few : at % 4096 + length part ≤ 4096) where
+    (from_is : from + 16384 ≡ get_or mid.places block 0 * 16384) (here : at / 16384 ≡ block) (few : at % 16384 + length part ≤ 16384) where
   abbrev start : ℕ
-  start = from + at % 4096
+  start = from + at % 16384
 
   abbrev room : List ℕ
   room = put_mid start (length part) mid.room part
@@ -31,8 +31,8 @@ module _ (old mid : Kept) (capacity more : ℕ) (block from at : ℕ) (part : Li
 
   part_inside : (i : ℕ) → at ≤ i → i < at + length part → byte_at next i ≡ get_or part (i - at) 0
   part_inside i le lt =
-      let one : i / 4096 ≡ block = omega (arith, here, few, le, lt) in
-      let place : get_or mid.places (i / 4096) 0 ≡ get_or mid.places block 0 = ap (λ (k : ℕ). get_or mid.places k 0) one in
+      let one : i / 16384 ≡ block = omega (arith, here, few, le, lt) in
+      let place : get_or mid.places (i / 16384) 0 ≡ get_or mid.places block 0 = ap (λ (k : ℕ). get_or mid.places k 0) one in
       let there : spot mid.places i ≡ start + (i - at) = omega (arith, place, from_is, one, here, le, gets.placed) in
       ap (λ (k : ℕ). get_or room k 0) there
       ∙ now_inside start (length part) mid.room part refl within (start + (i - at)) (omega arith) (omega (arith, le, lt))
@@ -40,20 +40,20 @@ module _ (old mid : Kept) (capacity more : ℕ) (block from at : ℕ) (part : Li
 
   part_outside : (i : ℕ) → IsSeen old.known i → (at ≤ i → i < at + length part → ⊥) → byte_at next i ≡ byte_at old i
   part_outside i seen out =
-      let some : 0 < get_or old.places (i / 4096) 0 = before.placed (i / 4096) seen in
-      let place : get_or mid.places (i / 4096) 0 ≡ get_or old.places (i / 4096) 0 = gets.places (i / 4096) some in
+      let some : 0 < get_or old.places (i / 16384) 0 = before.placed (i / 16384) seen in
+      let place : get_or mid.places (i / 16384) 0 ≡ get_or old.places (i / 16384) 0 = gets.places (i / 16384) some in
       let same : spot mid.places i ≡ spot old.places i = omega (arith, place) in
-      let low : spot old.places i < length old.room = omega (arith, before.within (i / 4096), some) in
+      let low : spot old.places i < length old.room = omega (arith, before.within (i / 16384), some) in
       let back : get_or mid.room (spot mid.places i) 0 ≡ byte_at old i = ap (λ (k : ℕ). get_or mid.room k 0) same ∙ gets.bytes (spot old.places i) low in
       let left : spot mid.places i < start → byte_at next i ≡ byte_at old i = λ lt. now_before start (length part) mid.room part refl within (spot mid.places i) lt ∙ back in
       let right : start + length part ≤ spot mid.places i → byte_at next i ≡ byte_at old i = λ le. now_after start (length part) mid.room part refl within (spot mid.places i) le ∙ back in
-      elim (cases_lt (get_or mid.places (i / 4096) 0) (get_or mid.places block 0)) [
+      elim (cases_lt (get_or mid.places (i / 16384) 0) (get_or mid.places block 0)) [
         | inl lower ↦ left (omega (arith, lower, from_is, some, place))
-        | inr high ↦ elim (cases_lt (get_or mid.places block 0) (get_or mid.places (i / 4096) 0)) [
+        | inr high ↦ elim (cases_lt (get_or mid.places block 0) (get_or mid.places (i / 16384) 0)) [
           | inl higher ↦ right (omega (arith, higher, from_is, few))
           | inr level ↦
-              let p : get_or mid.places (i / 4096) 0 ≡ get_or mid.places block 0 = omega (arith, high, level) in
-              let one : i / 4096 ≡ block = after.apart (i / 4096) block (omega (arith, some, place)) p in
+              let p : get_or mid.places (i / 16384) 0 ≡ get_or mid.places block 0 = omega (arith, high, level) in
+              let one : i / 16384 ≡ block = after.apart (i / 16384) block (omega (arith, some, place)) p in
               elim (cases_lt i at) [
                 | inl front ↦ left (omega (arith, p, from_is, one, here, front, gets.placed))
                 | inr le ↦ elim (cases_lt i (at + length part)) [
@@ -68,32 +68,32 @@ module _ (old mid : Kept) (capacity more : ℕ) (block from at : ℕ) (part : Li
   part_put = record { inside = λ i seen. part_inside i; outside = part_outside }
 
 -- an unknown block, which the part does not cover
-pub put_none : (at : ℕ) (part : List ℕ) (kept : Kept) → at % 4096 + length part ≤ 4096 → get_or kept.known (at / 4096) false ≡ false → IsPut at (length part) part kept kept
+pub put_none : (at : ℕ) (part : List ℕ) (kept : Kept) → at % 16384 + length part ≤ 16384 → get_or kept.known (at / 16384) false ≡ false → IsPut at (length part) part kept kept
 put_none at part kept few none = record {
   inside = λ i seen le lt.
-      let one : i / 4096 ≡ at / 4096 = omega (arith, few, le, lt) in
+      let one : i / 16384 ≡ at / 16384 = omega (arith, few, le, lt) in
       absurd (not_both (sym none ∙ ap (λ (k : ℕ). get_or kept.known k false) (sym one) ∙ seen));
   outside = λ i seen out. refl;
 }
 
 -- it is the one block that the part may cover
-only_block : (at count len b : ℕ) → 0 < count → at % 4096 + count ≤ 4096 → IsCovered at count len b → (b ≡ at / 4096) × (at % 4096 ≡ 0) × (count ≡ min 4096 (len - at)) ⊎ (len < at + count)
+only_block : (at count len b : ℕ) → 0 < count → at % 16384 + count ≤ 16384 → IsCovered at count len b → (b ≡ at / 16384) × (at % 16384 ≡ 0) × (count ≡ min 16384 (len - at)) ⊎ (len < at + count)
 only_block at count len b some few is = elim (cases_lt len (at + count)) [
   | inl past ↦ inr past
   | inr fits ↦
-      let one : b ≡ at / 4096 = omega (arith, some, few, is.0, is.1, is.2, fits) in
+      let one : b ≡ at / 16384 = omega (arith, some, few, is.0, is.1, is.2, fits) in
       inl (one, omega (arith, one, is.1), omega (arith, one, some, few, is.0, is.1, is.2, fits))
 ]
 
-module _ (at count len block : ℕ) (known : List Bool) (some : 0 < count) (few : at % 4096 + count ≤ 4096) (fits : at + count ≤ len) (here : at / 4096 ≡ block) where
-  pub covers_none : ((at % 4096 ≡ 0) × (count ≡ min 4096 (len - at)) → ⊥) → Covers at count len known known
+module _ (at count len block : ℕ) (known : List Bool) (some : 0 < count) (few : at % 16384 + count ≤ 16384) (fits : at + count ≤ len) (here : at / 16384 ≡ block) where
+  pub covers_none : ((at % 16384 ≡ 0) × (count ≡ min 16384 (len - at)) → ⊥) → Covers at count len known known
   covers_none part = record {
     long = refl;
     inside = λ b is. elim (only_block at count len b some few is) [ inl whole ↦ absurd (part (whole.1, whole.2)) | inr past ↦ absurd (omega (arith, past, fits)) ];
     outside = λ b out. refl;
   }
 
-  pub covers_set : (block < length known) → ((at % 4096 ≡ 0) × (count ≡ min 4096 (len - at))) ⊎ (get_or known block false ≡ true) → Covers at count len known (set known block true)
+  pub covers_set : (block < length known) → ((at % 16384 ≡ 0) × (count ≡ min 16384 (len - at))) ⊎ (get_or known block false ≡ true) → Covers at count len known (set known block true)
   covers_set lt either = record {
     long = length-set known block true;
     inside = λ b is. elim (only_block at count len b some few is) [
@@ -112,7 +112,7 @@ module _ (at count len block : ℕ) (known : List Bool) (some : 0 < count) (few 
 -- how far the bytes were put
 pub record PutTo (at done : ℕ) (bytes : List ℕ) (old now : Kept) : Type 0 where
   pub few : done ≤ length bytes
-  pub border : (done ≡ 0) ⊎ (((at + done) % 4096 ≡ 0) ⊎ (done ≡ length bytes))
+  pub border : (done ≡ 0) ⊎ (((at + done) % 16384 ≡ 0) ⊎ (done ≡ length bytes))
   pub len : now.len ≡ old.len
   pub known : Covers at done old.len old.known now.known
   pub stands : IsPut at done bytes old now
@@ -127,7 +127,7 @@ put_begun at bytes kept = record {
 }
 
 -- one part more, up to the next border or the end
-pub put_more : (at done n : ℕ) (bytes piece : List ℕ) (old now next : Kept) → PutTo at done bytes old now → done < length bytes → n ≡ min (4096 - (at + done) % 4096) (length bytes - done)
+pub put_more : (at done n : ℕ) (bytes piece : List ℕ) (old now next : Kept) → PutTo at done bytes old now → done < length bytes → n ≡ min (16384 - (at + done) % 16384) (length bytes - done)
     → piece ≡ range bytes done n → at + length bytes ≤ old.len
     → next.len ≡ now.len → Covers (at + done) (length piece) now.len now.known next.known → IsPut (at + done) (length piece) piece now next → PutTo at (done + n) bytes old next
 put_more at done n bytes piece old now next was more is part fits len known given =
@@ -136,14 +136,14 @@ put_more at done n bytes piece old now next was more is part fits len known give
     subst (λ (k : ℕ). Covers (at + done) k old.len now.known next.known) long (subst (λ (k : ℕ). Covers (at + done) (length piece) k now.known next.known) was.len known) in
     let put : IsPut (at + done) n piece now next = subst (λ (k : ℕ). IsPut (at + done) k piece now next) long given in
     let kept_seen : (i : ℕ) → i < old.len → (at + done ≤ i → i < at + done + n → ⊥) → IsSeen next.known i → IsSeen now.known i = λ i low out seen.
-    sym (step.outside (i / 4096) (λ c. out (omega (arith, c.1)) (omega (arith, c.2, low)))) ∙ seen in
+    sym (step.outside (i / 16384) (λ c. out (omega (arith, c.1)) (omega (arith, c.2, low)))) ∙ seen in
     record {
       few = omega (arith, is, more);
       border = inr (elim (cases_lt (done + n) (length bytes)) [ inl less ↦ inl (omega (arith, is, less, more)) | inr all ↦ inr (omega (arith, is, all, more)) ]);
       len = len ∙ was.len;
       known = record {
         long = step.long ∙ was.known.long;
-        inside = λ b c. elim (cases_lt (b * 4096) (at + done)) [
+        inside = λ b c. elim (cases_lt (b * 16384) (at + done)) [
           | inl low ↦
               let whole : IsCovered at done old.len b = elim was.border [
                 | inl none ↦ absurd (omega (arith, none, low, c.1))
@@ -153,7 +153,7 @@ put_more at done n bytes piece old now next was more is part fits len known give
                 ]
               ] in
               let first : get_or now.known b false ≡ true = was.known.inside b whole in
-              elim (cases_lt (at + done + n) (b * 4096)) [
+              elim (cases_lt (at + done + n) (b * 16384)) [
                 | inl far ↦ absurd (omega (arith, far, low))
                 | inr near ↦ step.outside b (λ d. omega (arith, d.1, low)) ∙ first
               ]
@@ -171,7 +171,7 @@ put_more at done n bytes piece old now next was more is part fits len known give
               ∙ get_or-range bytes done n (i - (at + done)) (omega (arith, from, lt)) ∙ ap (λ (k : ℕ). get_or bytes k 0) (omega (arith, from, le))
         ];
         outside = λ i seen out.
-            let now_seen : IsSeen now.known i = covers_keep at done old.len old.known now.known was.known (i / 4096) seen in
+            let now_seen : IsSeen now.known i = covers_keep at done old.len old.known now.known was.known (i / 16384) seen in
             put.outside i now_seen (λ le lt. out (omega (arith, le)) (omega (arith, lt))) ∙ was.stands.outside i seen (λ le lt. out le (omega (arith, lt)));
       };
     }

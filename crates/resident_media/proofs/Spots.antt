@@ -11,10 +11,10 @@ pub not_both : false ≡ true → ⊥
 not_both e = true≢false (sym e)
 
 -- within one block
-pub spot_on : (places : List ℕ) (a d : ℕ) → a % 4096 + d < 4096 → spot places (a + d) ≡ spot places a + d
+pub spot_on : (places : List ℕ) (a d : ℕ) → a % 16384 + d < 16384 → spot places (a + d) ≡ spot places a + d
 spot_on places a d lt =
-    let e : (a + d) / 4096 ≡ a / 4096 = omega arith in
-    let p : get_or places ((a + d) / 4096) 0 ≡ get_or places (a / 4096) 0 = ap (λ (k : ℕ). get_or places k 0) e in
+    let e : (a + d) / 16384 ≡ a / 16384 = omega arith in
+    let p : get_or places ((a + d) / 16384) 0 ≡ get_or places (a / 16384) 0 = ap (λ (k : ℕ). get_or places k 0) e in
     omega (arith, p)
 
 -- what was copied so far
@@ -23,7 +23,7 @@ pub record Copied (at done : ℕ) (room places buf : List ℕ) : Type 0 where
   pub bytes : (i : ℕ) → i < done → get_or buf i 0 ≡ get_or room (spot places (at + i)) 0
 
 pub copied_on : (at done part from : ℕ) (room places buf piece : List ℕ) → piece ≡ range room from part → from + part ≤ length room → done + part ≤ length buf
-    → from ≡ spot places (at + done) → (at + done) % 4096 + part ≤ 4096 → Copied at done room places buf → Copied at (done + part) room places (put_mid done part buf piece)
+    → from ≡ spot places (at + done) → (at + done) % 16384 + part ≤ 16384 → Copied at done room places buf → Copied at (done + part) room places (put_mid done part buf piece)
 copied_on at done part from room places buf piece is within fits place few was =
     let long : length piece ≡ part = ap (λ (l : List ℕ). length l) is ∙ length-range room from part within in record {
       few = omega (arith, now_long done part buf piece long fits, fits);

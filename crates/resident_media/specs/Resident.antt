@@ -112,4 +112,4 @@ pub record Stepped {M : Type 0} (view : M → View) (old new : Resident M) : Typ
 
 -- so many bytes from a place on are kept, and their blocks are known
 abbrev pub Knows : {M : Type 0} → Resident M → ℕ → ℕ → Type 0
-Knows r at count = (at + count ≤ r.kept.len) × AreKnown r.kept.known (at / 4096) (end_block at count)
+Knows r at count = (at + count ≤ r.kept.len) × AreKnown r.kept.known (at / 16384) (end_block at count)

@@ -16,7 +16,7 @@ use std::marker::Model;
 const ZEROS: [u8; BLOCK] = [0; BLOCK];
 
 fn zeros() -> &'static [u8]
-    ensures { length result.now ≡ 4096 }
+    ensures { length result.now ≡ 16384 }
 {
     &ZEROS
 }
@@ -80,7 +80,7 @@ impl Blocks {
     // Where in the room the block begins. One that had no place has got one.
     fn place_for(&mut self, block: usize) -> usize
         requires there { block < length self.old.known }
-        ensures from { result + 4096 ≡ get_or self.new.places block 0 * 4096 }
+        ensures from { result + 16384 ≡ get_or self.new.places block 0 * 16384 }
         ensures gets { Gets block self.old self.new }
     {
         let place = self.places[block];
@@ -98,7 +98,7 @@ impl Blocks {
     fn put_part(&mut self, at: usize, part: &[u8])
         requires some { 0 < length part.now }
         requires within { at + length part.now ≤ self.old.len }
-        requires one { at % 4096 + length part.now ≤ 4096 }
+        requires one { at % 16384 + length part.now ≤ 16384 }
         ensures len { self.new.len ≡ self.old.len }
         ensures known { Covers at (length part.now) self.old.len self.old.known self.new.known }
         ensures bytes { IsPut at (length part.now) part.now self.old self.new }
@@ -148,9 +148,9 @@ impl Blocks {
         ensures room { self.new.room ≡ self.old.room }
         ensures places { self.new.places ≡ self.old.places }
         ensures len { self.new.len ≡ self.old.len }
-        ensures inside { (i : ℕ) → at ≤ i → i < at + count → get_or self.new.known (i / 4096) false ≡ false }
+        ensures inside { (i : ℕ) → at ≤ i → i < at + count → get_or self.new.known (i / 16384) false ≡ false }
         ensures others { (b : ℕ) → get_or self.new.known b false ≡ true → get_or self.old.known b false ≡ true }
-        ensures outside { StaysOutside (at / 4096) (end_block at count) self.old.known self.new.known }
+        ensures outside { StaysOutside (at / 16384) (end_block at count) self.old.known self.new.known }
     {
         forget(&mut self.known, at, count);
     }
@@ -187,7 +187,7 @@ impl Blocks {
     // Copies bytes of known blocks.
     fn copy(&self, at: usize, buf: &mut [u8])
         requires within { at + length buf.old ≤ self.now.len }
-        requires known { AreKnown self.now.known (at / 4096) (end_block at (length buf.old)) }
+        requires known { AreKnown self.now.known (at / 16384) (end_block at (length buf.old)) }
         ensures { (i : ℕ) → i < length buf.old → slice_index buf.new i ≡ slice_index self.now.room (spot self.now.places (at + i)) }
     {
         copy_out(&self.room, &self.places, at, buf);
@@ -235,9 +235,9 @@ impl Blocks {
         ensures called { Called M.tells M.view M.steady [] 0 inner.old inner.new result ⊎ Served inner.old inner.new result }
         ensures len { self.new.len ≡ self.old.len }
         ensures capacity { vec_capacity scratch.old ≤ vec_capacity scratch.new }
-        ensures hit { AreKnown self.old.known (at / 4096) (end_block at (length buf.old)) → Served inner.old inner.new result × (self.new ≡ self.old) }
-        ensures learns { OnOk result (Learns (M.view inner.old).moment (M.view inner.new).moment (at / 4096) (end_block at (length buf.old)) self.old.known self.new.known) }
-        ensures outside { StaysOutside (at / 4096) (end_block at (length buf.old)) self.old.known self.new.known }
+        ensures hit { AreKnown self.old.known (at / 16384) (end_block at (length buf.old)) → Served inner.old inner.new result × (self.new ≡ self.old) }
+        ensures learns { OnOk result (Learns (M.view inner.old).moment (M.view inner.new).moment (at / 16384) (end_block at (length buf.old)) self.old.known self.new.known) }
+        ensures outside { StaysOutside (at / 16384) (end_block at (length buf.old)) self.old.known self.new.known }
         ensures holds { IsTrue M.tells → length (M.view inner.old).content.bytes ≡ (M.view inner.old).size → Holds self.old (M.view inner.old).content.bytes → Holds self.new (M.view inner.old).content.bytes }
         ensures bytes { IsTrue M.tells → Holds self.old (M.view inner.old).content.bytes → length (M.view inner.old).content.bytes ≡ (M.view inner.old).size →
             OnOk result (buf.new ≡ range (M.view inner.old).content.bytes at (length buf.old)) }

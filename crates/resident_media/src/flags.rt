@@ -3,7 +3,7 @@ ghost use Rattle.std.specs.Prelude.{◌≡◌, ◌+◌, ◌/◌, ◌<◌, ◌≤
 ghost use Rattle.resident_media.specs.Blocks.{AreKnown, IsMarked, StaysOutside, end_block};
 
 /// Bytes of a block.
-pub const BLOCK: usize = 4096;
+pub const BLOCK: usize = 16_384;
 
 /// The first unknown block from `first` on, or `end`.
 pub fn first_unknown(known: &[bool], first: usize, end: usize) -> usize
@@ -51,11 +51,11 @@ fn unmark(known: &mut [bool], first: usize, end: usize)
 
 /// Makes the blocks unknown that lie in these `count` bytes, in whole or in part.
 pub fn forget(known: &mut [bool], at: u64, count: usize)
-    requires { length known.old ≤ 2 ^ 52 }
+    requires { length known.old ≤ 2 ^ 50 }
     ensures long { length known.new ≡ length known.old }
-    ensures inside { (i : ℕ) → at ≤ i → i < at + count → get_or known.new (i / 4096) false ≡ false }
+    ensures inside { (i : ℕ) → at ≤ i → i < at + count → get_or known.new (i / 16384) false ≡ false }
     ensures others { (b : ℕ) → get_or known.new b false ≡ true → get_or known.old b false ≡ true }
-    ensures outside { StaysOutside (at / 4096) (end_block at count) known.old known.new }
+    ensures outside { StaysOutside (at / 16384) (end_block at count) known.old known.new }
 {
     let blocks = known.len() as u64;
     let first = (at / BLOCK as u64).min(blocks);

@@ -131,9 +131,9 @@ impl<M: Media> Media for ResidentMedia<M> {
             → IsOk result × IsTrue (is_steady M.view M.steady self.new calls more) }
 
         ensures hit { Knows self.old at (length buf.old) → self.old.moment < 2 ^ 64 - 1 → IsOk result × (self.new.inner ≡ self.old.inner) }
-        ensures learns { at + length buf.old ≤ self.old.kept.len → OnOk result (Learns (M.view self.old.inner).moment (M.view self.new.inner).moment (at / 4096) (end_block at (length buf.old)) self.old.kept.known self.new.kept.known) }
+        ensures learns { at + length buf.old ≤ self.old.kept.len → OnOk result (Learns (M.view self.old.inner).moment (M.view self.new.inner).moment (at / 16384) (end_block at (length buf.old)) self.old.kept.known self.new.kept.known) }
         ensures beyond { self.old.kept.len < at + length buf.old → OnOk result (Does M.view handed self.old self.new) }
-        ensures others { StaysOutside (at / 4096) (end_block at (length buf.old)) self.old.kept.known self.new.kept.known }
+        ensures others { StaysOutside (at / 16384) (end_block at (length buf.old)) self.old.kept.known self.new.kept.known }
         ensures len { self.new.kept.len ≡ self.old.kept.len }
     {
         self.tick()?;
@@ -154,7 +154,7 @@ impl<M: Media> Media for ResidentMedia<M> {
             → IsOk result × IsTrue (is_steady M.view M.steady self.new calls more) }
 
         ensures handed { OnOk result (Does M.view (written_at at (length bytes.now)) self.old self.new) }
-        ensures others { StaysOutside (at / 4096) (end_block at (length bytes.now)) self.old.kept.known self.new.kept.known }
+        ensures others { StaysOutside (at / 16384) (end_block at (length bytes.now)) self.old.kept.known self.new.kept.known }
         ensures len { self.new.kept.len ≡ self.old.kept.len }
     {
         self.tick()?;

@@ -6,9 +6,9 @@ use crate::flags::BLOCK;
 
 // Where in the room a byte stands.
 fn spot(places: &[usize], at: usize) -> usize
-    requires there { at / 4096 < length places.now }
-    requires placed { 0 < get_or places.now (at / 4096) 0 }
-    requires fits { get_or places.now (at / 4096) 0 * 4096 < 2 ^ 63 }
+    requires there { at / 16384 < length places.now }
+    requires placed { 0 < get_or places.now (at / 16384) 0 }
+    requires fits { get_or places.now (at / 16384) 0 * 16384 < 2 ^ 63 }
     ensures { result ≡ spot places.now at }
 {
     (places[at / BLOCK] - 1) * BLOCK + at % BLOCK
@@ -16,10 +16,10 @@ fn spot(places: &[usize], at: usize) -> usize
 
 /// Copies bytes from the room. Their blocks have places.
 pub fn copy_out(room: &[u8], places: &[usize], at: usize, buf: &mut [u8])
-    requires within { at + length buf.old ≤ length places.now * 4096 }
+    requires within { at + length buf.old ≤ length places.now * 16384 }
     requires small { at + length buf.old < 2 ^ 64 }
-    requires placed { (i : ℕ) → at ≤ i → i < at + length buf.old → 0 < get_or places.now (i / 4096) 0 }
-    requires room { (b : ℕ) → get_or places.now b 0 * 4096 ≤ length room.now }
+    requires placed { (i : ℕ) → at ≤ i → i < at + length buf.old → 0 < get_or places.now (i / 16384) 0 }
+    requires room { (b : ℕ) → get_or places.now b 0 * 16384 ≤ length room.now }
     ensures bytes { (i : ℕ) → i < length buf.old → slice_index buf.new i ≡ slice_index room.now (spot places.now (at + i)) }
 {
     let mut done = 0;

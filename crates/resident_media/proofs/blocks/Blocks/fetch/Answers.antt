@@ -19,8 +19,8 @@ overflow_mul-end g c =
 pub returns-clause-holds : goal.returns-clause-holds
 returns-clause-holds g c told long holds =
     let content = (g.M.Media.view c.args.inner.now).content.bytes in
-    let from = c.args.first * 4096 in
-    let count = c.min.result - c.args.first * 4096 in
+    let from = c.args.first * 16384 in
+    let count = c.min.result - c.args.first * 16384 in
     let few : count ≤ length c.deref_mut.result.now = omega (arith, c.lengthen.ensures.long, ap (λ (l : List ℕ). length l) c.deref_mut.ensures.value) in
     let old_long : length (take count c.deref_mut.result.now) ≡ count = length-take-le count c.deref_mut.result.now few in
     let new_long : length c.read.new.buf ≡ count = omega (arith, old_long) in

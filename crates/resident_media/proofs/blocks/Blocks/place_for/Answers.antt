@@ -17,8 +17,8 @@ invariant_of-self c =
     let items = rw ok at c.extend_from_slice.ensures.items in
     let from : c.len-from.result ≡ length kept.room = omega (arith, c.self.inside.room.ok.0) in
     let s = stands_new kept capacity c.self.invariant c.args.block lt none c.zeros.result.now c.zeros.ensures (vec_capacity c.extend_from_slice.new.self) c.extend_from_slice.ensures.capacity in
-    subst (λ (l : List ℕ). Stands (record { len = c.self.inside.len; room = l; places = set c.self.inside.places.items c.args.block (c.len-from.result / 4096 + 1); known = c.self.inside.known.items }) (vec_capacity c.extend_from_slice.new.self)) (sym items)
-    (subst (λ (n : ℕ). Stands (record { len = c.self.inside.len; room = kept.room ++ c.zeros.result.now; places = set c.self.inside.places.items c.args.block (n / 4096 + 1); known = c.self.inside.known.items }) (vec_capacity c.extend_from_slice.new.self)) (sym from) s)
+    subst (λ (l : List ℕ). Stands (record { len = c.self.inside.len; room = l; places = set c.self.inside.places.items c.args.block (c.len-from.result / 16384 + 1); known = c.self.inside.known.items }) (vec_capacity c.extend_from_slice.new.self)) (sym items)
+    (subst (λ (n : ℕ). Stands (record { len = c.self.inside.len; room = kept.room ++ c.zeros.result.now; places = set c.self.inside.places.items c.args.block (n / 16384 + 1); known = c.self.inside.known.items }) (vec_capacity c.extend_from_slice.new.self)) (sym from) s)
 
 pub returns-clause-gets : goal.returns-clause-gets
 returns-clause-gets c =
@@ -30,6 +30,6 @@ returns-clause-gets c =
     let items = rw ok at c.extend_from_slice.ensures.items in
     let from : c.len-from.result ≡ length kept.room = omega (arith, c.self.inside.room.ok.0) in
     let g = gets_new kept capacity c.self.invariant c.args.block lt none c.zeros.result.now c.zeros.ensures in
-    subst (λ (k : Kept). Gets c.args.block k (record { len = c.self.inside.len; room = c.extend_from_slice.new.self.items; places = set c.self.inside.places.items c.args.block (c.len-from.result / 4096 + 1); known = c.self.inside.known.items })) c.self.view_is
-    (subst (λ (l : List ℕ). Gets c.args.block kept (record { len = c.self.inside.len; room = l; places = set c.self.inside.places.items c.args.block (c.len-from.result / 4096 + 1); known = c.self.inside.known.items })) (sym items)
-    (subst (λ (n : ℕ). Gets c.args.block kept (record { len = c.self.inside.len; room = kept.room ++ c.zeros.result.now; places = set c.self.inside.places.items c.args.block (n / 4096 + 1); known = c.self.inside.known.items })) (sym from) g))
+    subst (λ (k : Kept). Gets c.args.block k (record { len = c.self.inside.len; room = c.extend_from_slice.new.self.items; places = set c.self.inside.places.items c.args.block (c.len-from.result / 16384 + 1); known = c.self.inside.known.items })) c.self.view_is
+    (subst (λ (l : List ℕ). Gets c.args.block kept (record { len = c.self.inside.len; room = l; places = set c.self.inside.places.items c.args.block (c.len-from.result / 16384 + 1); known = c.self.inside.known.items })) (sym items)
+    (subst (λ (n : ℕ). Gets c.args.block kept (record { len = c.self.inside.len; room = kept.room ++ c.zeros.result.now; places = set c.self.inside.places.items c.args.block (n / 16384 + 1); known = c.self.inside.known.items })) (sym from) g))

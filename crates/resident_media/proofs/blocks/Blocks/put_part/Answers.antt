@@ -9,13 +9,13 @@ use Rattle.resident_media.proofs.blocks.Blocks.put_part.Goals as goal
 
 pub returns-clause-bytes : goal.returns-clause-bytes
 returns-clause-bytes c =
-    let block = c.args.at / 4096 in
+    let block = c.args.at / 16384 in
     let part = c.args.part.now in
-    let start = c.place_for.result + c.args.at % 4096 in
+    let start = c.place_for.result + c.args.at % 16384 in
     let mid : Kept = record { len = c.self-2.inside.len; room = c.self-2.inside.room.items; places = c.self-2.inside.places.items; known = c.self-2.inside.known.items } in
     let gets : Gets block c.args.self.now mid = subst (λ (k : Kept). Gets block c.args.self.now k) (sym c.self-2.view_is) c.place_for.ensures.gets in
     let before : Stands c.args.self.now (vec_capacity c.self.inside.room) = subst (λ (k : Kept). Stands k (vec_capacity c.self.inside.room)) c.self.view_is c.self.invariant in
-    let from : c.place_for.result + 4096 ≡ get_or mid.places block 0 * 4096 = c.place_for.ensures.from ∙ ap (λ (k : Kept). get_or k.places block 0 * 4096) (sym c.self-2.view_is) in
+    let from : c.place_for.result + 16384 ≡ get_or mid.places block 0 * 16384 = c.place_for.ensures.from ∙ ap (λ (k : Kept). get_or k.places block 0 * 16384) (sym c.self-2.view_is) in
     let all = part_put c.args.self.now mid (vec_capacity c.self.inside.room) (vec_capacity c.self-2.inside.room) block c.place_for.result c.args.at part gets before c.self-2.invariant from refl c.requires.one in
     let count : start + length part - start ≡ length part = omega arith in
     let same : put_mid start (start + length part - start) c.deref_mut.result.now c.copy_from_slice.new.self ≡ put_mid start (length part) mid.room part =

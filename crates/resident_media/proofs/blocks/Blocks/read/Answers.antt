@@ -9,6 +9,6 @@ returns-clause-bytes g c told holds long =
     let at = c.args.at in
     let n = length c.args.buf.now in
     let now = c.learn.new.self in
-    let seen : AreKnown now.known (at / 4096) (end_block at n) = λ b le lt. c.in_ok-learn.ensures.learns.inside b le (omega (arith, lt, c.div_ceil.ensures)) in
+    let seen : AreKnown now.known (at / 16384) (end_block at n) = λ b le lt. c.in_ok-learn.ensures.learns.inside b le (omega (arith, lt, c.div_ceil.ensures)) in
     let same : Holds now content = c.learn.ensures.holds told long holds in
     served now content c.copy.new.buf at n (omega (arith, c.requires.within, c.learn.ensures.len)) (omega (arith, c.requires.within, c.requires.fits, long)) (omega arith) seen c.copy.ensures same

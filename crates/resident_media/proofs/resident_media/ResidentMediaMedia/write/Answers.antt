@@ -60,4 +60,4 @@ returns-in-Ok-clause-others g c =
     let at = c.args.at in
     let count = length c.args.bytes.now in
     let same : blocks.known ≡ c.args.self.now.kept.known = ap (λ (r : Resident g.row.M.Denot). r.kept.known) c.self.view_is ∙ ap (λ (k : Kept). k.known) c.tick.ensures.kept in
-    subst (λ (l : List Bool). StaysOutside (at / 4096) (end_block at count) l now.known) same (outside_covered at count blocks.len blocks.known now.known c.put.ensures.known)
+    subst (λ (l : List Bool). StaysOutside (at / 16384) (end_block at count) l now.known) same (outside_covered at count blocks.len blocks.known now.known c.put.ensures.known)
