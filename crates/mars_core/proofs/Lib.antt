@@ -19,6 +19,7 @@ pub mod Grouping
 pub mod Together
 pub mod Opening
 pub mod Attaching
+pub mod Showing
 pub mod Unwritten
 pub mod Clearing
 pub mod Passing

@@ -14,6 +14,7 @@ ghost use Rattle.caller_steps.specs.Core.{IsSafe, Steps};
 ghost use Rattle.caller_steps.specs.Fate.{is_busy, is_refusal};
 ghost use Rattle.caller_steps.specs.Locked.{IsLocked};
 ghost use Rattle.caller_steps.specs.Purging.{PurgeCause};
+ghost use Rattle.caller_steps.specs.Room as steps_room;
 ghost use Rattle.caller_steps.specs.State.{unoffered, offered, unsettled, calls_of};
 ghost use Rattle.record_table.specs.Names.{KeepsNames};
 ghost use Rattle.record_table.specs.Shown.{state_of};
@@ -80,12 +81,17 @@ impl<S: EawStore, K: KeyIndex, H: Keeper> Model for Core<S, K, H> {
 
 impl<S: EawStore, K: KeyIndex, H: Keeper> Core<S, K, H> {
     /// A core over a store that is not dead and on which no number is live. It begins with the records of the store's data, which it brings
-    /// to version 2 last. An error returns the store: the data is not a sound index, the medium failed, or memory ran out.
+    /// to version 2 last, and that data shows its first state. An error returns the store: the data is not a sound index, the medium failed,
+    /// or memory ran out.
     pub fn attach(alloc: Global, room: SaveRoom, store: S) -> Result<Core<S, K, H>, (CoreFault, S)>
         requires alive { IsAlive (S.view store) }
         requires idle { (t : ℕ) → (S.view store).ranges t ≡ None }
         ensures begins { IfOk result (λ core. Begins S.tells (S.opens (S.view store).shape) K.index (S.view store) (S.view core.records.store)
             (core_of S.opens K.index (S.view core.records.store) core)) }
+        ensures shown { IfOk result (λ core. IsTrue S.tells
+            → steps_room.IsShown (core_of S.opens K.index (S.view core.records.store) core).limits (core_of S.opens K.index (S.view core.records.store) core).state) }
+        ensures shows { IfOk result (λ core. IsTrue S.tells
+            → (core_of S.opens K.index (S.view core.records.store) core).shows (core_of S.opens K.index (S.view core.records.store) core).state) }
         ensures cause { IfErr result (λ failed. CoreCause S.tells K.index (S.view store) failed.0) }
         ensures gives_back { IfErr result (λ failed. GivesBack S.tells (S.opens (S.view store).shape) (is_media_fault failed.0) (S.view store) (S.view failed.1)) }
     {

@@ -1,6 +1,7 @@
 // Records on a medium.
 ghost use Rattle.std.specs.Prelude.{◌≡◌, ◌≤◌, [], ℕ, None, IfOk, IfErr, IsTrue, IsFalse, nat_lt};
 ghost use Rattle.mars_base.specs.Causes.{Rose};
+ghost use Rattle.caller_steps.specs.Room.{IsShown};
 ghost use Rattle.caller_steps.specs.Sound.{IsSound};
 ghost use Rattle.caller_steps.specs.State.{unoffered};
 ghost use Rattle.eaw_device.specs.Depths.{IsOfDepth};
@@ -46,6 +47,9 @@ pub fn open<M: Media, K: KeyIndex, H: Keeper, D: Depth>(
     ensures array { IfOk result (λ core. IsTrue M.tells → BeginsOn K.index (M.view media) (⟦<Core<Eaw<M, D>, K, H> as Steps>⟧.view core)) }
     ensures opened { IfOk result (λ core. OfData M.tells (M.view media) (λ shape bytes. Begins K.index shape bytes (⟦<Core<Eaw<M, D>, K, H> as Steps>⟧.view core))) }
     ensures sound { IfOk result (λ core. IsTrue M.tells → IsSound (⟦<Core<Eaw<M, D>, K, H> as Steps>⟧.view core).state) }
+    // The data of the array shows the first state, and so each state of a run that is not dead.
+    ensures shown { IfOk result (λ core. IsTrue M.tells → IsShown (⟦<Core<Eaw<M, D>, K, H> as Steps>⟧.view core).limits (⟦<Core<Eaw<M, D>, K, H> as Steps>⟧.view core).state) }
+    ensures shows { IfOk result (λ core. IsTrue M.tells → (⟦<Core<Eaw<M, D>, K, H> as Steps>⟧.view core).shows (⟦<Core<Eaw<M, D>, K, H> as Steps>⟧.view core).state) }
     ensures fresh { IfOk result (λ core. ((⟦<Core<Eaw<M, D>, K, H> as Steps>⟧.view core).state.history ≡ []) × ((caller : ℕ) → (⟦<Core<Eaw<M, D>, K, H> as Steps>⟧.view core).state.live caller ≡ None)
         × ((⟦<Core<Eaw<M, D>, K, H> as Steps>⟧.view core).state.doubt ≡ []) × ((caller : ℕ) → (⟦<Core<Eaw<M, D>, K, H> as Steps>⟧.view core).state.offers caller ≡ unoffered)) }
     ensures enough { IfOk result (λ core. callers ≤ (⟦<Core<Eaw<M, D>, K, H> as Steps>⟧.view core).limits.callers) }

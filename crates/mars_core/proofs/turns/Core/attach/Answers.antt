@@ -14,6 +14,7 @@ use Rattle.record_table.specs.Shown.{writes_of, table_of}
 use Rattle.mars_core.specs.Attached.{is_media_fault, attach_fault, CoreCause, GivesBack}
 use Rattle.mars_core.specs.declared.fault.CoreFault.{CoreFault}
 use Rattle.mars_core.proofs.Attaching.{attach_cause, attach_left, left_gives}
+use Rattle.mars_core.proofs.Showing.{begun_has, begun_shown}
 use Rattle.mars_core.proofs.turns.Core.attach.Goals as goal
 
 pub attach-requires : goal.attach-requires
@@ -27,6 +28,8 @@ returns-in-Err g c =
     (attach_left g.S.EawStore.tells (g.S.EawStore.opens (g.S.EawStore.view c.attach_in.result.store).shape) g.K.KeyIndex.index (pages_of (g.S.EawStore.view c.attach_in.result.store) c.attach_in.result) (pages_of (g.S.EawStore.view c.in-Err.pages.store) c.in-Err.pages) alive c.in-Err.fault c.in-Err.ensures.cause c.in-Err.ensures.looks) in
     record {
       begins = tt;
+      shown = tt;
+      shows = tt;
       cause = subst (λ (x : g.row.S.Denot × CoreFault). CoreCause g.S.EawStore.tells g.K.KeyIndex.index (g.S.EawStore.view x.0) x.1) (λ i. (c.attach_in.ensures.store i, sym c.from.ensures i)) cause;
       gives_back = subst (λ (x : g.row.S.Denot × CoreFault × g.row.S.Denot). GivesBack g.S.EawStore.tells (g.S.EawStore.opens (g.S.EawStore.view x.0).shape) (is_media_fault x.1) (g.S.EawStore.view x.0) (g.S.EawStore.view x.2)) (λ i. (c.attach_in.ensures.store i, sym c.from.ensures i, sym c.into_store.ensures i)) back;
     }
@@ -64,3 +67,9 @@ returns-clause-gives_back g c =
     let attached = c.in-Ok.ensures.attached in
     IfErr-weaker c.begin_over.result _ _ (λ failed back. subst (λ (st : g.row.S.Denot). GivesBack g.S.EawStore.tells (g.S.EawStore.opens (g.S.EawStore.view st).shape) (is_media_fault failed.0) (g.S.EawStore.view st) (g.S.EawStore.view failed.1)) c.attach_in.ensures.store
     (looked_gives s.tells s.opens (is_media_fault failed.0) p q (s.view failed.1) attached.alive (looks_as s.tells (s.opens (s.view c.attach_in.result.store).shape) 0 false p q attached.looks) back)) c.begin_over.ensures.gives_back
+
+pub returns-clause-shown : goal.returns-clause-shown
+returns-clause-shown g c = IfOk-weaker c.begin_over.result _ _ (λ core begins told. begun_shown _ _ _ _ _ _ begins told) c.begin_over.ensures.begins
+
+pub returns-clause-shows : goal.returns-clause-shows
+returns-clause-shows g c = IfOk-weaker c.begin_over.result _ _ (λ core begins told. begun_has _ _ _ _ _ _ begins told) c.begin_over.ensures.begins
