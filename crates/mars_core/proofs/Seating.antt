@@ -1,7 +1,7 @@
 -- Lists of seats.
 use Rattle.std.proofs.Common.{false, nat_eq, sym, ap, Some, get_or, ◌≡◌, ◌≢◌, ◌⊎◌, ◌≤◌, ◌<◌, ◌+◌, ℕ, zero, suc, inl, inr, [], ◌∷◌, ◌++◌, length, Option, None, unwrap_or, refl, subst, ◌∙◌, arith}
 use Rattle.std.proofs.Math.ListN.{set, length-set}
-use Rattle.std.specs.Prelude.{List, IfSome}
+use Rattle.std.specs.Prelude.{List, IfSome, is_some}
 use Rattle.std.proofs.lemmas.Option.{slice_get-get_or}
 use Rattle.std.specs.Map.{update}
 use Rattle.std.proofs.lemmas.Map.{update_here, update_apart}
@@ -154,6 +154,10 @@ free_beyond [] caller le = refl
 free_beyond (one ∷ places) zero le = absurd (omega (arith, le))
 free_beyond (one ∷ places) (suc caller) le = free_beyond places caller (omega (arith, le))
 
+no_calls : (live : Option Granted) → is_some live ≡ false → unwrap_or live [] ≡ []
+no_calls None idle = refl
+no_calls (Some calls) idle = absurd (true≢false idle)
+
 module _ (seats : Seats) (caller : ℕ) (call : Call) where
   -- the caller itself is not one of those before n that hold a stripe of the call
   pub free_own : (n : ℕ) → ((holder : ℕ) → holder < n → Blocks (bare seats) caller call holder → ⊥) → n ≡ caller
@@ -172,6 +176,12 @@ module _ (seats : Seats) (caller : ℕ) (call : Call) where
         both_ways (clash (touches seats.names call meets.0) (touched seats.names (calls_at seats n) meets.0)) (none meets.0) meets.1)
     | inr ne ↦ before holder (omega (arith, lt, ne)) blocks
   ]
+
+  -- nor is one without a live transaction
+  pub free_idle : (n : ℕ) → ((holder : ℕ) → holder < n → Blocks (bare seats) caller call holder → ⊥) → is_some (live_in seats n) ≡ false
+      → (holder : ℕ) → holder < n + 1 → Blocks (bare seats) caller call holder → ⊥
+  free_idle n before idle = free_apart n before (λ stripe. subst (λ (calls : Granted). clash (touches seats.names call stripe) (touched seats.names calls stripe) ≡ false)
+      (sym (no_calls (live_in seats n) idle)) (clash_none (touches seats.names call stripe)))
 
   -- nor is one beyond all callers
   pub free_all : (n : ℕ) → length seats.places ≤ n → ((holder : ℕ) → holder < n → Blocks (bare seats) caller call holder → ⊥) → (holder : ℕ) → Blocks (bare seats) caller call holder → ⊥

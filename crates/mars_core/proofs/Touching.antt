@@ -1,6 +1,7 @@
 -- Masks of touched stripes.
 use Rattle.std.proofs.Common.{◌≡◌, ◌≢◌, ◌<◌, ◌⊎◌, ◌&&◌, ℕ, zero, suc, ◌-◌, ◌^◌, max, min, inl, inr, Bool, true, false, cond, not, ◌||◌, nat_eq, nat_lt, List, [], ◌∷◌, ◌++◌, bit_and, bit_or, refl, sym, ap, subst, ◌∙◌, arith, lt-ltb, le-ltb, eq-eqb, ne_eqb}
-use Rattle.std.specs.Prelude.{MatchBool, IsTrue, IsFalse}
+use Rattle.std.specs.Prelude.{MatchBool, IsTrue, IsFalse, length, unwrap_or}
+use Rattle.record_slots.specs.Names.{number_of}
 use Rattle.std.specs.Int.{bit_at}
 use Rattle.std.proofs.Math.Pow.{pow-lt}
 use Rattle.std.proofs.lemmas.Bool.{cases_eq, cases_lt}
@@ -10,7 +11,7 @@ use Rattle.history.specs.declared.locks.Mode.{Mode}
 use Rattle.history.specs.declared.locks.Mode.TheVariants.{Shared, Exclusive}
 use Rattle.history.specs.Key.{of_table}
 use Rattle.history.specs.declared.key.Key.{Key}
-use Rattle.history.specs.Locks.{Touch, key_stripe, touches, touched, is_touch, clash}
+use Rattle.history.specs.Locks.{Touch, key_stripe, stripe_of, touches, touched, is_touch, clash}
 use Rattle.history.specs.declared.call.Call.{Call}
 use Rattle.history.specs.declared.call.Call.TheVariants.{Get, Put, Del, Scan}
 use Rattle.history.specs.declared.call.Reply.{Reply}
@@ -46,6 +47,16 @@ module _ (names : List (List ℕ)) (name : List ℕ) where
 
   pub del_masks : (key : ℕ) → AreMasksOf (touches names (Del name key)) (record { reads = 0; writes = 2 ^ key_stripe names (of_table name key) })
   del_masks key = record { reads = bit_at-zero; writes = key_mask names (of_table name key) }
+
+  -- the same by the number of the table, or of one table more
+  pub get_at : (table key : ℕ) → unwrap_or (number_of names name) (length names) ≡ table → AreMasksOf (touches names (Get name key)) (record { reads = 2 ^ stripe_of table key; writes = 0 })
+  get_at table key is = subst (λ (n : ℕ). AreMasksOf (touches names (Get name key)) (record { reads = 2 ^ stripe_of n key; writes = 0 })) is (get_masks key)
+
+  pub put_at : (table key : ℕ) (value : List ℕ) → unwrap_or (number_of names name) (length names) ≡ table → AreMasksOf (touches names (Put name key value)) (record { reads = 0; writes = 2 ^ stripe_of table key })
+  put_at table key value is = subst (λ (n : ℕ). AreMasksOf (touches names (Put name key value)) (record { reads = 0; writes = 2 ^ stripe_of n key })) is (put_masks key value)
+
+  pub del_at : (table key : ℕ) → unwrap_or (number_of names name) (length names) ≡ table → AreMasksOf (touches names (Del name key)) (record { reads = 0; writes = 2 ^ stripe_of table key })
+  del_at table key is = subst (λ (n : ℕ). AreMasksOf (touches names (Del name key)) (record { reads = 0; writes = 2 ^ stripe_of n key })) is (del_masks key)
 
 either : (a b : Bool) → max (cond a 1 0) (cond b 1 0) ≡ cond (a || b) 1 0
 either true true = refl

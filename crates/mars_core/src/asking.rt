@@ -12,7 +12,6 @@ ghost use Rattle.mars_core.specs.Works.{Works, HasSaves, IsSaveRefusal, Unmade, 
 
 use crate::live::Live;
 use crate::locks::Locks;
-use crate::masks::Masks;
 use crate::replies::{found, removed};
 use crate::seats::Seats;
 use crate::table_call::TableCall;
@@ -134,14 +133,17 @@ pub fn answer<S: EawStore, K: KeyIndex, H: Keeper>(
         Ok(calls) => calls,
         Err(calls) => return (Live { calls, masks }, Reply::NoMemory),
     };
-    if let Some(holder) = seats.holder_if(locks, caller, call) {
-        let calls = calls.into_calls();
-        return (Live { calls, masks }, Reply::Busy { holder });
-    }
+    let touches = match seats.stripes_for(locks, caller, table, call) {
+        Ok(touches) => touches,
+        Err(holder) => {
+            let calls = calls.into_calls();
+            return (Live { calls, masks }, Reply::Busy { holder });
+        }
+    };
     match work(alloc, records, caller, table, asked) {
         Ok(reply) => match calls.push(call, &reply) {
             Ok(calls) => {
-                let masks = masks.merged(Masks::touched_by(seats.names(), call));
+                let masks = masks.merged(touches);
                 (Live { calls, masks }, reply)
             }
             Err(calls) => (Live { calls, masks }, Reply::NoMemory),

@@ -1,11 +1,10 @@
 // The stripes that calls touch, as the bits of numbers.
-ghost use Rattle.std.specs.Prelude.{◌≡◌, ◌^◌, ◌||◌, false, ℕ, MatchBool, IsTrue, IsFalse};
-ghost use Rattle.history.specs.Key.{of_table};
-ghost use Rattle.history.specs.Locks.{Touch, key_stripe, touches, clash};
+ghost use Rattle.std.specs.Prelude.{◌≡◌, ◌^◌, ◌||◌, false, ℕ, List, length, unwrap_or, MatchBool, IsTrue, IsFalse};
+ghost use Rattle.history.specs.Locks.{Touch, stripe_of, touches, clash};
 ghost use Rattle.mars_core.specs.Masks.{AreMasksOf};
+ghost use Rattle.mars_core.specs.TableCall.{number_for};
 
 use history::{Call, stripe_of};
-use record_slots::{Name, Names};
 
 /// A bit for each stripe that is touched for reading, and for each that is touched for writing.
 #[derive(Clone, Copy)]
@@ -24,23 +23,24 @@ impl Masks {
         }
     }
 
-    /// What a call touches, where the tables have these names. A scan touches all stripes.
-    pub fn touched_by(names: &Names, call: &Call) -> Masks
-        ensures { AreMasksOf (touches names.now call.now) result }
+    /// What a call touches that asks for the table with this number. A name that no table has counts as that of one table more. A scan
+    /// touches all stripes.
+    pub fn touched_by(table: u8, call: &Call) -> Masks
+        ensures { (names : List (List ℕ)) → unwrap_or (number_for names call.now) (length names) ≡ table → AreMasksOf (touches names call.now) result }
     {
         match call {
-            Call::Get { table, key } => Masks::reading(key_mask(names, table, *key)),
+            Call::Get { table: _, key } => Masks::reading(key_mask(table, *key)),
             Call::Scan {
                 table: _,
                 low: _,
                 high: _,
             } => Masks::reading(u64::MAX),
             Call::Put {
-                table,
+                table: _,
                 key,
                 value: _,
-            } => Masks::writing(key_mask(names, table, *key)),
-            Call::Del { table, key } => Masks::writing(key_mask(names, table, *key)),
+            } => Masks::writing(key_mask(table, *key)),
+            Call::Del { table: _, key } => Masks::writing(key_mask(table, *key)),
             Call::Begin => Masks::none(),
             Call::Save => Masks::none(),
             Call::Back { save: _ } => Masks::none(),
@@ -87,13 +87,9 @@ impl Masks {
     }
 }
 
-// The bit of a key's stripe. A name that no table has counts as that of one table more.
-fn key_mask(names: &Names, table: &Name, key: u64) -> u64
-    ensures { result ≡ 2 ^ key_stripe names.now (of_table table.now key) }
+// The bit of the stripe of a key of the table with this number.
+fn key_mask(table: u8, key: u64) -> u64
+    ensures { result ≡ 2 ^ stripe_of table key }
 {
-    let number = match names.number(table) {
-        Some(number) => number,
-        None => names.count(),
-    };
-    1 << stripe_of(number, key)
+    1 << stripe_of(table, key)
 }

@@ -8,6 +8,7 @@ ghost use Rattle.record_table.specs.Removing.{IsAbsent};
 ghost use Rattle.mars_core.specs.Purging.{IsReady, IsOfTable, IsOfFirst, Tries, Clears};
 ghost use Rattle.mars_core.specs.Seats.{calls_at};
 
+use crate::masks::Masks;
 use crate::seats::Seats;
 use eaw_face::EawStore;
 use history::Call;
@@ -38,7 +39,8 @@ fn try_key<S: EawStore, K: KeyIndex, H: Keeper>(
         (pages_of (S.view records.old.store) records.old) (pages_of (S.view records.new.store) records.new) result }
 {
     let call = Call::Del { table: *name, key };
-    match seats.holder(caller, &call) {
+    let number = seats.number_for(&call).unwrap_or(seats.names().count());
+    match seats.holder(caller, Masks::touched_by(number, &call)) {
         Some(_) => Ok(false),
         None => records.remove(caller, table, key),
     }

@@ -1,10 +1,11 @@
 // The callers, each with what it has, and the names of the tables that they ask for.
-ghost use Rattle.std.specs.Prelude.{◌≡◌, ◌+◌, ◌<◌, ◌≤◌, [], List, ℕ, Some, None, IfOk, IfSome, IfNone, is_some, length, slice_set};
+ghost use Rattle.std.specs.Prelude.{◌≡◌, ◌+◌, ◌<◌, ◌≤◌, [], List, ℕ, Some, None, IfOk, IfErr, IfSome, IfNone, OnOk, is_some, length, slice_set};
 ghost use Rattle.array_shape.specs.NumberSet.{members};
 ghost use Rattle.caller_steps.specs.Locked.{IsFree, IsBusyWith};
 ghost use Rattle.caller_steps.specs.Offers.{is_offered};
 ghost use Rattle.caller_steps.specs.State.{State, unoffered, offered, unsettled};
-ghost use Rattle.history.specs.Locks.{touched};
+ghost use Rattle.history.specs.Locks.{touched, touches};
+ghost use Rattle.history.specs.declared.call.Call.{Call};
 ghost use Rattle.mars_core.specs.Masks.{AreMasksOf};
 ghost use Rattle.mars_core.specs.declared.locks.Locks.TheVariants.{Held};
 ghost use Rattle.mars_core.specs.Seats.{live_of, live_in, offer_in, offers_in, offered_in, calls_at, calls_in, IsMasked, Seated, Given, IsOf, Ends, bare};
@@ -234,31 +235,37 @@ impl<H: Keeper> Seats<H> {
         }
     }
 
-    /// The lowest other caller whose live transaction has touched a stripe of the call, where one of the two touches is for writing.
-    pub fn holder(&self, caller: u8, call: &Call) -> Option<u8>
+    /// The lowest other caller whose live transaction has touched one of these stripes, where one of the two touches is for writing.
+    pub fn holder(&self, caller: u8, masks: Masks) -> Option<u8>
         requires { length self.now.places ≤ 64 }
-        ensures busy { IfSome result (IsBusyWith (bare self.now) caller call.now) }
-        ensures free { IfNone result (IsFree (bare self.now) caller call.now) }
+        ensures busy { (call : Call) → AreMasksOf (touches self.now.names call) masks → IfSome result (IsBusyWith (bare self.now) caller call) }
+        ensures free { (call : Call) → AreMasksOf (touches self.now.names call) masks → IfNone result (IsFree (bare self.now) caller call) }
     {
-        let masks = Masks::touched_by(&self.names, call);
         for other in 0..self.places.len() as u8 {
-            if other != caller && masks.clash(self.touched(other)) {
+            if other != caller && self.is_live(other) && masks.clash(self.touched(other)) {
                 return Some(other);
             }
         }
         None
     }
 
-    /// The same where it is not known that there is none.
-    pub fn holder_if(&self, locks: Locks, caller: u8, call: &Call) -> Option<u8>
+    /// The stripes that a call of the table with this number touches, or the caller that stands in its way. Where none is known to, none is
+    /// looked for.
+    pub fn stripes_for(&self, locks: Locks, caller: u8, table: u8, call: &Call) -> Result<Masks, u8>
         requires few { length self.now.places ≤ 64 }
+        requires table { number_for self.now.names call.now ≡ Some table }
         requires locked { locks ≡ Held → IsFree (bare self.now) caller call.now }
-        ensures busy { IfSome result (IsBusyWith (bare self.now) caller call.now) }
-        ensures free { IfNone result (IsFree (bare self.now) caller call.now) }
+        ensures touches { IfOk result (AreMasksOf (touches self.now.names call.now)) }
+        ensures free { OnOk result (IsFree (bare self.now) caller call.now) }
+        ensures busy { IfErr result (IsBusyWith (bare self.now) caller call.now) }
     {
+        let masks = Masks::touched_by(table, call);
         match locks {
-            Locks::Asked => self.holder(caller, call),
-            Locks::Held => None,
+            Locks::Asked => match self.holder(caller, masks) {
+                Some(holder) => Err(holder),
+                None => Ok(masks),
+            },
+            Locks::Held => Ok(masks),
         }
     }
 }

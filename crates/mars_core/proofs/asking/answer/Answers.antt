@@ -17,13 +17,16 @@ work-requires g c = record {
   saves = subst (λ (n : ℕ). HasSaves n (call_of c.args.asked)) c.saves.ensures.count (subst (λ (k : Call). HasSaves c.saves.result k) (sym c.requires.said) c.in_default.ensures.has);
 }
 
-pub holder_if-requires-clause-locked : goal.holder_if-requires-clause-locked
-holder_if-requires-clause-locked g c held = c.requires.locked held (has_asked c.args.seats.now.names c.args.call.now c.in-Some-number_for.table (sym c.in-Some-number_for.ensures.number))
+pub stripes_for-requires-clause-table : goal.stripes_for-requires-clause-table
+stripes_for-requires-clause-table g c = sym c.in-Some-number_for.ensures.number
+
+pub stripes_for-requires-clause-locked : goal.stripes_for-requires-clause-locked
+stripes_for-requires-clause-locked g c held = c.requires.locked held (has_asked c.args.seats.now.names c.args.call.now c.in-Some-number_for.table (sym c.in-Some-number_for.ensures.number))
 
 -- the calls are those of the transaction and this one, and so are the masks
 pub returns-in-Ok-push-clause-masked : goal.returns-in-Ok-push-clause-masked
 returns-in-Ok-push-clause-masked g c =
     let names = c.args.seats.now.names in
     let was = subst (λ (calls : Granted). AreMasksOf (touched c.args.seats.now.names calls) c.args.live.masks) (sym c.in-Ok.ensures.ok) c.requires.masked in
-    let these = subst (λ (ns : List (List ℕ)). AreMasksOf (touches ns c.args.call.now) c.touched_by.result) c.names.ensures c.touched_by.ensures in
+    let these = c.in-Ok-stripes_for.ensures.touches in
     rw c.in-Ok-push.ensures.ok (masks-push names c.in-Ok.calls c.merged-masks.result c.args.call.now c.in-Ok-work.reply (c.merged-masks.ensures (touched names c.in-Ok.calls) (touches names c.args.call.now) was these))

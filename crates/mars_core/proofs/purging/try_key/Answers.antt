@@ -1,7 +1,8 @@
 use Rattle.std.proofs.Common.{◌<◌, ap, subst, sym, ◌∙◌, List, ℕ, arith}
-use Rattle.std.specs.Prelude.{slice_get, length}
+use Rattle.std.specs.Prelude.{slice_get, length, unwrap_or}
 use Rattle.history.specs.Key.{of_table}
 use Rattle.history.specs.declared.key.Key.{Key}
+use Rattle.history.specs.declared.call.Call.TheVariants.{Del}
 use Rattle.page_store.specs.Shown.{pages_of}
 use Rattle.record_table.specs.Removing.{IsAbsent, IsUnwritten}
 use Rattle.mars_core.proofs.Clearing.{all_unwritten, busy_tries, removed_tries, called_key}
@@ -27,7 +28,7 @@ remove-requires-clause-unwritten g c = λ told alive.
     let key = of_table c.args.name.now c.args.key in
     let called = ap (λ (ns : List (List ℕ)). slice_get ns c.args.table) (c.requires.ready told).named ∙ c.requires.named in
     subst (λ (k : Key). IsUnwritten g.K.KeyIndex.index (pages_of (g.S.EawStore.view c.args.records.now.store) c.args.records.now) k) (sym (called_key (V old.store).state.bytes c.args.table key called))
-    (all_unwritten g.S.EawStore.tells (g.S.EawStore.opens (V old.store).shape) g.K.KeyIndex.index c.args.seats.now c.args.caller c.args.table key (omega arith) c.requires.named (pages_of (V old.store) old) c.requires.alive c.requires.unheld c.requires.ready c.requires.idle c.in-None.ensures.free told)
+    (all_unwritten g.S.EawStore.tells (g.S.EawStore.opens (V old.store).shape) g.K.KeyIndex.index c.args.seats.now c.args.caller c.args.table key (omega arith) c.requires.named (pages_of (V old.store) old) c.requires.alive c.requires.unheld c.requires.ready c.requires.idle (c.in-None.ensures.free (Del c.args.name.now c.args.key) (c.touched_by.ensures c.args.seats.now.names (sym (c.unwrap_or-number.ensures ∙ (λ i. unwrap_or (c.number_for.ensures.number i) ((c.count.ensures.count ∙ ap length c.names.ensures) i)))))) told)
 
 pub returns-in-None : goal.returns-in-None
 returns-in-None g c =
@@ -36,7 +37,8 @@ returns-in-None g c =
     let new = c.remove.new.self in
     let key = of_table c.args.name.now c.args.key in
     record {
-      tries = removed_tries g.S.EawStore.tells (g.S.EawStore.opens (V old.store).shape) g.K.KeyIndex.index c.args.seats.now c.args.caller c.args.table key (omega arith) c.requires.named (pages_of (V old.store) old) c.requires.alive c.requires.unheld c.requires.ready c.requires.idle c.in-None.ensures.free
+      tries = removed_tries g.S.EawStore.tells (g.S.EawStore.opens (V old.store).shape) g.K.KeyIndex.index c.args.seats.now c.args.caller c.args.table key (omega arith) c.requires.named (pages_of (V old.store) old) c.requires.alive c.requires.unheld c.requires.ready c.requires.idle
+          (c.in-None.ensures.free (Del c.args.name.now c.args.key) (c.touched_by.ensures c.args.seats.now.names (sym (c.unwrap_or-number.ensures ∙ (λ i. unwrap_or (c.number_for.ensures.number i) ((c.count.ensures.count ∙ ap length c.names.ensures) i))))))
           (g.met.S.EawStore.shaped old.store).some_entries (pages_of (V new.store) new) c.remove.result c.remove.ensures.removes;
     }
 
@@ -47,5 +49,6 @@ returns-in-Some g c =
     let key = of_table c.args.name.now c.args.key in
     record {
       tries = busy_tries g.S.EawStore.tells (g.S.EawStore.opens (V old.store).shape) g.K.KeyIndex.index c.args.seats.now c.args.caller c.args.table key (omega arith) c.requires.named (pages_of (V old.store) old) c.requires.alive c.requires.unheld c.requires.ready
-          c.in-Some.field-0 c.in-Some.ensures.busy;
+          c.in-Some.field-0
+          (c.in-Some.ensures.busy (Del c.args.name.now c.args.key) (c.touched_by.ensures c.args.seats.now.names (sym (c.unwrap_or-number.ensures ∙ (λ i. unwrap_or (c.number_for.ensures.number i) ((c.count.ensures.count ∙ ap length c.names.ensures) i))))));
     }

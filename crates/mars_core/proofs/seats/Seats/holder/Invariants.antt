@@ -1,8 +1,12 @@
 use Rattle.std.proofs.Common.{ℕ, ◌<◌}
+use Rattle.history.specs.Locks.{touches}
+use Rattle.history.specs.declared.call.Call.{Call}
 use Rattle.caller_steps.specs.Locked.{Blocks}
+use Rattle.mars_core.specs.Masks.{AreMasksOf}
 use Rattle.mars_core.specs.Seats.{bare}
 use Rattle.mars_core.proofs.seats.Seats.holder.Given as goal
 
--- no caller before this one holds a stripe of the call
+-- no caller before this one holds a stripe of a call that touches these
 abbrev pub invariant-loop-other : goal.invariant-loop-other
-invariant-loop-other g l = (holder : ℕ) → holder < l.other → Blocks (bare l.fn.self) l.fn.caller l.fn.call holder → ⊥
+invariant-loop-other g l = (call : Call) → AreMasksOf (touches l.fn.self.names call) l.fn.masks
+    → (holder : ℕ) → holder < l.other → Blocks (bare l.fn.self) l.fn.caller call holder → ⊥
