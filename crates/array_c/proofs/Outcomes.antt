@@ -1,5 +1,5 @@
 -- What became of an opening, and how it is told.
-use Rattle.std.proofs.Common.{◌≡◌, ℕ, ◌⊎◌, inl, inr, List, refl, sym, subst, Option, Some, None, ℤ, to_z, of_z, w32}
+use Rattle.std.proofs.Common.{◌≡◌, ℕ, inl, inr, List, refl, sym, subst, Option, Some, None, ℤ, to_z, of_z, w32}
 use Rattle.std.specs.Prelude.{pos}
 use Rattle.eaw_device.specs.declared.fault.AttachFault.{AttachFault}
 use Rattle.eaw_device.specs.declared.fault.AttachFault.TheVariants.{NotMars, BadShape, BadRow, Media, NoMemory}

@@ -1,5 +1,5 @@
 -- What a command from C does to an array, open or closed.
-use Rattle.std.specs.Prelude.{ℕ, ℤ, ◌≡◌, ◌≢◌, ◌⊎◌, true, Option, Some, None, Result, IfErr}
+use Rattle.std.specs.Prelude.{ℤ, ◌≡◌, ◌≢◌, ◌⊎◌, true, Option, Some, None, Result, IfErr}
 use Rattle.eaw_face.specs.Command.{Command}
 use Rattle.eaw_face.specs.Does.{Does}
 use Rattle.eaw_face.specs.declared.fault.EawFault.{EawFault}

@@ -1,7 +1,7 @@
 -- What C is told of the tape of an open array.
 use Rattle.std.specs.Prelude.{ℕ, ℤ, pos, ◌≡◌, ◌≤◌, false, List, drop, length, Option, Some, None}
 use Rattle.tape_media.specs.Steps.{Step, writes, barrier, with_first_done, DeviceMayLeave}
-use Rattle.tape_media.specs.Tape.{Tape, next_of, done_moment}
+use Rattle.tape_media.specs.Tape.{Tape, done_moment}
 use Rattle.taped_store.specs.Same.{ShowsSame}
 use Rattle.eaw_device.specs.Opens.{Opens}
 use Rattle.array_c.specs.declared.open_array.OpenArray.{OpenArray}
