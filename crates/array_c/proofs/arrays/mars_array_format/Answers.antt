@@ -1,0 +1,5 @@
+use Rattle.std.proofs.Common.{inl, refl}
+use Rattle.array_c.proofs.arrays.mars_array_format.Goals as goal
+
+pub returns-in-Ok-make_zero : goal.returns-in-Ok-make_zero
+returns-in-Ok-make_zero c = inl (refl, (c.in-Ok.shape, c.in-Ok.ensures.shape, c.in-Ok-make_zero.ensures.made))

@@ -1,0 +1,9 @@
+pub mod Held
+pub mod Status
+pub mod Shown
+pub mod Refusals
+pub mod Asks
+pub mod Told
+pub mod Tells
+pub mod Opens
+pub mod Formats

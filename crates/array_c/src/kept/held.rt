@@ -1,0 +1,51 @@
+// A `Box<OpenArray>` as a pointer that C keeps, or none: a type that names no type with memory of its own.
+ghost use Rattle.std.specs.Prelude.{◌≡◌, Option, Some, None, IsSome};
+ghost use Rattle.array_c.specs.declared.open_array.OpenArray.{OpenArray as Inside};
+ghost use Rattle.array_c.specs.Held.{held_coded, held_owns};
+
+use super::parts::Parts;
+use crate::open_array::OpenArray;
+use std::alloc::Global;
+use std::marker::Model;
+
+#[repr(C)]
+#[derive(Drop)]
+pub struct Held {
+    at: *mut u8,
+    alloc: Global,
+    pub ghost array: { Option Inside } by { held_coded },
+}
+
+impl Model for Held {
+    ghost also_owns = { λ h. held_owns h.alloc h.at h.array };
+}
+
+impl Held {
+    /// Nothing is held, whatever the pointer.
+    pub fn nothing(at: *mut u8, alloc: Global) -> Held
+        ensures { result.array ≡ None }
+    {
+        Held { at, alloc }
+    }
+
+    pub fn of_parts(parts: Parts<OpenArray, Global>) -> Held
+        ensures { result.array ≡ Some parts.value }
+    {
+        let Parts { ptr, alloc } = parts;
+        Held {
+            at: ptr.cast::<u8>(),
+            alloc,
+        }
+    }
+
+    pub fn into_parts(self) -> Parts<OpenArray, Global>
+        requires { IsSome self.array }
+        ensures { self.array ≡ Some result.value }
+    {
+        let Held { at, alloc } = self;
+        Parts {
+            ptr: at.cast::<OpenArray>(),
+            alloc,
+        }
+    }
+}

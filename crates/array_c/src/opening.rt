@@ -1,0 +1,68 @@
+// Arrays in memory: how they are made, and how they are opened.
+ghost use Rattle.std.specs.Prelude.{◌≡◌, ◌≢◌, pos, IfOk, IfErr, OnOk, OnErr};
+ghost use Rattle.pcm_media.specs.Replay.{at_rest};
+ghost use Rattle.eaw_device.specs.Made.{IsMade};
+ghost use Rattle.array_c.specs.Formats.{zeros};
+ghost use Rattle.array_c.specs.Opens.{IsOpened, IsUnopened};
+
+use crate::open_array::{OpenArray, TapedArray};
+use crate::status::{BAD_DEPTH, BAD_SHAPE, MEDIA, NO_MEMORY, opening_status};
+use array_shape::Shape;
+use eaw_device::{FormatFault, PageSource, make};
+use std::alloc::Global;
+use tape_media::TapeMedia;
+
+// The most commits that may wait for their write-back.
+const DEPTH_MAX: u8 = 64;
+
+// Pages of zeros.
+struct ZeroPages;
+
+impl PageSource for ZeroPages {
+    ghost use Rattle.array_c.specs.Formats.{zeros};
+
+    ghost pages = { λ _. zeros };
+
+    fn page(&self, _page: u64, out: &mut [u8; 512]) {
+        *out = [0; 512];
+    }
+}
+
+/// Makes an array of this shape in these bytes, whatever was there. Its data is zero.
+pub fn make_zero(alloc: Global, bytes: &mut [u8], shape: &Shape) -> Result<(), i32>
+    ensures made { OnOk result (IsMade shape.now zeros (at_rest bytes.new)) }
+    ensures same { OnErr result (bytes.new ≡ bytes.old) }
+    ensures refused { IfErr result (λ status. status ≢ pos 0) }
+{
+    let Ok(mut media) = TapeMedia::new(alloc, bytes) else {
+        return Err(NO_MEMORY);
+    };
+    match make(&mut media, shape, &ZeroPages) {
+        Ok(()) => {}
+        Err(FormatFault::BadShape(_)) => return Err(BAD_SHAPE),
+        Err(FormatFault::Media) => return Err(MEDIA),
+    }
+    bytes.copy_from_slice(media.bytes());
+    Ok(())
+}
+
+/// Opens the array in a copy of these bytes, on which so many commits may wait for their write-back, and recovers what a loss of power left.
+pub fn open_bytes(alloc: Global, bytes: &[u8], depth: u8) -> Result<Box<OpenArray>, i32>
+    ensures opened { IfOk result (λ array. IsOpened depth bytes.now array.value) }
+    ensures cause { IfErr result (IsUnopened depth bytes.now) }
+{
+    if depth > DEPTH_MAX {
+        return Err(BAD_DEPTH);
+    }
+    let Ok(media) = TapeMedia::new(alloc, bytes) else {
+        return Err(NO_MEMORY);
+    };
+    let store = match TapedArray::attach_late(alloc, media, depth) {
+        Ok(store) => store,
+        Err((fault, _)) => return Err(opening_status(&fault)),
+    };
+    match Box::new(alloc, OpenArray { store }) {
+        Ok(array) => Ok(array),
+        Err(_) => Err(NO_MEMORY),
+    }
+}

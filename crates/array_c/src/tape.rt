@@ -1,0 +1,99 @@
+// What C calls to take the tape of an open array down. `mars_array.h` says what it owes.
+ghost use Rattle.std.specs.Prelude.{◌≡◌, pos, true, None};
+ghost use Rattle.tape_media.specs.Tape.{next_of};
+ghost use Rattle.array_c.specs.Shown.{tape_of, store_in};
+ghost use Rattle.array_c.specs.Status.{is_closed};
+ghost use Rattle.array_c.specs.Told.{IsPutOut};
+ghost use Rattle.array_c.specs.Asks.{Looks, Changes};
+ghost use Rattle.array_c.specs.Tells.{IsPiece, IsWrite, IsDone, IsDoneUpTo, GoesOn};
+
+use crate::kept::Kept;
+use crate::status::{IS_CLOSED, NOTHING, OK};
+use std::alloc::Global;
+
+/// What is to be done next on the device: nothing (0), a write of `len` bytes at the place `at` (1), or a barrier (2).
+#[unsafe(no_mangle)]
+pub extern "C" fn mars_array_piece(alloc: Global, a: &mut Kept, at: &mut u64, len: &mut u64) -> i32
+    ensures { Looks (λ array. IsPiece (next_of (tape_of array)) result at.old at.new len.old len.new)
+        (IsPiece None result at.old at.new len.old len.new) a.old.held.array a.new.held.array }
+{
+    let Some(array) = a.take(alloc) else {
+        return NOTHING;
+    };
+    let kind = array.piece(at, len);
+    a.put(array);
+    kind
+}
+
+/// The bytes of the next write from `skip` on: as many as there is room for, and how many there are.
+#[unsafe(no_mangle)]
+pub extern "C" fn mars_array_piece_bytes(
+    alloc: Global,
+    a: &mut Kept,
+    skip: u64,
+    room: &mut [u8],
+    len: &mut u64,
+) -> i32
+    ensures { Looks (λ array. IsWrite (next_of (tape_of array)) skip result room.old room.new len.old len.new)
+        ((result ≡ is_closed) × IsPutOut None room.old room.new len.old len.new) a.old.held.array a.new.held.array }
+{
+    let Some(array) = a.take(alloc) else {
+        return IS_CLOSED;
+    };
+    let status = array.piece_bytes(skip, room, len);
+    a.put(array);
+    status
+}
+
+/// The next piece was done on the device. It is forgotten.
+#[unsafe(no_mangle)]
+pub extern "C" fn mars_array_piece_done(alloc: Global, a: &mut Kept) -> i32
+    ensures { Changes (λ old new. IsDone (next_of (tape_of old)) old new result) (result ≡ is_closed) a.old.held.array a.new.held.array }
+{
+    let Some(mut array) = a.take(alloc) else {
+        return IS_CLOSED;
+    };
+    let status = array.piece_done();
+    a.put(array);
+    status
+}
+
+/// The next piece failed on the device. From now on each call that writes fails, and no piece is given out.
+#[unsafe(no_mangle)]
+pub extern "C" fn mars_array_piece_failed(alloc: Global, a: &mut Kept) -> i32
+    ensures { Changes (λ old new. (result ≡ pos 0) × GoesOn (record (tape_of old) { has_failed = true }) old new) (result ≡ is_closed)
+        a.old.held.array a.new.held.array }
+{
+    let Some(mut array) = a.take(alloc) else {
+        return IS_CLOSED;
+    };
+    array.piece_failed();
+    a.put(array);
+    OK
+}
+
+/// The moment of the last call.
+#[unsafe(no_mangle)]
+pub extern "C" fn mars_array_moment(alloc: Global, a: &mut Kept) -> u64
+    ensures { Looks (λ array. result ≡ (store_in array).moment) (result ≡ 0) a.old.held.array a.new.held.array }
+{
+    let Some(array) = a.take(alloc) else {
+        return 0;
+    };
+    let moment = array.moment();
+    a.put(array);
+    moment
+}
+
+/// The moment up to which the pieces of all calls were done.
+#[unsafe(no_mangle)]
+pub extern "C" fn mars_array_done_up_to(alloc: Global, a: &mut Kept) -> u64
+    ensures { Looks (IsDoneUpTo result) (result ≡ 0) a.old.held.array a.new.held.array }
+{
+    let Some(array) = a.take(alloc) else {
+        return 0;
+    };
+    let moment = array.done_up_to();
+    a.put(array);
+    moment
+}
