@@ -386,6 +386,7 @@ impl<M: Media, D: Depth> EawStore for Eaw<M, D> {
         }
     }
 
+    #[inline(always)]
     fn read(&mut self, addr: u64, buf: &mut [u8]) -> Result<(), EawFault> {
         if self.is_dead {
             return Err(EawFault::Dead);

@@ -75,7 +75,8 @@ impl DeferredParts {
         self.lay_queue(media, queue, mask, part.addr, buf)
     }
 
-    // Lays the parts of a queue over bytes of a page that has this mask.
+    // Lays the parts of a queue over bytes of a page that has this mask. It stands apart, so that a read that meets none stays short.
+    #[inline(never)]
     fn lay_queue<M: Media>(
         &self,
         media: &mut M,
