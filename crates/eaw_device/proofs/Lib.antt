@@ -8,6 +8,7 @@ pub mod OpeningLemmas
 pub mod Dealt
 pub mod Entries
 pub mod Costing
+pub mod Counted
 pub mod Keeping
 pub mod LogParts
 pub mod Alone

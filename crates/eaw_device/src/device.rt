@@ -122,10 +122,12 @@ impl<M: Media, D: Depth> Eaw<M, D> {
         self.late.len() as u8
     }
 
-    /// The medium. What live numbers have logged is given up. If no commit may wait, no row is voted.
+    /// The medium. What live numbers have logged is given up. If no commit may wait, no row is voted; else those that wait still do.
     pub fn into_media(self) -> M
         ensures behind { IsBehind M.tells (nat_lt 0 D.most) (view_of (M.view self.media) self.shape self.logs.items self.late self.is_dead) (M.view result) }
         ensures quiet { self.late.queue.depth ≡ 0 → IsTrue M.tells → self.is_dead ≡ false → HasNoVote self.shape (M.view result).content.bytes }
+        ensures most { deferred_of self.late ≤ D.most }
+        ensures counted { IsTrue M.tells → self.is_dead ≡ false → length (deferred_orders self.shape (M.view result).content.bytes) ≡ deferred_of self.late }
     {
         let Eaw {
             media,

@@ -45,7 +45,7 @@ use Rattle.mars_shell.specs.Formats.{IsFormatted, FormatOutcome}
 use Rattle.array_runs.specs.Forms.{index_of_form, index_in}
 use Rattle.reader_work.specs.Readership.{passes_for}
 use Rattle.mars_shell.specs.Joint.{JointWork}
-use Rattle.mars_shell.specs.Late.{is_late}
+use Rattle.mars_shell.specs.Late.{depth_of}
 use Rattle.mars_shell.specs.Next.{AllSound, IsOfRecords, LeavesFresh}
 use Rattle.array_runs.specs.Outcome.{Idle, OutcomeOf}
 use Rattle.array_runs.specs.Records.{HoldsRecords, IsDamaged, Exceeds, OverRecords}
@@ -170,8 +170,8 @@ module _ (tells : Bool) (told : IsTrue tells) (old new : View) (counts_now : (t 
         (idle.keeps shape (all_open old shape form sound) image (counts_now old.moment image told (idle.later shape (all_open old shape form sound)) left))
 
     -- and so are those on which callers took turns
-    turns_sound : (late : Bool) (Says : Limits → List Turn → State → Type 0) (ended : Ended) → TakesTurns late Says old ended new → AllSound shape form new.content
-    turns_sound late Says ended taken image left =
+    turns_sound : (depth : ℕ) (Says : Limits → List Turn → State → Type 0) (ended : Ended) → TakesTurns depth Says old ended new → AllSound shape form new.content
+    turns_sound depth Says ended taken image left =
         let same : taken.shape ≡ shape = one_shape (header_of old.content.bytes) taken.shape shape taken.holds.array.header opened.header in
         let now = (taken.prefix_law.now image left).opens in (
           now.bytes,
@@ -230,15 +230,15 @@ module _ (tells : Bool) (told : IsTrue tells) (old new : View) (counts_now : (t 
         let bytes = settled_data dumps.shape old.content.bytes in
         (bytes, subst (λ (s : Shape). Opens s image bytes) same (dumps.finishes.now image left), subst (λ (i : Index). i.sound bytes) (ap (λ (s : Shape). index_in s old) same ∙ own_index old shape form sound) dumps.works.holds.sound)
 
-    run_sound : (frames late : Bool) (input : List ℕ) (cut : Bool) (text : List ℕ) (ended : Ended) → RunsAs frames late input cut text old ended new → AllSound shape form new.content
-    run_sound true late input cut text ended framed = turns_sound late _ ended framed.taken
-    run_sound false late input cut text ended taken = turns_sound late (Answers input ended cut text) ended taken
+    run_sound : (frames : Bool) (depth : ℕ) (input : List ℕ) (cut : Bool) (text : List ℕ) (ended : Ended) → RunsAs frames depth input cut text old ended new → AllSound shape form new.content
+    run_sound true depth input cut text ended framed = turns_sound depth _ ended framed.taken
+    run_sound false depth input cut text ended taken = turns_sound depth (Answers input ended cut text) ended taken
 
     pub next_sound : (asked : Words) (status : Status) (input : List ℕ) (cut : Bool) (text : List ℕ) → IsOfRecords asked → OutcomeFor asked old status new input cut text → AllSound shape form new.content
-    next_sound (Run given) status input cut text of outcome = records_sound false 0 (λ ended. RunsAs given.frames (is_late given.writing) input cut text old ended new) status cut text (λ ended taken. run_sound given.frames (is_late given.writing) input cut text ended taken) outcome
-    next_sound (Callers numbers) status input cut text of outcome = records_sound false (passes_for numbers.callers numbers.readers) (λ ended. TakesTurns (is_late numbers.writing) (JointWork numbers.callers numbers.readers numbers.tries input ended cut text) old ended new) status cut text (λ ended taken. turns_sound (is_late numbers.writing) (JointWork numbers.callers numbers.readers numbers.tries input ended cut text) ended taken) outcome
+    next_sound (Run given) status input cut text of outcome = records_sound false 0 (λ ended. RunsAs given.frames (depth_of given.writing) input cut text old ended new) status cut text (λ ended taken. run_sound given.frames (depth_of given.writing) input cut text ended taken) outcome
+    next_sound (Callers numbers) status input cut text of outcome = records_sound false (passes_for numbers.callers numbers.readers) (λ ended. TakesTurns (depth_of numbers.writing) (JointWork numbers.callers numbers.readers numbers.tries input ended cut text) old ended new) status cut text (λ ended taken. turns_sound (depth_of numbers.writing) (JointWork numbers.callers numbers.readers numbers.tries input ended cut text) ended taken) outcome
     next_sound Dump status input cut text of outcome = records_sound true 0 (DumpsRecords old new cut text) status cut text (dumped_sound cut text) outcome
-    next_sound (Drill numbers) status input cut text of outcome = records_sound false 0 (λ ended. TakesTurns (is_late numbers.writing) (Drills numbers ended cut text) old ended new) status cut text (λ ended taken. turns_sound (is_late numbers.writing) (Drills numbers ended cut text) ended taken) outcome
+    next_sound (Drill numbers) status input cut text of outcome = records_sound false 0 (λ ended. TakesTurns (depth_of numbers.writing) (Drills numbers ended cut text) old ended new) status cut text (λ ended taken. turns_sound (depth_of numbers.writing) (Drills numbers ended cut text) ended taken) outcome
     next_sound (Make name) status input cut text of outcome = made_sound name status cut text outcome
     next_sound Purge status input cut text of outcome = records_sound false 0 (PurgedBy old new cut text) status cut text (purged_by_sound cut text) outcome
     next_sound (Eaw given) status input cut text of outcome = absurd of

@@ -44,7 +44,7 @@ use Rattle.mars_shell.specs.Drill.{Drills}
 use Rattle.mars_shell.specs.Formats.{HasAsked, IsFormatted, FormatOutcome}
 use Rattle.mars_shell.specs.FramedRun.{RunsAs}
 use Rattle.mars_shell.specs.Joint.{JointWork}
-use Rattle.mars_shell.specs.Late.{is_late}
+use Rattle.mars_shell.specs.Late.{depth_of}
 use Rattle.mars_shell.specs.Next.{AllSound, IsOf, AllAreOf, IsOfPrefix, IsOfRecords, ChangesNone, MayName, records_on}
 use Rattle.mars_shell.specs.PrefixLaw.{PrefixLaw, Recovers}
 use Rattle.mars_shell.specs.Run.{TakesTurns, Answers}
@@ -265,27 +265,27 @@ module _ (old : View) (shape : Shape) (form : ℕ) (names : List (List ℕ)) (ta
       as_before : IsOf shape form names table image → HasSome
       as_before of = (names, refl, table, of)
 
-      turned : (late : Bool) (Says : Limits → List Turn → State → Type 0) (ended : Ended) → TakesTurns late Says old ended new → HasSome
-      turned late Says ended taken =
+      turned : (depth : ℕ) (Says : Limits → List Turn → State → Type 0) (ended : Ended) → TakesTurns depth Says old ended new → HasSome
+      turned depth Says ended taken =
           let seen : OpensLike shape old.content image ⊎ Recovers shape (index_in shape old) taken.final 0 image
           = in_shape (λ (s : Shape). OpensLike s old.content image ⊎ Recovers s (index_in s old) taken.final 0 image) taken.shape taken.holds.array.header (λ all. taken.prefix_law.since all image left) in
           let same = this_shape taken.shape taken.holds.array.header in
           ⊎_elim (λ opens. as_before (like image opens))
           (λ recovers. (taken.final.names, taken.names ∙ ap (λ (s : Shape). names_on s old) same ∙ reads.0, _, own_tables taken.final.names _ image recovers.opens)) seen
 
-      run_by : (frames late : Bool) (input : List ℕ) (cut : Bool) (text : List ℕ) (ended : Ended) → RunsAs frames late input cut text old ended new → HasSome
-      run_by true late input cut text ended framed = turned late _ ended framed.taken
-      run_by false late input cut text ended taken = turned late (Answers input ended cut text) ended taken
+      run_by : (frames : Bool) (depth : ℕ) (input : List ℕ) (cut : Bool) (text : List ℕ) (ended : Ended) → RunsAs frames depth input cut text old ended new → HasSome
+      run_by true depth input cut text ended framed = turned depth _ ended framed.taken
+      run_by false depth input cut text ended taken = turned depth (Answers input ended cut text) ended taken
 
       pub some : (asked : Words) (status : Status) (input : List ℕ) (cut : Bool) (text : List ℕ) → IsOfRecords asked → OutcomeFor asked old status new input cut text
           → (called : List (List ℕ)) × MayName asked names called × (records : Table) × IsOf shape form called records image
-      some (Run given) status input cut text of outcome = over HasSome as_before false 0 (λ ended. RunsAs given.frames (is_late given.writing) input cut text old ended new) status cut text
-          (λ ended taken. run_by given.frames (is_late given.writing) input cut text ended taken) outcome
+      some (Run given) status input cut text of outcome = over HasSome as_before false 0 (λ ended. RunsAs given.frames (depth_of given.writing) input cut text old ended new) status cut text
+          (λ ended taken. run_by given.frames (depth_of given.writing) input cut text ended taken) outcome
       some (Callers numbers) status input cut text of outcome = over HasSome as_before false (passes_for numbers.callers numbers.readers)
-          (λ ended. TakesTurns (is_late numbers.writing) (JointWork numbers.callers numbers.readers numbers.tries input ended cut text) old ended new) status cut text
-          (λ ended taken. turned (is_late numbers.writing) (JointWork numbers.callers numbers.readers numbers.tries input ended cut text) ended taken) outcome
-      some (Drill numbers) status input cut text of outcome = over HasSome as_before false 0 (λ ended. TakesTurns (is_late numbers.writing) (Drills numbers ended cut text) old ended new) status cut text
-          (λ ended taken. turned (is_late numbers.writing) (Drills numbers ended cut text) ended taken) outcome
+          (λ ended. TakesTurns (depth_of numbers.writing) (JointWork numbers.callers numbers.readers numbers.tries input ended cut text) old ended new) status cut text
+          (λ ended taken. turned (depth_of numbers.writing) (JointWork numbers.callers numbers.readers numbers.tries input ended cut text) ended taken) outcome
+      some (Drill numbers) status input cut text of outcome = over HasSome as_before false 0 (λ ended. TakesTurns (depth_of numbers.writing) (Drills numbers ended cut text) old ended new) status cut text
+          (λ ended taken. turned (depth_of numbers.writing) (Drills numbers ended cut text) ended taken) outcome
       some Dump status input cut text of outcome = let has = unchanged Dump status input cut text tt outcome in (has.0, has.1, table, has.2)
       some (Make name) status input cut text of outcome = let has = unchanged (Make name) status input cut text tt outcome in (has.0, has.1, table, has.2)
       some Purge status input cut text of outcome = let has = unchanged Purge status input cut text tt outcome in (has.0, has.1, table, has.2)

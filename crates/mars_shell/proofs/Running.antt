@@ -1,5 +1,5 @@
 -- A run over an array that was opened: its records were read, and its lines answered.
-use Rattle.std.proofs.Common.{◌≡◌, ◌⊎◌, ℕ, ◌≤◌, length, false, inl, inr, ⊎_elim, List, Bool, sym, ap, subst, ◌∙◌, arith}
+use Rattle.std.proofs.Common.{◌≡◌, ◌⊎◌, ℕ, ◌≤◌, length, false, nat_lt, inl, inr, ⊎_elim, List, Bool, sym, ap, subst, ◌∙◌, arith}
 use Rattle.std.specs.Prelude.{IsTrue}
 use Rattle.pcm_media.specs.Images.{MayLeave}
 use Rattle.pcm_media.specs.View.{View}
@@ -7,8 +7,9 @@ use Rattle.pcm_media.proofs.Left.{left_as_read}
 use Rattle.array_shape.specs.declared.shape.Shape.{Shape}
 use Rattle.array_image.specs.Decided.{settled_data}
 use Rattle.device_recovery.specs.Recovered.{HasNoVote}
+use Rattle.commit_queue.specs.Deferred.{deferred_orders}
 use Rattle.eaw_face.specs.StoreView.{StoreView}
-use Rattle.eaw_device.specs.Opens.{Opens, AllOpen, OpensLike, KeepsData, Attached, IsBehind}
+use Rattle.eaw_device.specs.Opens.{Opens, AllOpen, OpensLike, KeepsData, Attached}
 use Rattle.page_store.specs.Index.{Index}
 use Rattle.record_table.specs.Names.{names_of}
 use Rattle.record_table.specs.Shown.{table_of}
@@ -26,13 +27,14 @@ use Rattle.mars_shell.specs.PrefixLaw.{Recovers}
 use Rattle.mars_shell.specs.Served.{opens_of, Served}
 use Rattle.array_runs.proofs.Forming.{sound_says}
 use Rattle.array_runs.proofs.Opened.{at_entry, holds}
+use Rattle.mars_shell.proofs.Waiting.{IsHandedBack}
 
 module _ (tells : Bool) (told : IsTrue tells) (old : View) (only_now : (image : List ℕ) → IsTrue tells → old.left_since old.moment image → MayLeave old.content image)
     (store : StoreView) (attached : Attached tells old store) (keeps : KeepsData tells old store.moment store.left_since) where
-  module _ (defers : Bool) (later : StoreView) (new : View) (behind : IsBehind tells defers later new) where
+  module _ (depth : ℕ) (later : StoreView) (new : View) (handed : IsHandedBack tells depth later new) where
     module _ (counts_now : (t : ℕ) (image : List ℕ) → IsTrue tells → t ≤ new.moment → MayLeave new.content image → new.left_since t image) where
       left_now : (image : List ℕ) → MayLeave new.content image → later.left_since later.moment image
-      left_now image left = subst (λ (t : ℕ). later.left_since t image) behind.moment (behind.left new.moment image (counts_now new.moment image told (omega arith) left))
+      left_now image left = subst (λ (t : ℕ). later.left_since t image) handed.behind.moment (handed.behind.left new.moment image (counts_now new.moment image told (omega arith) left))
 
       module _ (Says : Limits → List Turn → State → Type 0) (ended : Ended) (served : Served Says Opens (index_at store.state.bytes) store ended later) where
         recovers : (least : ℕ) (image : List ℕ) → opens_of Opens store.shape (index_at store.state.bytes) served.final least image → Recovers store.shape (index_in store.shape old) served.final least image
@@ -47,7 +49,7 @@ module _ (tells : Bool) (told : IsTrue tells) (old : View) (only_now : (image : 
         as_opened all image (inr has) = inr (recovers 0 image has)
 
         bytes_now : later.is_dead ≡ false → settled_data store.shape new.content.bytes ≡ later.state.bytes
-        bytes_now alive = ap (λ (s : Shape). settled_data s new.content.bytes) (sym served.shape) ∙ behind.bytes told alive
+        bytes_now alive = ap (λ (s : Shape). settled_data s new.content.bytes) (sym served.shape) ∙ handed.behind.bytes told alive
 
         -- the data at the end names the index that it is sound under
         own_all : later.is_dead ≡ false → HasAll (index_at store.state.bytes) later.state.bytes served.final → HasAll (index_in store.shape new) (settled_data store.shape new.content.bytes) served.final
@@ -56,7 +58,7 @@ module _ (tells : Bool) (told : IsTrue tells) (old : View) (only_now : (image : 
             (subst (λ (i : Index). HasAll i later.state.bytes served.final) (sym (sound_says store.state.bytes later.state.bytes has.sound)) has)
 
         -- callers took turns
-        pub takes_turns : TakesTurns defers Says old ended new
+        pub takes_turns : TakesTurns depth Says old ended new
         takes_turns = record {
           shape = store.shape;
           holds = holds tells told old only_now store attached keeps served.sound;
@@ -70,9 +72,10 @@ module _ (tells : Bool) (told : IsTrue tells) (old : View) (only_now : (image : 
           prefix_law = record {
             now = λ image left. recovers (length served.final.history) image (served.now image (left_now image left));
             since = λ all image left. ⊎_elim (λ was. inl (at_entry tells told old only_now store attached keeps store.shape all image was)) (λ anew. as_opened all image anew)
-                (served.since.only old.moment image (keeps told store.shape all).later (behind.left old.moment image left));
+                (served.since.only old.moment image (keeps told store.shape all).later (handed.behind.left old.moment image left));
           };
-          quiet = λ unfailed at_once. subst (λ (s : Shape). HasNoVote s new.content.bytes) served.shape (behind.quiet told (served.left unfailed).0 at_once);
+          quiet = λ unfailed at_once. subst (λ (s : Shape). HasNoVote s new.content.bytes) served.shape (handed.behind.quiet told (served.left unfailed).0 (ap (nat_lt 0) at_once));
+          waiting = λ unfailed. subst (λ (s : Shape). length (deferred_orders s new.content.bytes) ≤ depth) served.shape (handed.waiting told (served.left unfailed).0);
           left = λ unfailed. let its = served.left unfailed in own_all its.0 its.1;
           unwritten = λ unfailed reads. bytes_now (served.left unfailed).0 ∙ served.unwritten unfailed reads ∙ ap upgraded (attached.bytes told);
         }

@@ -1,7 +1,8 @@
 -- How many commits may wait for their write-back, by what words ask for.
-use Rattle.std.proofs.Common.{◌≡◌, ℕ, zero, suc, ◌<◌, ◌≤◌, Bool, nat_lt, List, Option, Some, None, refl, ◌∙◌, ap, subst, arith}
-use Rattle.std.proofs.lemmas.Bool.{lt-ltb}
+use Rattle.std.proofs.Common.{◌≡◌, ℕ, zero, suc, ◌<◌, ◌≤◌, Bool, false, nat_lt, List, length, Option, Some, None, subst, arith}
+use Rattle.std.specs.Prelude.{IsTrue}
 use Rattle.pcm_media.specs.View.{View}
+use Rattle.commit_queue.specs.Deferred.{deferred_orders}
 use Rattle.eaw_face.specs.StoreView.{StoreView}
 use Rattle.eaw_device.specs.Depths.{IsOfDepth}
 use Rattle.eaw_device.specs.Opens.{IsBehind}
@@ -13,19 +14,24 @@ use Rattle.command_words.specs.declared.words.Writing.{Writing}
 use Rattle.command_words.specs.declared.words.Writing.TheVariants.{AtOnce, Late}
 use Rattle.command_words.specs.declared.words.Words.TheVariants.{Run, Callers, Drill}
 use Rattle.reader_work.specs.Readership.{passes_for}
-use Rattle.mars_shell.specs.Late.{depth_of, is_late, HasDepth}
+use Rattle.mars_shell.specs.Late.{depth_of, HasDepth}
 
-late_is : (writing : Writing) → HasDepth writing → nat_lt 0 (depth_of writing) ≡ is_late writing
-late_is AtOnce has = refl
-late_is (Late depth) has = lt-ltb 0 depth has.0
+-- The medium that a run gives back is behind the store, and no more commits wait on it than may.
+pub record IsHandedBack (tells : Bool) (depth : ℕ) (store : StoreView) (media : View) : Type 0 where
+  pub behind : IsBehind tells (nat_lt 0 depth) store media
+  pub waiting : IsTrue tells → store.is_dead ≡ false → length (deferred_orders store.shape media.content.bytes) ≤ depth
 
 -- where the type of a device says what the words ask for
 module _ (writing : Writing) (least most : ℕ) (is : (least ≡ depth_of writing) × (most ≡ depth_of writing)) where
   pub of_depth : (depth : ℕ) → depth ≤ 64 → depth ≡ depth_of writing → IsOfDepth least most depth
   of_depth depth few same = (omega (arith, is.0, same), omega (arith, is.1, same), few)
 
-  pub behind_late : HasDepth writing → (tells : Bool) (store : StoreView) (media : View) → IsBehind tells (nat_lt 0 most) store media → IsBehind tells (is_late writing) store media
-  behind_late has tells store media behind = subst (λ (late : Bool). IsBehind tells late store media) (ap (nat_lt 0) is.1 ∙ late_is writing has) behind
+  pub handed_back : (tells : Bool) (store : StoreView) (media : View) → IsBehind tells (nat_lt 0 most) store media → (waiting : ℕ) → waiting ≤ most
+      → (IsTrue tells → store.is_dead ≡ false → length (deferred_orders store.shape media.content.bytes) ≡ waiting) → IsHandedBack tells (depth_of writing) store media
+  handed_back tells store media behind waiting few counted = record {
+    behind = subst (λ (depth : ℕ). IsBehind tells (nat_lt 0 depth) store media) is.1 behind;
+    waiting = λ told alive. omega (arith, counted told alive, few, is.1);
+  }
 
 given_depth : (first : Option (List ℕ)) (writing : Writing) → GivesWriting first writing → HasDepth writing
 given_depth first AtOnce gives = tt

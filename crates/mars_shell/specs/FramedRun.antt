@@ -64,13 +64,13 @@ abbrev pub says_framed : Index → StoreView → List ℕ → Bool → List ℕ 
 says_framed index store input cut text ended = SaysFramed index store.shape store.state.bytes (begun_on index store.state.bytes) input ended cut text
 
 -- callers took turns over the array's records, and the text is their replies with the frames
-pub record TakesFramed (late : Bool) (input : List ℕ) (cut : Bool) (text : List ℕ) (old : View) (ended : Ended) (new : View) : Type 0 where
+pub record TakesFramed (depth : ℕ) (input : List ℕ) (cut : Bool) (text : List ℕ) (old : View) (ended : Ended) (new : View) : Type 0 where
   pub shape : Shape
   pub array : IsArray shape old
-  pub taken : TakesTurns late
+  pub taken : TakesTurns depth
       (SaysFramed (index_in shape old) shape (settled_data shape old.content.bytes) (begun_on (index_in shape old) (settled_data shape old.content.bytes)) input ended cut text) old ended new
 
 -- with frames or without
-abbrev pub RunsAs : (frames late : Bool) → List ℕ → Bool → List ℕ → View → Ended → View → Type 0
-RunsAs true late input cut text old ended new = TakesFramed late input cut text old ended new
-RunsAs false late input cut text old ended new = TakesTurns late (Answers input ended cut text) old ended new
+abbrev pub RunsAs : (frames : Bool) (depth : ℕ) → List ℕ → Bool → List ℕ → View → Ended → View → Type 0
+RunsAs true depth input cut text old ended new = TakesFramed depth input cut text old ended new
+RunsAs false depth input cut text old ended new = TakesTurns depth (Answers input ended cut text) old ended new

@@ -4,6 +4,7 @@ use Rattle.std.specs.List.{concat}
 use Rattle.pcm_media.specs.View.{View}
 use Rattle.array_shape.specs.declared.shape.Shape.{Shape}
 use Rattle.array_image.specs.Decided.{settled_data}
+use Rattle.commit_queue.specs.Deferred.{deferred_orders}
 use Rattle.device_recovery.specs.Recovered.{HasNoVote}
 use Rattle.record_table.specs.Names.{names_of}
 use Rattle.record_table.specs.Shown.{table_of}
@@ -28,9 +29,9 @@ use Rattle.mars_shell.specs.PrefixLaw.{PrefixLaw}
 -- Callers took turns over an array whose records are sound: there is a run of steps from the state that was opened to the last one. Says
 -- tells, of the limits of the array, the turns and the last state, what was written. The names are those of the array. The history, also with what is in doubt, is legal on
 -- the base and obeys the prefix law. Unless the medium failed, the data that the array settles to at the end has exactly the records of the
--- history, and if no turn asked to write or to remove a record, it is byte for byte what was opened, in version 2. Then also no row is
--- voted, except that on a late device commits may wait for their write-back.
-pub record TakesTurns (late : Bool) (Says : Limits → List Turn → State → Type 0) (old : View) (ended : Ended) (new : View) : Type 0 where
+-- history, and if no turn asked to write or to remove a record, it is byte for byte what was opened, in version 2. Then also at most `depth`
+-- commits wait for their write-back, of which the rows are voted. If it is 0, no row is.
+pub record TakesTurns (depth : ℕ) (Says : Limits → List Turn → State → Type 0) (old : View) (ended : Ended) (new : View) : Type 0 where
   pub shape : Shape
   pub holds : HoldsRecords shape old
   pub turns : List Turn
@@ -41,7 +42,8 @@ pub record TakesTurns (late : Bool) (Says : Limits → List Turn → State → T
   pub base : final.base ≡ table_of (index_in shape old) (settled_data shape old.content.bytes)
   pub legal : IsLegal final.base (final.history ++ final.doubt)
   pub prefix_law : PrefixLaw shape old final new
-  pub quiet : ended ≢ MediaFault → IsFalse late → HasNoVote shape new.content.bytes
+  pub quiet : ended ≢ MediaFault → depth ≡ 0 → HasNoVote shape new.content.bytes
+  pub waiting : ended ≢ MediaFault → length (deferred_orders shape new.content.bytes) ≤ depth
   pub left : ended ≢ MediaFault → HasAll (index_in shape new) (settled_data shape new.content.bytes) final
   pub unwritten : ended ≢ MediaFault → IsFalse (has_write turns) → settled_data shape new.content.bytes ≡ upgraded (settled_data shape old.content.bytes)
 

@@ -6,7 +6,7 @@ ghost use Rattle.array_runs.specs.Forms.{index_at};
 ghost use Rattle.array_runs.specs.Input.{InputSays};
 ghost use Rattle.array_runs.specs.Records.{OverRecords};
 ghost use Rattle.array_runs.specs.Statuses.{Counts, IsEarly, IsRefusal};
-ghost use Rattle.mars_shell.specs.Late.{depth_of, is_late, HasDepth};
+ghost use Rattle.mars_shell.specs.Late.{depth_of, HasDepth};
 ghost use Rattle.mars_shell.specs.Served.{Serves, ServedCounts};
 ghost use Rattle.mars_shell.specs.FramedRun.{TakesFramed, says_framed};
 
@@ -48,7 +48,7 @@ pub(crate) fn run_framed<S: Source, K: Sink, M: Media + Drop + Send, D: Depth + 
     ensures input { IsTrue S.tells → InputSays result.0 (S.left source.old) (S.left source.new) }
     ensures ran { Wrote K.tells (K.written sink.old) (K.written sink.new) (K.faults sink.old) (K.faults sink.new)
         (λ cut text. (input : List ℕ) × (IsTrue S.tells → S.left source.old ≡ input) × (IsTrue M.tells → OverRecords false 0
-        (λ ended. TakesFramed (is_late writing) input cut text (M.view media) ended (M.view result.1)) (M.view media) result.0 (M.view result.1) cut text)) }
+        (λ ended. TakesFramed (depth_of writing) input cut text (M.view media) ended (M.view result.1)) (M.view media) result.0 (M.view result.1) cut text)) }
 {
     let depth = depth_of(writing);
     let (room, input, store) = match open_for::<S, M, D>(alloc, true, 0, source, media, depth) {

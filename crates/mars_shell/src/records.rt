@@ -4,7 +4,7 @@ ghost use Rattle.eaw_face.specs.Causes.{IsAlive};
 ghost use Rattle.texts.specs.Written.{Wrote};
 ghost use Rattle.array_runs.specs.Forms.{index_at};
 ghost use Rattle.array_runs.specs.Input.{InputSays};
-ghost use Rattle.mars_shell.specs.Late.{depth_of, is_late, HasDepth};
+ghost use Rattle.mars_shell.specs.Late.{depth_of, HasDepth};
 ghost use Rattle.array_runs.specs.Records.{OverRecords};
 ghost use Rattle.mars_shell.specs.OnCore.{RanOut};
 ghost use Rattle.mars_shell.specs.Run.{TakesTurns};
@@ -53,7 +53,7 @@ pub fn over_records<
     ensures unread { IsFalse W.reads → source.new ≡ source.old }
     ensures ran { Wrote K.tells (K.written sink.old) (K.written sink.new) (K.faults sink.old) (K.faults sink.new)
         (λ cut text. (input : List ℕ) × (IsTrue W.reads → IsTrue S.tells → S.left source.old ≡ input) × (IsTrue M.tells → OverRecords false 0
-        (λ ended. TakesTurns (is_late writing) (W.does work.now input ended cut text) (M.view media) ended (M.view result.1))
+        (λ ended. TakesTurns (depth_of writing) (W.does work.now input ended cut text) (M.view media) ended (M.view result.1))
         (M.view media) result.0 (M.view result.1) cut text)) }
 {
     let depth = depth_of(writing);

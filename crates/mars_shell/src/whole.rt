@@ -25,7 +25,7 @@ use std::thread::Threads;
 /// caller's transactions are made by a worker of its own on a thread, which calls the gate between its calls. `eaw` does not read the
 /// records, nor does `follow`, which applies frames that lines say. `drill`, `dump`, `make`, `purge` and `format` read no input. Only
 /// `callers` may wait. In `run`, `callers` and `drill` commits may be answered before their data is written to its place, if the words say
-/// so.
+/// so, but no more of them wait for that than the words say.
 pub fn run<
     R: AllocGlobal + Threads + Wait + Sync,
     S: Source,

@@ -7,8 +7,8 @@ use Rattle.array_runs.proofs.Endings.{served_late, served_refused, served_usage,
 use Rattle.mars_shell.specs.FramedRun.{TakesFramed}
 use Rattle.mars_shell.proofs.Endings.{served}
 use Rattle.mars_shell.proofs.FramedOutcomes.{framed_outcome, framed_none}
-use Rattle.mars_shell.specs.Late.{is_late}
-use Rattle.mars_shell.proofs.Waiting.{behind_late, of_depth}
+use Rattle.mars_shell.specs.Late.{depth_of}
+use Rattle.mars_shell.proofs.Waiting.{handed_back, of_depth}
 use Rattle.mars_shell.proofs.framed_run.run_framed.Goals as goal
 
 pub open_for-requires : goal.open_for-requires
@@ -27,7 +27,7 @@ returns-in-Err-clause-ran g c =
       holds = (
         input,
         (λ _. refl),
-        λ told. framed_none (is_late c.args.writing) input old c.in-Err.ended.0 new false [] (c.in-Err.ensures.outcome told),
+        λ told. framed_none (depth_of c.args.writing) input old c.in-Err.ended.0 new false [] (c.in-Err.ensures.outcome told),
       );
     }
 
@@ -63,8 +63,8 @@ returns-clause-ran g c =
         input,
         c.in-Ok.ensures.read refl,
         λ told.
-            subst (λ (s : Status). OverRecords false 0 (λ ended. TakesFramed (is_late c.args.writing) input said.cut said.text old ended new) old s new said.cut said.text) (sym c.served_status.ensures)
-            (framed_outcome media.tells told old (met.only_now c.args.media) _ c.in-Ok.ensures.attached c.in-Ok.ensures.keeps (is_late c.args.writing) _ new (behind_late c.args.writing _ _ c.requires.of_type c.requires.depth _ _ _ c.into_media.ensures.behind) (met.counts_now c.into_media.result)
+            subst (λ (s : Status). OverRecords false 0 (λ ended. TakesFramed (depth_of c.args.writing) input said.cut said.text old ended new) old s new said.cut said.text) (sym c.served_status.ensures)
+            (framed_outcome media.tells told old (met.only_now c.args.media) _ c.in-Ok.ensures.attached c.in-Ok.ensures.keeps (depth_of c.args.writing) _ new (handed_back c.args.writing _ _ c.requires.of_type _ _ _ c.into_media.ensures.behind _ c.into_media.ensures.most c.into_media.ensures.counted) (met.counts_now c.into_media.result)
             input said.cut said.text c.serve_framed-served.result.0 (rw c.deref.ensures.value at (said.holds told))),
       );
     }

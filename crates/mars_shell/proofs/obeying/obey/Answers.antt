@@ -9,7 +9,7 @@ use Rattle.mars_shell.proofs.Endings.{format_late}
 use Rattle.mars_shell.proofs.FormatLemmas.{no_usage}
 use Rattle.reader_work.specs.Readership.{passes_for}
 use Rattle.mars_shell.specs.Joint.{JointWork}
-use Rattle.mars_shell.specs.Late.{is_late}
+use Rattle.mars_shell.specs.Late.{depth_of}
 use Rattle.mars_shell.specs.Run.{TakesTurns}
 use Rattle.mars_shell.specs.FramedRun.{RunsAs}
 use Rattle.array_runs.proofs.Completing.{nothing_read, complete_of, complete_records}
@@ -53,7 +53,7 @@ returns-in-Run-clause-complete g c =
     let said = c.run_lines.ensures in
     let ran = said.ran in
     rw c.in-Run.is (λ fit no_source no_sink no_media.
-    complete_records false 0 (λ ended. RunsAs options.frames (is_late options.writing) ran.holds.0 ran.cut ran.text old ended new) old c.run_lines.result.0 new ran.cut ran.text given _ _ _ _ _ _ _ fit.0.1 fit.2.0 fit.2.1 (omega arith) no_source no_sink no_media said.counts (said.input fit.0.0) (ran.holds.2 fit.1))
+    complete_records false 0 (λ ended. RunsAs options.frames (depth_of options.writing) ran.holds.0 ran.cut ran.text old ended new) old c.run_lines.result.0 new ran.cut ran.text given _ _ _ _ _ _ _ fit.0.1 fit.2.0 fit.2.1 (omega arith) no_source no_sink no_media said.counts (said.input fit.0.0) (ran.holds.2 fit.1))
 
 pub returns-in-Callers-clause-early : goal.returns-in-Callers-clause-early
 returns-in-Callers-clause-early g c = λ either. c.run_callers.ensures.early (is_early c.run_callers.result.0 either)
@@ -88,7 +88,7 @@ returns-in-Callers-clause-complete g c =
     let said = c.run_callers.ensures in
     let ran = said.ran in
     rw c.in-Callers.is (λ fit no_source no_sink no_media.
-    complete_records false (passes_for numbers.callers numbers.readers) (λ ended. TakesTurns (is_late numbers.writing) (JointWork numbers.callers numbers.readers numbers.tries ran.holds.0 ended ran.cut ran.text) old ended new) old c.run_callers.result.0 new ran.cut ran.text given _ _ _ _ _ _ _ fit.0.1 fit.2.0 fit.2.1 fit.2.2 no_source no_sink no_media said.counts (said.input fit.0.0) (ran.holds.2 fit.1))
+    complete_records false (passes_for numbers.callers numbers.readers) (λ ended. TakesTurns (depth_of numbers.writing) (JointWork numbers.callers numbers.readers numbers.tries ran.holds.0 ended ran.cut ran.text) old ended new) old c.run_callers.result.0 new ran.cut ran.text given _ _ _ _ _ _ _ fit.0.1 fit.2.0 fit.2.1 fit.2.2 no_source no_sink no_media said.counts (said.input fit.0.0) (ran.holds.2 fit.1))
 
 pub returns-in-Dump-clause-early : goal.returns-in-Dump-clause-early
 returns-in-Dump-clause-early g c = λ either. absurd (c.run_told.ensures.late (is_early c.run_told.result.0 either))
@@ -162,7 +162,7 @@ returns-in-Drill-clause-complete g c =
     let said = c.over_records.ensures in
     let ran = said.ran in
     rw c.in-Drill.is (λ fit no_source no_sink no_media.
-    complete_records false 0 (λ ended. TakesTurns (is_late numbers.writing) (Drills numbers ended ran.cut ran.text) old ended new) old c.over_records.result.0 new ran.cut ran.text [] [] _ _ _ _ _ _ (omega arith) fit.1.0 fit.1.1 (omega arith) no_source no_sink no_media said.counts (nothing_read c.over_records.result.0 (λ early. absurd (false≢true (said.early early).0))) (ran.holds.2 fit.0))
+    complete_records false 0 (λ ended. TakesTurns (depth_of numbers.writing) (Drills numbers ended ran.cut ran.text) old ended new) old c.over_records.result.0 new ran.cut ran.text [] [] _ _ _ _ _ _ (omega arith) fit.1.0 fit.1.1 (omega arith) no_source no_sink no_media said.counts (nothing_read c.over_records.result.0 (λ early. absurd (false≢true (said.early early).0))) (ran.holds.2 fit.0))
 
 pub returns-in-Eaw-clause-complete : goal.returns-in-Eaw-clause-complete
 returns-in-Eaw-clause-complete g c =

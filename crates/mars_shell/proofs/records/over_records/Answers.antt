@@ -7,8 +7,8 @@ use Rattle.array_runs.specs.declared.status.Status.{Status}
 use Rattle.array_runs.proofs.Endings.{served_late, served_refused, served_usage, input_read}
 use Rattle.mars_shell.proofs.Endings.{served, served_short}
 use Rattle.mars_shell.proofs.Outcomes.{records_outcome, turns_none}
-use Rattle.mars_shell.specs.Late.{is_late}
-use Rattle.mars_shell.proofs.Waiting.{behind_late, of_depth}
+use Rattle.mars_shell.specs.Late.{depth_of}
+use Rattle.mars_shell.proofs.Waiting.{handed_back, of_depth}
 use Rattle.mars_shell.proofs.records.over_records.Goals as goal
 
 pub open_for-requires : goal.open_for-requires
@@ -27,7 +27,7 @@ returns-in-Err-clause-ran g c =
       holds = (
         input,
         (λ asked _. refl),
-        λ told. turns_none 0 (is_late c.args.writing) (λ ended. g.W.CoreWork.does c.args.work.now input ended false []) old c.in-Err.ended.0 new false [] (c.in-Err.ensures.outcome told),
+        λ told. turns_none 0 (depth_of c.args.writing) (λ ended. g.W.CoreWork.does c.args.work.now input ended false []) old c.in-Err.ended.0 new false [] (c.in-Err.ensures.outcome told),
       );
     }
 
@@ -67,9 +67,9 @@ returns-clause-ran g c =
         input,
         (λ asked. c.in-Ok.ensures.read (c.reads.ensures ∙ asked)),
         λ told.
-            subst (λ (s : Status). OverRecords false 0 (λ ended. TakesTurns (is_late c.args.writing) (work.does c.args.work.now input ended said.cut said.text) old ended new)
+            subst (λ (s : Status). OverRecords false 0 (λ ended. TakesTurns (depth_of c.args.writing) (work.does c.args.work.now input ended said.cut said.text) old ended new)
             old s new said.cut said.text) (sym c.served_status.ensures)
-            (records_outcome media.tells told old (met.only_now c.args.media) _ c.in-Ok.ensures.attached c.in-Ok.ensures.keeps (is_late c.args.writing) _ new (behind_late c.args.writing _ _ c.requires.of_type c.requires.depth _ _ _ c.into_media.ensures.behind) (met.counts_now c.into_media.result)
+            (records_outcome media.tells told old (met.only_now c.args.media) _ c.in-Ok.ensures.attached c.in-Ok.ensures.keeps (depth_of c.args.writing) _ new (handed_back c.args.writing _ _ c.requires.of_type _ _ _ c.into_media.ensures.behind _ c.into_media.ensures.most c.into_media.ensures.counted) (met.counts_now c.into_media.result)
             0 (omega arith) (λ ended. work.does c.args.work.now input ended said.cut said.text)
             c.serve-served.result.0 said.cut said.text (rw c.deref.ensures.value at (said.holds told))),
       );
