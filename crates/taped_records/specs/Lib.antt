@@ -1,0 +1,7 @@
+pub mod Status
+pub mod Told
+pub mod Shown
+pub mod Calls
+pub mod Tells
+pub mod Opens
+pub mod Formats
