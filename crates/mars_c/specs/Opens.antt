@@ -1,9 +1,9 @@
 -- How C opens an array in memory.
-use Rattle.std.specs.Prelude.{ℕ, ℤ, pos, ◌≡◌, ◌⊎◌, List, Option, Some, None}
+use Rattle.std.specs.Prelude.{ℕ, ℤ, pos, ◌≡◌, ◌<◌, ◌⊎◌, List, Option, Some, None}
 use Rattle.page_store.specs.Index.{Index}
 use Rattle.open_records.specs.declared.opening.OpenFault.{OpenFault}
 use Rattle.taped_records.specs.declared.records.TapedRecords.{TapedRecords}
-use Rattle.taped_records.specs.Status.{status_of_opening, is_open}
+use Rattle.taped_records.specs.Status.{status_of_opening, is_open, bad_depth}
 use Rattle.taped_records.specs.Opens.{IsOpened, HasFault}
 
 -- A closed array is opened, or stays closed for a reason that the status tells. An open one stays what it is.
@@ -12,3 +12,7 @@ Opens index callers bytes None new status =
     ((array : TapedRecords) × (new ≡ Some array) × (status ≡ pos 0) × IsOpened index callers bytes array)
     ⊎ ((new ≡ None) × ((fault : OpenFault) × (status ≡ status_of_opening fault) × HasFault index callers bytes fault))
 Opens index callers bytes (Some old) new status = (status ≡ is_open) × (new ≡ Some old)
+
+-- so it is where commits may wait; or more were asked for than may
+abbrev pub OpensLate : ℕ → Index → ℕ → List ℕ → Option TapedRecords → Option TapedRecords → ℤ → Type 0
+OpensLate depth index callers bytes old new status = Opens index callers bytes old new status ⊎ ((status ≡ bad_depth) × (64 < depth) × (new ≡ old))

@@ -1,13 +1,14 @@
 // What C calls to make, open and close an array. `mars.h` says what it owes.
-ghost use Rattle.std.specs.Prelude.{◌≡◌, None};
+ghost use Rattle.std.specs.Prelude.{◌≡◌, ◌≤◌, None};
 ghost use Rattle.btree_pages.specs.Index.{tree};
 ghost use Rattle.taped_records.specs.Formats.{Formats};
-ghost use Rattle.mars_c.specs.Opens.{Opens};
+ghost use Rattle.mars_c.specs.Opens.{Opens, OpensLate};
 
 use crate::kept::Kept;
 use std::alloc::Global;
 use taped_records::{
-    IS_OPEN, OK, TapedRecords, array_size, format_bytes, opening_status, put_out, text_of,
+    BAD_DEPTH, IS_OPEN, OK, TapedRecords, array_size, format_bytes, opening_status, put_out,
+    text_of,
 };
 
 /// How many bytes an array of this shape takes: 0 if there is none.
@@ -36,6 +37,30 @@ pub extern "C" fn mars_format(
 pub extern "C" fn mars_open(alloc: Global, m: &mut Kept, bytes: &[u8], callers: u8) -> i32
     ensures { Opens tree callers bytes.now m.old.held.array m.new.held.array result }
 {
+    open_array(alloc, m, bytes, callers, 0)
+}
+
+/// Opens it so that at most `depth` commits, 0 to 64, may wait for their write-back.
+#[unsafe(no_mangle)]
+pub extern "C" fn mars_open_late(
+    alloc: Global,
+    m: &mut Kept,
+    bytes: &[u8],
+    callers: u8,
+    depth: u8,
+) -> i32
+    ensures { OpensLate depth tree callers bytes.now m.old.held.array m.new.held.array result }
+{
+    if depth > 64 {
+        return BAD_DEPTH;
+    }
+    open_array(alloc, m, bytes, callers, depth)
+}
+
+fn open_array(alloc: Global, m: &mut Kept, bytes: &[u8], callers: u8, depth: u8) -> i32
+    requires { depth ≤ 64 }
+    ensures { Opens tree callers bytes.now m.old.held.array m.new.held.array result }
+{
     match m.take(alloc) {
         Some(array) => {
             m.put(array);
@@ -43,7 +68,7 @@ pub extern "C" fn mars_open(alloc: Global, m: &mut Kept, bytes: &[u8], callers: 
         }
         None => {}
     }
-    match TapedRecords::open(alloc, bytes, callers) {
+    match TapedRecords::open(alloc, bytes, callers, depth) {
         Ok(array) => {
             m.put(array);
             OK

@@ -11,7 +11,7 @@ mod calls;
 mod kept;
 mod tape;
 
-pub use arrays::{mars_close, mars_format, mars_open, mars_size, mars_text};
+pub use arrays::{mars_close, mars_format, mars_open, mars_open_late, mars_size, mars_text};
 pub use calls::{
     mars_abort, mars_back, mars_begin, mars_commit, mars_del, mars_get, mars_offer, mars_purge,
     mars_put, mars_save, mars_scan, mars_settle,

@@ -1,9 +1,12 @@
 -- How an array in memory is opened.
-use Rattle.std.specs.Prelude.{ℕ, ◌≡◌, true, false, List, []}
+use Rattle.std.specs.Prelude.{ℕ, ◌≡◌, true, false, IsFalse, List, []}
 use Rattle.page_store.specs.Index.{Index}
 use Rattle.tape_media.specs.Tape.{Tape, view_of}
-use Rattle.open_records.specs.Opens.{BeginsOn, KeepsRecords, IsUnopened}
+use Rattle.eaw_device.specs.declared.fault.AttachFault.TheVariants as array
+use Rattle.mars_core.specs.declared.fault.CoreFault.TheVariants as core
+use Rattle.open_records.specs.Opens.{BeginsOn, KeepsRecords, IsUnopened, is_media}
 use Rattle.open_records.specs.declared.opening.OpenFault.{OpenFault}
+use Rattle.open_records.specs.declared.opening.OpenFault.TheVariants as unopened
 use Rattle.taped_records.specs.declared.records.TapedRecords.{TapedRecords}
 use Rattle.taped_records.specs.Shown.{core_in}
 
@@ -13,12 +16,19 @@ fresh bytes = record { past = record { start = bytes; done = []; ahead = [] }; m
 
 -- The array in these bytes, for so many callers: it begins with its records, and at each moment of the opening a loss of power leaves them. No rows are
 -- kept.
-pub record IsOpened (index : Index) (asked : ℕ) (bytes : List ℕ) (array : TapedRecords) : Type 0 where
-  pub begins : BeginsOn index (view_of (fresh bytes)) (core_in array)
-  pub keeps : KeepsRecords true (view_of (fresh bytes)) (core_in array).moment (core_in array).left_since
-  pub callers : array.callers ≡ asked
-  pub rows : array.rows ≡ []
+pub record IsOpened (index : Index) (asked : ℕ) (bytes : List ℕ) (taped : TapedRecords) : Type 0 where
+  pub begins : BeginsOn index (view_of (fresh bytes)) (core_in taped)
+  pub keeps : KeepsRecords true (view_of (fresh bytes)) (core_in taped).moment (core_in taped).left_since
+  pub callers : taped.callers ≡ asked
+  pub rows : taped.rows ≡ []
 
--- Why there is none. The count of faults is free: that memory ran out in a write is a fault of this medium, as want of memory is at each call.
-abbrev pub HasFault : Index → ℕ → List ℕ → OpenFault → Type 0
-HasFault index callers bytes fault = (faults : ℕ) × IsUnopened true index callers (view_of (fresh bytes)) faults fault
+-- A fault of the medium, as it is told: it is in memory, and had nothing to do, so memory ran out in a write.
+abbrev pub in_memory : OpenFault → OpenFault
+in_memory (unopened.Array array.Media) = unopened.NoMemory
+in_memory (unopened.Records core.Media) = unopened.NoMemory
+in_memory fault = fault
+
+-- why there is none: that the medium failed is never told
+pub record HasFault (index : Index) (callers : ℕ) (bytes : List ℕ) (fault : OpenFault) : Type 0 where
+  pub cause : IsUnopened true index callers (view_of (fresh bytes)) 0 fault
+  pub told : IsFalse (is_media fault)

@@ -65,6 +65,10 @@ is_closed = pos 23
 abbrev pub is_open : ℤ
 is_open = pos 31
 
+-- more commits than may wait
+abbrev pub bad_depth : ℤ
+bad_depth = pos 32
+
 -- the key of long bytes is too large
 abbrev pub bad_key : ℤ
 bad_key = pos 24

@@ -21,4 +21,4 @@ pub use opening::{array_size, format_bytes};
 pub use putting::put_out;
 pub use records::{TapedCore, TapedRecords};
 pub use sound::Sound;
-pub use status::{IS_CLOSED, IS_OPEN, NOTHING, OK, opening_status, status_of};
+pub use status::{BAD_DEPTH, IS_CLOSED, IS_OPEN, NOTHING, OK, opening_status, status_of};

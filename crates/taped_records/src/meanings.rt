@@ -41,6 +41,7 @@ fn text_of_other(status: i32) -> &'static [u8] {
         NAME_TAKEN => b"there is a table of this name",
         TABLES_FULL => b"an array has at most 8 tables",
         IS_OPEN => b"the array is open: close it first",
+        BAD_DEPTH => b"at most 64 commits may wait",
         _ => b"there is no such status",
     }
 }

@@ -1,17 +1,18 @@
 // Arrays in memory: how they are made, and how they are opened.
-ghost use Rattle.std.specs.Prelude.{◌≡◌, ◌≢◌, pos, IfOk, IfErr, OnOk, OnErr};
+ghost use Rattle.std.specs.Prelude.{◌≡◌, ◌≢◌, ◌≤◌, pos, IfOk, IfErr, OnOk, OnErr};
 ghost use Rattle.pcm_media.specs.Replay.{at_rest};
 ghost use Rattle.eaw_device.specs.Fresh.{IsFresh};
 ghost use Rattle.btree_pages.specs.Index.{tree};
 ghost use Rattle.taped_records.specs.Formats.{Formats};
-ghost use Rattle.taped_records.specs.Opens.{IsOpened, HasFault};
+ghost use Rattle.taped_records.specs.Opens.{IsOpened, HasFault, in_memory};
 
 use crate::records::{TapedCore, TapedRecords};
 use crate::status::{BAD_SHAPE, MEDIA, NO_MEMORY, OK};
 use array_shape::Shape;
 use btree_pages::BTreePages;
-use eaw_device::{FormatFault, format};
+use eaw_device::{AttachFault, FormatFault, format};
 use history::Rows;
+use mars_core::CoreFault;
 use open_records::{OpenFault, open};
 use page_store::KeyIndex;
 use std::alloc::Global;
@@ -64,21 +65,40 @@ fn make_fresh(alloc: Global, bytes: &mut [u8], shape: &Shape) -> Result<(), i32>
 }
 
 impl TapedRecords {
-    /// Opens the array in a copy of these bytes for so many callers, and recovers what a loss of power left.
-    pub fn open(alloc: Global, bytes: &[u8], callers: u8) -> Result<Box<TapedRecords>, OpenFault>
+    /// Opens the array in a copy of these bytes for so many callers, and recovers what a loss of power left. At most `depth` commits may wait for
+    /// their write-back.
+    pub fn open(
+        alloc: Global,
+        bytes: &[u8],
+        callers: u8,
+        depth: u8,
+    ) -> Result<Box<TapedRecords>, OpenFault>
+        requires { depth ≤ 64 }
         ensures opened { IfOk result (λ array. IsOpened tree callers bytes.now array.value) }
         ensures cause { IfErr result (HasFault tree callers bytes.now) }
     {
         let Ok(media) = TapeMedia::new(alloc, bytes) else {
             return Err(OpenFault::NoMemory);
         };
-        let core: TapedCore = match open(alloc, media, callers, 0) {
+        let core: TapedCore = match open(alloc, media, callers, depth) {
             Ok(core) => core,
-            Err((fault, _)) => return Err(fault),
+            Err((fault, _)) => return Err(in_memory(fault)),
         };
         match Box::new(alloc, TapedRecords::new(core, callers, Rows::new(alloc))) {
             Ok(array) => Ok(array),
             Err(_) => Err(OpenFault::NoMemory),
         }
+    }
+}
+
+// A fault of a medium in memory, with nothing to be done before: memory ran out in a write.
+fn in_memory(fault: OpenFault) -> OpenFault
+    ensures { result ≡ in_memory fault }
+{
+    match fault {
+        OpenFault::Array(AttachFault::Media) | OpenFault::Records(CoreFault::Media) => {
+            OpenFault::NoMemory
+        }
+        other => other,
     }
 }

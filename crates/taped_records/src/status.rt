@@ -72,6 +72,8 @@ pub const TABLES_FULL: i32 = 30;
 
 pub const IS_OPEN: i32 = 31;
 
+pub const BAD_DEPTH: i32 = 32;
+
 // What is to be done next on the device.
 pub const NOTHING: i32 = 0;
 
