@@ -82,9 +82,9 @@ int32_t mars_format(uint8_t *bytes, size_t size, uint8_t loggers, uint8_t caller
 /* Opens the array in a copy of these bytes, as a loss of power left them, for so many callers. The mars is closed before, and at MARS_OK it is open.
  * You owe: the bytes are all that the device holds, and durable there. What the opening repaired is on the tape. */
 int32_t mars_open(mars *m, const uint8_t *bytes, size_t size, uint8_t callers);
-/* Opens it so that up to depth commits, 0 to 64, may wait for their write-back (0: none, as mars_open). A commit is durable all the same once the tape
- * is taken down: its log is on the device then. Its data is written to its place by a later call, or by the next opening: what waits is not lost
- * by mars_close, nor by a loss of power. */
+/* Opens it so that up to depth commits, 0 to 64, may wait for their write-back (0: none, as mars_open). A commit is durable all the same once the
+ * tape is taken down: its log is on the device then. Its data is written to its place by a later call, or by the next opening: what waits is not
+ * lost by mars_close, nor by a loss of power. */
 int32_t mars_open_late(mars *m, const uint8_t *bytes, size_t size, uint8_t callers, uint8_t depth);
 /* Closes it, if it is open, and frees its memory. What was not committed is dropped; what is still on the tape is too. */
 void mars_close(mars *m);
