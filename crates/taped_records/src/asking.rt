@@ -1,11 +1,11 @@
 // A call of a caller's is made by the core of an open array.
-ghost use Rattle.std.specs.Prelude.{◌≡◌, ◌≤◌, IfSome, IfNone};
+ghost use Rattle.std.specs.Prelude.{◌≡◌, ◌≤◌, Some, IfSome, IfNone};
 ghost use Rattle.taped_records.specs.Calls.{Makes, Calls, Fits};
 ghost use Rattle.taped_records.specs.Told.{same_rows, rows_in, count_in};
 
 use crate::records::TapedRecords;
-use crate::status::{BAD_CALLER, OK, status_of};
-use history::{Call, Reply};
+use crate::status::{BAD_CALLER, status_of};
+use history::{Call, Reply, Rows};
 
 impl TapedRecords {
     /// Makes a caller's call. There is no reply where there is no such caller.
@@ -23,14 +23,30 @@ impl TapedRecords {
     pub fn ask_rows(&mut self, caller: u8, call: &Call, count: &mut u64) -> i32
         ensures { Calls rows_in Fits (λ told. count.new ≡ count_in count.old told) caller call.now self.old self.new result }
     {
-        match self.ask(caller, call) {
-            Some(Reply::Listed(rows)) => {
-                *count = rows.as_slice().len() as u64;
-                self.rows = rows;
-                OK
-            }
-            Some(reply) => status_of(&reply),
-            None => BAD_CALLER,
-        }
+        let Some(reply) = self.ask(caller, call) else {
+            return BAD_CALLER;
+        };
+        let status = status_of(&reply);
+        *count = counted(&reply, *count);
+        keep(&mut self.rows, reply);
+        status
+    }
+}
+
+fn counted(reply: &Reply, was: u64) -> u64
+    ensures { result ≡ count_in was (Some reply.now) }
+{
+    match reply {
+        Reply::Listed(rows) => rows.as_slice().len() as u64,
+        _ => was,
+    }
+}
+
+fn keep(rows: &mut Rows, reply: Reply)
+    ensures { rows.new ≡ rows_in rows.old reply }
+{
+    match reply {
+        Reply::Listed(listed) => *rows = listed,
+        _ => {}
     }
 }
