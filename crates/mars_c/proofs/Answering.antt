@@ -1,27 +1,11 @@
--- What was done and told.
-use Rattle.std.proofs.Common.{◌≡◌, ℕ, ◌⊎◌, inl, List, length, refl, sym, subst, Option, Some, None}
-use Rattle.std.specs.Prelude.{pos, slice_get, MatchOption}
-use Rattle.std.specs.Borrow.{Bor}
-use Rattle.std.specs.Slice.{IsItemAt}
-use Rattle.std.proofs.lemmas.Option.{slice_get_past, slice_get_read}
+-- What was done.
+use Rattle.std.proofs.Common.{◌≡◌, ℕ, ◌⊎◌, inl, List, refl, sym, subst, Option, Some, None}
+use Rattle.std.specs.Prelude.{pos}
 use Rattle.page_store.specs.Index.{Index}
-use Rattle.mars_c.specs.declared.shell.Shell.{Shell}
-use Rattle.mars_c.specs.Told.{IsPutOut}
-use Rattle.mars_c.specs.Tells.{IsRow}
-use Rattle.mars_c.specs.Opens.{IsOpened, Opens}
+use Rattle.taped_records.specs.declared.records.TapedRecords.{TapedRecords}
+use Rattle.taped_records.specs.Opens.{IsOpened}
+use Rattle.mars_c.specs.Opens.{Opens}
 
 -- a closed array was opened
-pub opened : (index : Index) (callers : ℕ) (bytes : List ℕ) (old new : Option Shell) (shell : Shell) → old ≡ None → new ≡ Some shell → IsOpened index callers bytes shell → Opens index callers bytes old new (pos 0)
-opened index callers bytes old new shell closed is opens = subst (λ (was : Option Shell). Opens index callers bytes was new (pos 0)) (sym closed) (inl (shell, is, refl, opens))
-
--- what a look-up by place gives
-pub row_at : {X : Type 0} (rows : List X) (at : ℕ) (found : Option (Bor X)) → IsItemAt rows at found → MatchOption found (slice_get rows at ≡ None) (λ (row : Bor X). slice_get rows at ≡ Some row.now)
-row_at rows at None is = slice_get_past rows at is.3
-row_at rows at (Some row) is = slice_get_read rows (length rows) at row.now refl is.3.0 is.1
-
--- a row was found, and its value put out
-pub row_told : (rows : List (ℕ × List ℕ)) (at : ℕ) (row : ℕ × List ℕ) (bytes : List ℕ) (key_was : ℕ) (was now : List ℕ) (len_was len : ℕ) → slice_get rows at ≡ Some row → bytes ≡ row.1
-    → IsPutOut (Some bytes) was now len_was len → IsRow (slice_get rows at) (pos 0) key_was row.0 was now len_was len
-row_told rows at row bytes key_was was now len_was len found is put =
-    subst (λ (there : Option (ℕ × List ℕ)). IsRow there (pos 0) key_was row.0 was now len_was len) (sym found)
-    (refl, refl, subst (λ (text : List ℕ). IsPutOut (Some text) was now len_was len) is put)
+pub opened : (index : Index) (callers : ℕ) (bytes : List ℕ) (old new : Option TapedRecords) (array : TapedRecords) → old ≡ None → new ≡ Some array → IsOpened index callers bytes array → Opens index callers bytes old new (pos 0)
+opened index callers bytes old new array closed is opens = subst (λ (was : Option TapedRecords). Opens index callers bytes was new (pos 0)) (sym closed) (inl (array, is, refl, opens))

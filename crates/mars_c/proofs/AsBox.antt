@@ -11,8 +11,8 @@ use Rattle.std_alloc.proofs.BoxSteps.Form.{Bx}
 use Rattle.std_heap.specs.contracts.Global as Heap
 use Rattle.std_heap.specs.contracts.GlobalAllocator.TheImpl.{ghosts, dict}
 use Rattle.std_heap.proofs.Global.TheLaws as heap
-use Rattle.mars_c.specs.contracts.shell.Shell as Home
-use Rattle.mars_c.proofs.shell.Shell.TheLaws as home
+use Rattle.taped_records.specs.contracts.records.TapedRecords as Home
+use Rattle.taped_records.proofs.records.TapedRecords.TheLaws as home
 use Rattle.mars_c.specs.contracts.kept.parts.Parts as Parts
 use Rattle.mars_c.specs.contracts.kept.held.Held as Held
 
@@ -34,9 +34,9 @@ FromHeap = plain (λ _. Heap.the_row)
 abbrev pub Inside : Type 0
 Inside = Home.the_row.Denot
 
-pub held_shell : (shell : Option Inside) → IsSome shell → (inside : Inside) × (shell ≡ Some inside)
-held_shell (Some inside) some = (inside, refl)
-held_shell None some = absurd (false≢true some)
+pub held_array : (array : Option Inside) → IsSome array → (inside : Inside) × (array ≡ Some inside)
+held_array (Some inside) some = (inside, refl)
+held_array None some = absurd (false≢true some)
 
 pub both : (a b : Bool) → T a → T b → T (a && b)
 both true b x y = y

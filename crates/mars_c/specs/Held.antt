@@ -1,4 +1,4 @@
--- What a `Held` owns: the same as a `Box<Shell>`, or nothing. Assumes nothing: these are definitions.
+-- What a `Held` owns: the same as a `Box<TapedRecords>`, or nothing. Assumes nothing: these are definitions.
 use base.Fml.{Fml, ftrue}
 use base.Stored.{Coded}
 use denote.RawPtr.{Ptr}
@@ -7,11 +7,11 @@ use Rattle.std.specs.Coded.{coded_option}
 use Rattle.std.specs.Box.Ownership.{box_owns}
 use Rattle.std.specs.Global.{Global}
 use Rattle.std_heap.specs.contracts.GlobalAllocator.TheImpl.{ghosts}
-use Rattle.mars_c.specs.contracts.shell.Shell.{the_row}
+use Rattle.taped_records.specs.contracts.records.TapedRecords.{the_row}
 
 abbrev pub held_owns : Global → Ptr → Option the_row.Denot → Fml
 held_owns alloc at None = ftrue
-held_owns alloc at (Some shell) = box_owns (ghosts.dealloc_token alloc) the_row at shell
+held_owns alloc at (Some array) = box_owns (ghosts.dealloc_token alloc) the_row at array
 
 abbrev pub held_coded : Coded (Option the_row.Denot)
 held_coded = coded_option the_row.coded

@@ -1,8 +1,3 @@
 pub mod Held
-pub mod Status
-pub mod Told
-pub mod Shown
 pub mod Calls
-pub mod Tells
 pub mod Opens
-pub mod Formats

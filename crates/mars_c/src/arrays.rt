@@ -1,27 +1,20 @@
 // What C calls to make, open and close an array. `mars.h` says what it owes.
-ghost use Rattle.std.specs.Prelude.{◌≡◌, pos, None, IsTrue, OnOk};
-ghost use Rattle.array_shape.specs.Places.{media_len, IsShape};
+ghost use Rattle.std.specs.Prelude.{◌≡◌, ◌≤◌, None};
 ghost use Rattle.btree_pages.specs.Index.{tree};
-ghost use Rattle.mars_c.specs.Formats.{Formats};
-ghost use Rattle.mars_c.specs.Opens.{Opens};
+ghost use Rattle.taped_records.specs.Formats.{Formats};
+ghost use Rattle.mars_c.specs.Opens.{Opens, OpensLate};
 
 use crate::kept::Kept;
-use crate::meanings::text_of;
-use crate::opening::{make_fresh, open_bytes};
-use crate::putting::put_out;
-use crate::status::{BAD_SHAPE, IS_OPEN, OK, opening_status};
-use array_shape::Shape;
-use btree_pages::BTreePages;
-use page_store::KeyIndex;
 use std::alloc::Global;
+use taped_records::{
+    BAD_DEPTH, IS_OPEN, OK, TapedRecords, array_size, format_bytes, opening_status, put_out,
+    text_of,
+};
 
 /// How many bytes an array of this shape takes: 0 if there is none.
 #[unsafe(no_mangle)]
 pub extern "C" fn mars_size(loggers: u8, callers: u8, entries: u16, pages: u32) -> u64 {
-    match Shape::new(loggers, callers, entries, pages) {
-        Ok(shape) => shape.media_len(),
-        Err(_) => 0,
-    }
+    array_size(loggers, callers, entries, pages)
 }
 
 /// Makes a fresh array of this shape in these bytes, which are as many as `mars_size` says.
@@ -36,30 +29,48 @@ pub extern "C" fn mars_format(
 ) -> i32
     ensures { Formats loggers callers entries pages bytes.old bytes.new result }
 {
-    let Ok(shape) = Shape::new(loggers, callers, entries, pages) else {
-        return BAD_SHAPE;
-    };
-    match make_fresh(alloc, bytes, &shape) {
-        Ok(()) => OK,
-        Err(status) => status,
-    }
+    format_bytes(alloc, bytes, loggers, callers, entries, pages)
 }
 
 /// Opens the array in a copy of these bytes for so many callers, and recovers what a loss of power left.
 #[unsafe(no_mangle)]
 pub extern "C" fn mars_open(alloc: Global, m: &mut Kept, bytes: &[u8], callers: u8) -> i32
-    ensures { Opens tree callers bytes.now m.old.held.shell m.new.held.shell result }
+    ensures { Opens tree callers bytes.now m.old.held.array m.new.held.array result }
+{
+    open_array(alloc, m, bytes, callers, 0)
+}
+
+/// Opens it so that at most `depth` commits, 0 to 64, may wait for their write-back.
+#[unsafe(no_mangle)]
+pub extern "C" fn mars_open_late(
+    alloc: Global,
+    m: &mut Kept,
+    bytes: &[u8],
+    callers: u8,
+    depth: u8,
+) -> i32
+    ensures { OpensLate depth tree callers bytes.now m.old.held.array m.new.held.array result }
+{
+    if depth > 64 {
+        return BAD_DEPTH;
+    }
+    open_array(alloc, m, bytes, callers, depth)
+}
+
+fn open_array(alloc: Global, m: &mut Kept, bytes: &[u8], callers: u8, depth: u8) -> i32
+    requires { depth ≤ 64 }
+    ensures { Opens tree callers bytes.now m.old.held.array m.new.held.array result }
 {
     match m.take(alloc) {
-        Some(shell) => {
-            m.put(shell);
+        Some(array) => {
+            m.put(array);
             return IS_OPEN;
         }
         None => {}
     }
-    match open_bytes(alloc, bytes, callers) {
-        Ok(shell) => {
-            m.put(shell);
+    match TapedRecords::open(alloc, bytes, callers, depth) {
+        Ok(array) => {
+            m.put(array);
             OK
         }
         Err(fault) => opening_status(&fault),
@@ -69,7 +80,7 @@ pub extern "C" fn mars_open(alloc: Global, m: &mut Kept, bytes: &[u8], callers: 
 /// Closes it. What was not committed is dropped.
 #[unsafe(no_mangle)]
 pub extern "C" fn mars_close(alloc: Global, m: &mut Kept)
-    ensures { m.new.held.shell ≡ None }
+    ensures { m.new.held.array ≡ None }
 {
     drop(m.take(alloc));
 }

@@ -1,23 +1,25 @@
 // What C calls of transactions. `mars.h` says what it owes.
 ghost use Rattle.std.specs.Prelude.{◌≡◌};
 ghost use Rattle.history.specs.declared.call.Call.TheVariants.{Begin, Get, Put, Del, Scan, Save, Back, Commit, Abort, Offer, Settle, Purge};
-ghost use Rattle.mars_c.specs.Calls.{Calls, Fits, IsBadName, IsBadRecord};
-ghost use Rattle.mars_c.specs.Told.{IsPutOut, Nothing, same_rows, rows_in, number_in, count_in, value_in};
+ghost use Rattle.taped_records.specs.Calls.{Fits, IsBadName, IsBadRecord};
+ghost use Rattle.taped_records.specs.Told.{IsPutOut, Nothing, same_rows, rows_in, number_in, count_in, value_in};
+ghost use Rattle.mars_c.specs.Calls.{Calls};
 
-use crate::asking::{ask, ask_rows};
 use crate::kept::Kept;
-use crate::putting::{tell, tell_number, tell_value};
-use crate::status::{BAD_NAME, BAD_VALUE};
-use history::Call;
-use record_slots::{Name, Value};
 use std::alloc::Global;
+use taped_records::IS_CLOSED;
 
 /// Begins a transaction of the caller's.
 #[unsafe(no_mangle)]
 pub extern "C" fn mars_begin(alloc: Global, m: &mut Kept, caller: u8) -> i32
-    ensures { Calls same_rows Fits Nothing caller Begin m.old.held.shell m.new.held.shell result }
+    ensures { Calls same_rows Fits Nothing caller Begin m.old.held.array m.new.held.array result }
 {
-    tell(&ask(alloc, m, caller, &Call::Begin))
+    let Some(mut array) = m.take(alloc) else {
+        return IS_CLOSED;
+    };
+    let status = array.begin(caller);
+    m.put(array);
+    status
 }
 
 /// The value of a key: as much of it as there is room for, and its length.
@@ -31,16 +33,14 @@ pub extern "C" fn mars_get(
     room: &mut [u8],
     len: &mut u64,
 ) -> i32
-    ensures { Calls same_rows (IsBadName table.now) (λ told. IsPutOut (value_in told) room.old room.new len.old len.new) caller (Get table.now key) m.old.held.shell m.new.held.shell result }
+    ensures { Calls same_rows (IsBadName table.now) (λ told. IsPutOut (value_in told) room.old room.new len.old len.new) caller (Get table.now key) m.old.held.array m.new.held.array result }
 {
-    let Some(name) = Name::of(table) else {
-        return BAD_NAME;
+    let Some(mut array) = m.take(alloc) else {
+        return IS_CLOSED;
     };
-    tell_value(
-        &ask(alloc, m, caller, &Call::Get { table: name, key }),
-        room,
-        len,
-    )
+    let status = array.get(caller, table, key, room, len);
+    m.put(array);
+    status
 }
 
 /// Gives a key this value.
@@ -53,31 +53,27 @@ pub extern "C" fn mars_put(
     key: u64,
     value: &[u8],
 ) -> i32
-    ensures { Calls same_rows (IsBadRecord table.now value.now) Nothing caller (Put table.now key value.now) m.old.held.shell m.new.held.shell result }
+    ensures { Calls same_rows (IsBadRecord table.now value.now) Nothing caller (Put table.now key value.now) m.old.held.array m.new.held.array result }
 {
-    let Some(name) = Name::of(table) else {
-        return BAD_NAME;
+    let Some(mut array) = m.take(alloc) else {
+        return IS_CLOSED;
     };
-    let Some(text) = Value::of(value) else {
-        return BAD_VALUE;
-    };
-    let call = Call::Put {
-        table: name,
-        key,
-        value: text,
-    };
-    tell(&ask(alloc, m, caller, &call))
+    let status = array.put(caller, table, key, value);
+    m.put(array);
+    status
 }
 
 /// Removes the record of a key.
 #[unsafe(no_mangle)]
 pub extern "C" fn mars_del(alloc: Global, m: &mut Kept, caller: u8, table: &[u8], key: u64) -> i32
-    ensures { Calls same_rows (IsBadName table.now) Nothing caller (Del table.now key) m.old.held.shell m.new.held.shell result }
+    ensures { Calls same_rows (IsBadName table.now) Nothing caller (Del table.now key) m.old.held.array m.new.held.array result }
 {
-    let Some(name) = Name::of(table) else {
-        return BAD_NAME;
+    let Some(mut array) = m.take(alloc) else {
+        return IS_CLOSED;
     };
-    tell(&ask(alloc, m, caller, &Call::Del { table: name, key }))
+    let status = array.del(caller, table, key);
+    m.put(array);
+    status
 }
 
 /// Reads the records from one key to another, both included, and tells how many there are. `mars_row` tells each, until the next scan.
@@ -91,71 +87,103 @@ pub extern "C" fn mars_scan(
     high: u64,
     count: &mut u64,
 ) -> i32
-    ensures { Calls rows_in (IsBadName table.now) (λ told. count.new ≡ count_in count.old told) caller (Scan table.now low high) m.old.held.shell m.new.held.shell result }
+    ensures { Calls rows_in (IsBadName table.now) (λ told. count.new ≡ count_in count.old told) caller (Scan table.now low high) m.old.held.array m.new.held.array result }
 {
-    let Some(name) = Name::of(table) else {
-        return BAD_NAME;
+    let Some(mut array) = m.take(alloc) else {
+        return IS_CLOSED;
     };
-    let call = Call::Scan {
-        table: name,
-        low,
-        high,
-    };
-    ask_rows(alloc, m, caller, &call, count)
+    let status = array.scan(caller, table, low, high, count);
+    m.put(array);
+    status
 }
 
 /// Makes a save, and tells its number, counted from 1.
 #[unsafe(no_mangle)]
 pub extern "C" fn mars_save(alloc: Global, m: &mut Kept, caller: u8, number: &mut u64) -> i32
-    ensures { Calls same_rows Fits (λ told. number.new ≡ number_in number.old told) caller Save m.old.held.shell m.new.held.shell result }
+    ensures { Calls same_rows Fits (λ told. number.new ≡ number_in number.old told) caller Save m.old.held.array m.new.held.array result }
 {
-    tell_number(&ask(alloc, m, caller, &Call::Save), number)
+    let Some(mut array) = m.take(alloc) else {
+        return IS_CLOSED;
+    };
+    let status = array.save(caller, number);
+    m.put(array);
+    status
 }
 
 /// Goes back to a save.
 #[unsafe(no_mangle)]
 pub extern "C" fn mars_back(alloc: Global, m: &mut Kept, caller: u8, save: u32) -> i32
-    ensures { Calls same_rows Fits Nothing caller (Back save) m.old.held.shell m.new.held.shell result }
+    ensures { Calls same_rows Fits Nothing caller (Back save) m.old.held.array m.new.held.array result }
 {
-    tell(&ask(alloc, m, caller, &Call::Back { save }))
+    let Some(mut array) = m.take(alloc) else {
+        return IS_CLOSED;
+    };
+    let status = array.back(caller, save);
+    m.put(array);
+    status
 }
 
 /// Commits the transaction, and tells its number since the opening, counted from 1.
 #[unsafe(no_mangle)]
 pub extern "C" fn mars_commit(alloc: Global, m: &mut Kept, caller: u8, number: &mut u64) -> i32
-    ensures { Calls same_rows Fits (λ told. number.new ≡ number_in number.old told) caller Commit m.old.held.shell m.new.held.shell result }
+    ensures { Calls same_rows Fits (λ told. number.new ≡ number_in number.old told) caller Commit m.old.held.array m.new.held.array result }
 {
-    tell_number(&ask(alloc, m, caller, &Call::Commit), number)
+    let Some(mut array) = m.take(alloc) else {
+        return IS_CLOSED;
+    };
+    let status = array.commit(caller, number);
+    m.put(array);
+    status
 }
 
 /// Drops the transaction.
 #[unsafe(no_mangle)]
 pub extern "C" fn mars_abort(alloc: Global, m: &mut Kept, caller: u8) -> i32
-    ensures { Calls same_rows Fits Nothing caller Abort m.old.held.shell m.new.held.shell result }
+    ensures { Calls same_rows Fits Nothing caller Abort m.old.held.array m.new.held.array result }
 {
-    tell(&ask(alloc, m, caller, &Call::Abort))
+    let Some(mut array) = m.take(alloc) else {
+        return IS_CLOSED;
+    };
+    let status = array.abort(caller);
+    m.put(array);
+    status
 }
 
 /// Gives the transaction to the next group that is settled.
 #[unsafe(no_mangle)]
 pub extern "C" fn mars_offer(alloc: Global, m: &mut Kept, caller: u8) -> i32
-    ensures { Calls same_rows Fits Nothing caller Offer m.old.held.shell m.new.held.shell result }
+    ensures { Calls same_rows Fits Nothing caller Offer m.old.held.array m.new.held.array result }
 {
-    tell(&ask(alloc, m, caller, &Call::Offer))
+    let Some(mut array) = m.take(alloc) else {
+        return IS_CLOSED;
+    };
+    let status = array.offer(caller);
+    m.put(array);
+    status
 }
 
 /// Commits all transactions that were offered as one group, unless one has done so, and tells the number of the caller's own.
 #[unsafe(no_mangle)]
 pub extern "C" fn mars_settle(alloc: Global, m: &mut Kept, caller: u8, number: &mut u64) -> i32
-    ensures { Calls same_rows Fits (λ told. number.new ≡ number_in number.old told) caller Settle m.old.held.shell m.new.held.shell result }
+    ensures { Calls same_rows Fits (λ told. number.new ≡ number_in number.old told) caller Settle m.old.held.array m.new.held.array result }
 {
-    tell_number(&ask(alloc, m, caller, &Call::Settle), number)
+    let Some(mut array) = m.take(alloc) else {
+        return IS_CLOSED;
+    };
+    let status = array.settle(caller, number);
+    m.put(array);
+    status
 }
 
 /// Takes keys without records out of the index, and tells how many.
 #[unsafe(no_mangle)]
 pub extern "C" fn mars_purge(alloc: Global, m: &mut Kept, caller: u8, number: &mut u64) -> i32
-    ensures { Calls same_rows Fits (λ told. number.new ≡ number_in number.old told) caller Purge m.old.held.shell m.new.held.shell result }
+    ensures { Calls same_rows Fits (λ told. number.new ≡ number_in number.old told) caller Purge m.old.held.array m.new.held.array result }
 {
-    tell_number(&ask(alloc, m, caller, &Call::Purge), number)
+    let Some(mut array) = m.take(alloc) else {
+        return IS_CLOSED;
+    };
+    let status = array.purge(caller, number);
+    m.put(array);
+    status
 }

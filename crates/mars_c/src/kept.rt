@@ -4,11 +4,11 @@ ghost use Rattle.std.specs.Prelude.{◌≡◌, Option, Some, None, is_some, Matc
 mod held;
 mod parts;
 
-use crate::shell::Shell;
 pub use held::Held;
 use std::alloc::Global;
 use std::mem::replace;
 use std::ptr::null_mut;
+use taped_records::TapedRecords;
 
 /// An array, open or closed, as C keeps it.
 #[repr(C)]
@@ -16,12 +16,12 @@ use std::ptr::null_mut;
 pub struct Kept {
     pub held: Held,
     is_open: bool,
-    ghost told: { is_open ≡ is_some held.shell },
+    ghost told: { is_open ≡ is_some held.array },
 }
 
 impl Kept {
     fn closed(alloc: Global) -> Kept
-        ensures { result.held.shell ≡ None }
+        ensures { result.held.array ≡ None }
     {
         let at: *mut u8 = null_mut();
         let held = Held::nothing(at, alloc);
@@ -32,9 +32,9 @@ impl Kept {
     }
 
     /// Takes out what is open, and leaves it closed.
-    pub fn take(&mut self, alloc: Global) -> Option<Box<Shell>>
-        ensures shell { MatchOption result (self.old.held.shell ≡ None) (λ shell. self.old.held.shell ≡ Some shell.value) }
-        ensures closed { self.new.held.shell ≡ None }
+    pub fn take(&mut self, alloc: Global) -> Option<Box<TapedRecords>>
+        ensures array { MatchOption result (self.old.held.array ≡ None) (λ array. self.old.held.array ≡ Some array.value) }
+        ensures closed { self.new.held.array ≡ None }
     {
         let Kept { held, is_open } = replace(self, Kept::closed(alloc));
         if !is_open {
@@ -44,11 +44,11 @@ impl Kept {
     }
 
     /// Puts this in its place.
-    pub fn put(&mut self, shell: Box<Shell>)
-        ensures { self.new.held.shell ≡ Some shell.value }
+    pub fn put(&mut self, array: Box<TapedRecords>)
+        ensures { self.new.held.array ≡ Some array.value }
     {
         *self = Kept {
-            held: Held::of_parts(parts::Parts::of(shell)),
+            held: Held::of_parts(parts::Parts::of(array)),
             is_open: true,
         };
     }

@@ -1,15 +1,15 @@
 // What C calls to read an open array, and to take its tape down. `mars.h` says what it owes.
 ghost use Rattle.std.specs.Prelude.{◌≡◌, pos, true, None, slice_get};
 ghost use Rattle.tape_media.specs.Tape.{next_of};
-ghost use Rattle.mars_c.specs.Shown.{tape_of, core_in};
-ghost use Rattle.mars_c.specs.Status.{is_closed};
-ghost use Rattle.mars_c.specs.Told.{IsPutOut};
+ghost use Rattle.taped_records.specs.Shown.{tape_of, core_in};
+ghost use Rattle.taped_records.specs.Status.{is_closed};
+ghost use Rattle.taped_records.specs.Told.{IsPutOut};
+ghost use Rattle.taped_records.specs.Tells.{IsRow, IsTold, IsPiece, IsWrite, IsDone, IsDoneUpTo, GoesOn};
 ghost use Rattle.mars_c.specs.Calls.{Looks, Changes};
-ghost use Rattle.mars_c.specs.Tells.{IsRow, IsTold, IsPiece, IsWrite, IsDone, IsDoneUpTo, GoesOn};
 
 use crate::kept::Kept;
-use crate::status::{IS_CLOSED, NOTHING, OK};
 use std::alloc::Global;
+use taped_records::{IS_CLOSED, NOTHING, OK};
 
 /// A row of the last scan, counted from 0: its key, as much of its value as there is room for, and how long that is.
 #[unsafe(no_mangle)]
@@ -21,14 +21,14 @@ pub extern "C" fn mars_row(
     room: &mut [u8],
     len: &mut u64,
 ) -> i32
-    ensures { Looks (λ shell. IsRow (slice_get shell.rows at) result key.old key.new room.old room.new len.old len.new)
-        ((result ≡ is_closed) × (key.new ≡ key.old) × IsPutOut None room.old room.new len.old len.new) m.old.held.shell m.new.held.shell }
+    ensures { Looks (λ array. IsRow (slice_get array.rows at) result key.old key.new room.old room.new len.old len.new)
+        ((result ≡ is_closed) × (key.new ≡ key.old) × IsPutOut None room.old room.new len.old len.new) m.old.held.array m.new.held.array }
 {
-    let Some(shell) = m.take(alloc) else {
+    let Some(array) = m.take(alloc) else {
         return IS_CLOSED;
     };
-    let status = shell.row(at, key, room, len);
-    m.put(shell);
+    let status = array.row(at, key, room, len);
+    m.put(array);
     status
 }
 
@@ -41,28 +41,28 @@ pub extern "C" fn mars_table(
     room: &mut [u8],
     len: &mut u64,
 ) -> i32
-    ensures { Looks (λ shell. IsTold (slice_get (core_in shell).state.names number) result room.old room.new len.old len.new)
-        ((result ≡ is_closed) × IsPutOut None room.old room.new len.old len.new) m.old.held.shell m.new.held.shell }
+    ensures { Looks (λ array. IsTold (slice_get (core_in array).state.names number) result room.old room.new len.old len.new)
+        ((result ≡ is_closed) × IsPutOut None room.old room.new len.old len.new) m.old.held.array m.new.held.array }
 {
-    let Some(shell) = m.take(alloc) else {
+    let Some(array) = m.take(alloc) else {
         return IS_CLOSED;
     };
-    let status = shell.table(number, room, len);
-    m.put(shell);
+    let status = array.table(number, room, len);
+    m.put(array);
     status
 }
 
 /// What is to be done next on the device: nothing (0), a write of `len` bytes at the place `at` (1), or a barrier (2).
 #[unsafe(no_mangle)]
 pub extern "C" fn mars_piece(alloc: Global, m: &mut Kept, at: &mut u64, len: &mut u64) -> i32
-    ensures { Looks (λ shell. IsPiece (next_of (tape_of shell)) result at.old at.new len.old len.new)
-        (IsPiece None result at.old at.new len.old len.new) m.old.held.shell m.new.held.shell }
+    ensures { Looks (λ array. IsPiece (next_of (tape_of array)) result at.old at.new len.old len.new)
+        (IsPiece None result at.old at.new len.old len.new) m.old.held.array m.new.held.array }
 {
-    let Some(shell) = m.take(alloc) else {
+    let Some(array) = m.take(alloc) else {
         return NOTHING;
     };
-    let kind = shell.piece(at, len);
-    m.put(shell);
+    let kind = array.piece(at, len);
+    m.put(array);
     kind
 }
 
@@ -75,27 +75,27 @@ pub extern "C" fn mars_piece_bytes(
     room: &mut [u8],
     len: &mut u64,
 ) -> i32
-    ensures { Looks (λ shell. IsWrite (next_of (tape_of shell)) skip result room.old room.new len.old len.new)
-        ((result ≡ is_closed) × IsPutOut None room.old room.new len.old len.new) m.old.held.shell m.new.held.shell }
+    ensures { Looks (λ array. IsWrite (next_of (tape_of array)) skip result room.old room.new len.old len.new)
+        ((result ≡ is_closed) × IsPutOut None room.old room.new len.old len.new) m.old.held.array m.new.held.array }
 {
-    let Some(shell) = m.take(alloc) else {
+    let Some(array) = m.take(alloc) else {
         return IS_CLOSED;
     };
-    let status = shell.piece_bytes(skip, room, len);
-    m.put(shell);
+    let status = array.piece_bytes(skip, room, len);
+    m.put(array);
     status
 }
 
 /// The next piece was done on the device. It is forgotten.
 #[unsafe(no_mangle)]
 pub extern "C" fn mars_piece_done(alloc: Global, m: &mut Kept) -> i32
-    ensures { Changes (λ old new. IsDone (next_of (tape_of old)) old new result) (result ≡ is_closed) m.old.held.shell m.new.held.shell }
+    ensures { Changes (λ old new. IsDone (next_of (tape_of old)) old new result) (result ≡ is_closed) m.old.held.array m.new.held.array }
 {
-    let Some(mut shell) = m.take(alloc) else {
+    let Some(mut array) = m.take(alloc) else {
         return IS_CLOSED;
     };
-    let status = shell.piece_done();
-    m.put(shell);
+    let status = array.piece_done();
+    m.put(array);
     status
 }
 
@@ -103,38 +103,38 @@ pub extern "C" fn mars_piece_done(alloc: Global, m: &mut Kept) -> i32
 #[unsafe(no_mangle)]
 pub extern "C" fn mars_piece_failed(alloc: Global, m: &mut Kept) -> i32
     ensures { Changes (λ old new. (result ≡ pos 0) × GoesOn (record (tape_of old) { has_failed = true }) old new) (result ≡ is_closed)
-        m.old.held.shell m.new.held.shell }
+        m.old.held.array m.new.held.array }
 {
-    let Some(mut shell) = m.take(alloc) else {
+    let Some(mut array) = m.take(alloc) else {
         return IS_CLOSED;
     };
-    shell.piece_failed();
-    m.put(shell);
+    array.piece_failed();
+    m.put(array);
     OK
 }
 
 /// The moment of the last call.
 #[unsafe(no_mangle)]
 pub extern "C" fn mars_moment(alloc: Global, m: &mut Kept) -> u64
-    ensures { Looks (λ shell. result ≡ (core_in shell).moment) (result ≡ 0) m.old.held.shell m.new.held.shell }
+    ensures { Looks (λ array. result ≡ (core_in array).moment) (result ≡ 0) m.old.held.array m.new.held.array }
 {
-    let Some(shell) = m.take(alloc) else {
+    let Some(array) = m.take(alloc) else {
         return 0;
     };
-    let moment = shell.moment();
-    m.put(shell);
+    let moment = array.moment();
+    m.put(array);
     moment
 }
 
 /// The moment up to which the pieces of all calls were done.
 #[unsafe(no_mangle)]
 pub extern "C" fn mars_done_up_to(alloc: Global, m: &mut Kept) -> u64
-    ensures { Looks (IsDoneUpTo result) (result ≡ 0) m.old.held.shell m.new.held.shell }
+    ensures { Looks (IsDoneUpTo result) (result ≡ 0) m.old.held.array m.new.held.array }
 {
-    let Some(shell) = m.take(alloc) else {
+    let Some(array) = m.take(alloc) else {
         return 0;
     };
-    let moment = shell.done_up_to();
-    m.put(shell);
+    let moment = array.done_up_to();
+    m.put(array);
     moment
 }

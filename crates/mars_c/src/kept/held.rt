@@ -1,35 +1,35 @@
-// A `Box<Shell>` as a pointer that C keeps, or none: a type that names no type with memory of its own.
+// A `Box<TapedRecords>` as a pointer that C keeps, or none: a type that names no type with memory of its own.
 ghost use Rattle.std.specs.Prelude.{◌≡◌, Option, Some, None, IsSome};
-ghost use Rattle.mars_c.specs.declared.shell.Shell.{Shell as Inside};
+ghost use Rattle.taped_records.specs.declared.records.TapedRecords.{TapedRecords as Inside};
 ghost use Rattle.mars_c.specs.Held.{held_coded, held_owns};
 
 use super::parts::Parts;
-use crate::shell::Shell;
 use std::alloc::Global;
 use std::marker::Model;
+use taped_records::TapedRecords;
 
 #[repr(C)]
 #[derive(Drop)]
 pub struct Held {
     at: *mut u8,
     alloc: Global,
-    pub ghost shell: { Option Inside } by { held_coded },
+    pub ghost array: { Option Inside } by { held_coded },
 }
 
 impl Model for Held {
-    ghost also_owns = { λ h. held_owns h.alloc h.at h.shell };
+    ghost also_owns = { λ h. held_owns h.alloc h.at h.array };
 }
 
 impl Held {
     /// Nothing is held, whatever the pointer.
     pub fn nothing(at: *mut u8, alloc: Global) -> Held
-        ensures { result.shell ≡ None }
+        ensures { result.array ≡ None }
     {
         Held { at, alloc }
     }
 
-    pub fn of_parts(parts: Parts<Shell, Global>) -> Held
-        ensures { result.shell ≡ Some parts.value }
+    pub fn of_parts(parts: Parts<TapedRecords, Global>) -> Held
+        ensures { result.array ≡ Some parts.value }
     {
         let Parts { ptr, alloc } = parts;
         Held {
@@ -38,13 +38,13 @@ impl Held {
         }
     }
 
-    pub fn into_parts(self) -> Parts<Shell, Global>
-        requires { IsSome self.shell }
-        ensures { self.shell ≡ Some result.value }
+    pub fn into_parts(self) -> Parts<TapedRecords, Global>
+        requires { IsSome self.array }
+        ensures { self.array ≡ Some result.value }
     {
         let Held { at, alloc } = self;
         Parts {
-            ptr: at.cast::<Shell>(),
+            ptr: at.cast::<TapedRecords>(),
             alloc,
         }
     }

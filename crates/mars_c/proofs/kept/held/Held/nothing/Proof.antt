@@ -49,7 +49,7 @@ module _ {M : Type 1} {𝓤 : Ura M} (𝓛 : Logic 𝓤) (at_mem : Memory → SP
       let Post = (walk_of 𝓛 F.ended stayed (F.clauses 𝓛 at_mem run)).post z in
       let at = z.0.3.0 in let alloc = z.0.3.1.0 in
       let To = type_at (F.signature).result tt in
-      let made : To.Denot = record { at = at; alloc = alloc; shell = None } in
+      let made : To.Denot = record { at = at; alloc = alloc; array = None } in
       qed 𝓛 ((‵ ftrue ⊛ ‵ (fsep (RawPtr.own_val at z.0.4.0) (fsep ((P E).own_val alloc z.0.4.1.0) ftrue))) ∷ raw (emp 𝓤) ∷ []) ∵
       split ! $ drop ! $ fsplit ! $ feq_l ! (λ ep. fsplit ! $ handle_tells E.al ! alloc z.0.4.1.0 (λ hv ea fa. keep ! (0 ∷ []) $
       let w = vstruct (of_list (ptr_val at ∷ hv ∷ [])) in

@@ -1,5 +1,0 @@
-use Rattle.mars_c.proofs.Answering.{opened}
-use Rattle.mars_c.proofs.arrays.mars_open.Goals as goal
-
-pub returns-in-Ok : goal.returns-in-Ok
-returns-in-Ok c = opened _ _ _ _ _ _ c.in-None.ensures.shell c.put-in-Ok.ensures c.in-Ok.ensures.opened

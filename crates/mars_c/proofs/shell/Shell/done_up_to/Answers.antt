@@ -1,4 +1,0 @@
-use Rattle.mars_c.proofs.shell.Shell.done_up_to.Goals as goal
-
-pub returns : goal.returns
-returns c = record { is = c.done_up_to.ensures.moment; durable = c.done_up_to.ensures.safe }
