@@ -1,7 +1,7 @@
 -- Records that are added to tables in memory.
 use Rattle.std.proofs.Common.{◌≡◌, ℕ, zero, suc, ◌+◌, ◌<◌, ◌≤◌, Bool, true, false, cond, List, [], ◌∷◌, ◌++◌, length, map, take, get_or, Option, Some, None, refl, sym, ap, subst, ◌∙◌, arith, append-nil}
 use Rattle.std.specs.Prelude.{if◌then◌else◌, is_some, slice_set, slice_get, IsPermutation}
-use Rattle.std.specs.BTreeMap.{BTreeMap, insert_entry, is_at}
+use Rattle.std.specs.BTreeMap.{insert_entry, is_at}
 use Rattle.std.specs.List.{All, Contains, list_any}
 use Rattle.std.specs.Map.{lookup}
 use Rattle.std.specs.Ordering.{nat_cmp, is_eq, match_ordering}
@@ -21,10 +21,7 @@ use Rattle.history.specs.Writes.{Row}
 use Rattle.history.specs.Rows.{NamedRows, keyed, all_keyed, records_in}
 use Rattle.dump_text.specs.Dump.{is_same_name}
 use Rattle.dump_text.specs.Dump.{with_name}
-use Rattle.dump_text.specs.Gathering.{IsPut, names_of, named}
-
-abbrev pub Table : Type 0
-Table = List ℕ × BTreeMap ℕ (List ℕ)
+use Rattle.dump_text.specs.Gathering.{IsPut, names_of}
 
 -- ---- rows of a table
 
@@ -65,71 +62,63 @@ keyed_row name rows row (i, within, is) =
 -- ---- tables, one of which is changed
 
 -- a row more in a table is a record more
-pub put_at : (tables : List Table) (i : ℕ) (table : Table) (memory : BTreeMap ℕ (List ℕ)) (row : Row) → i < length tables → table ≡ get_or tables i table
-    → IsPermutation (row ∷ table.1.entries) memory.entries
-    → IsPermutation (keyed table.0 row ∷ records_in (map named tables)) (records_in (map named (slice_set tables i (table.0, memory))))
+pub put_at : (tables : List NamedRows) (i : ℕ) (table : NamedRows) (memory : List Row) (row : Row) → i < length tables → table ≡ get_or tables i table
+    → IsPermutation (row ∷ table.1) memory
+    → IsPermutation (keyed table.0 row ∷ records_in tables) (records_in (slice_set tables i (table.0, memory)))
 put_at [] i table memory row within is more = absurd (omega (arith, within))
 put_at (first ∷ tables) zero table memory row within is more =
-    subst (λ (t : Table). IsPermutation (keyed table.0 row ∷ (all_keyed t.0 t.1.entries ++ records_in (map named tables))) (all_keyed table.0 memory.entries ++ records_in (map named tables))) is
-    (IsPermutation-append_left (records_in (map named tables)) _ _ (IsPermutation-map (keyed table.0) _ _ more))
+    subst (λ (t : NamedRows). IsPermutation (keyed table.0 row ∷ (all_keyed t.0 t.1 ++ records_in tables)) (all_keyed table.0 memory ++ records_in tables)) is
+    (IsPermutation-append_left (records_in tables) _ _ (IsPermutation-map (keyed table.0) _ _ more))
 put_at (first ∷ tables) (suc i) table memory row within is more =
-    let front = all_keyed first.0 first.1.entries in
-    IsPermutation-trans _ _ _ (IsPermutation-sym _ _ (IsPermutation-middle front (keyed table.0 row) (records_in (map named tables))))
+    let front = all_keyed first.0 first.1 in
+    IsPermutation-trans _ _ _ (IsPermutation-sym _ _ (IsPermutation-middle front (keyed table.0 row) (records_in tables)))
     (IsPermutation-append_right front _ _ (put_at tables i table memory row (omega (arith, within)) is more))
 
 -- the names stay
-pub same_names : (tables : List Table) (i : ℕ) (table : Table) (memory : BTreeMap ℕ (List ℕ)) → table ≡ get_or tables i table
-    → names_of (map named (slice_set tables i (table.0, memory))) ≡ names_of (map named tables)
+pub same_names : (tables : List NamedRows) (i : ℕ) (table : NamedRows) (memory : List Row) → table ≡ get_or tables i table
+    → names_of (slice_set tables i (table.0, memory)) ≡ names_of tables
 same_names [] i table memory is = refl
-same_names (first ∷ tables) zero table memory is = ap (λ (t : Table). t.0 ∷ names_of (map named tables)) is
+same_names (first ∷ tables) zero table memory is = ap (λ (t : NamedRows). t.0 ∷ names_of tables) is
 same_names (first ∷ tables) (suc i) table memory is = ap (λ (names : List (List ℕ)). first.0 ∷ names) (same_names tables i table memory is)
-
-pub as_many : (tables : List Table) → length (map named tables) ≡ length tables
-as_many [] = refl
-as_many (table ∷ tables) = ap suc (as_many tables)
 
 pub as_many_names : (tables : List NamedRows) → length (names_of tables) ≡ length tables
 as_many_names [] = refl
 as_many_names (table ∷ tables) = ap suc (as_many_names tables)
 
 -- the name in a place is that of the table there
-pub name_at : (tables : List Table) (i : ℕ) (table : Table) → i < length tables → table ≡ get_or tables i table → slice_get (names_of (map named tables)) i ≡ Some table.0
+pub name_at : (tables : List NamedRows) (i : ℕ) (table : NamedRows) → i < length tables → table ≡ get_or tables i table → slice_get (names_of tables) i ≡ Some table.0
 name_at [] i table within is = absurd (omega (arith, within))
-name_at (first ∷ tables) zero table within is = ap (λ (t : Table). Some t.0) (sym is)
+name_at (first ∷ tables) zero table within is = ap (λ (t : NamedRows). Some t.0) (sym is)
 name_at (first ∷ tables) (suc i) table within is = name_at tables i table (omega (arith, within)) is
 
-pub within_names : (tables : List Table) (i : ℕ) (name : List ℕ) → slice_get (names_of (map named tables)) i ≡ Some name → i < length tables
-within_names tables i name at = omega (arith, slice_get_within (names_of (map named tables)) i name at, as_many_names (map named tables), as_many tables)
+pub within_names : (tables : List NamedRows) (i : ℕ) (name : List ℕ) → slice_get (names_of tables) i ≡ Some name → i < length tables
+within_names tables i name at = omega (arith, slice_get_within (names_of tables) i name at, as_many_names tables)
 
 -- a record of a table is one of all
-pub found_at : (tables : List Table) (i : ℕ) (table : Table) (row : Row) → i < length tables → table ≡ get_or tables i table → Contains table.1.entries row
-    → Contains (records_in (map named tables)) (keyed table.0 row)
+pub found_at : (tables : List NamedRows) (i : ℕ) (table : NamedRows) (row : Row) → i < length tables → table ≡ get_or tables i table → Contains table.1 row
+    → Contains (records_in tables) (keyed table.0 row)
 found_at [] i table row within is has = absurd (omega (arith, within))
 found_at (first ∷ tables) zero table row within is has =
-    subst (λ (t : Table). Contains (all_keyed t.0 t.1.entries ++ records_in (map named tables)) (keyed table.0 row)) is
-    (Contains-append_left (all_keyed table.0 table.1.entries) (records_in (map named tables)) (keyed table.0 row) (keyed_row table.0 table.1.entries row has))
+    subst (λ (t : NamedRows). Contains (all_keyed t.0 t.1 ++ records_in tables) (keyed table.0 row)) is
+    (Contains-append_left (all_keyed table.0 table.1) (records_in tables) (keyed table.0 row) (keyed_row table.0 table.1 row has))
 found_at (first ∷ tables) (suc i) table row within is has =
-    Contains-append_right (all_keyed first.0 first.1.entries) (records_in (map named tables)) (keyed table.0 row) (found_at tables i table row (omega (arith, within)) is has)
+    Contains-append_right (all_keyed first.0 first.1) (records_in tables) (keyed table.0 row) (found_at tables i table row (omega (arith, within)) is has)
 
 -- ---- a table more
 
-pub names-push : (tables : List Table) (table : Table) → names_of (map named (tables ++ table ∷ [])) ≡ names_of (map named tables) ++ table.0 ∷ []
+pub names-push : (tables : List NamedRows) (table : NamedRows) → names_of (tables ++ table ∷ []) ≡ names_of tables ++ table.0 ∷ []
 names-push [] table = refl
 names-push (first ∷ tables) table = ap (λ (names : List (List ℕ)). first.0 ∷ names) (names-push tables table)
 
-pub records-empty : (tables : List Table) (table : Table) → table.1.entries ≡ [] → records_in (map named (tables ++ table ∷ [])) ≡ records_in (map named tables)
+pub records-empty : (tables : List NamedRows) (table : NamedRows) → table.1 ≡ [] → records_in (tables ++ table ∷ []) ≡ records_in tables
 records-empty [] table none = ap (λ (rows : List Row). all_keyed table.0 rows ++ []) none
-records-empty (first ∷ tables) table none = ap (λ (entries : List (Key × List ℕ)). all_keyed first.0 first.1.entries ++ entries) (records-empty tables table none)
+records-empty (first ∷ tables) table none = ap (λ (entries : List (Key × List ℕ)). all_keyed first.0 first.1 ++ entries) (records-empty tables table none)
 
 pub last_name : (names : List (List ℕ)) (name : List ℕ) → slice_get (names ++ name ∷ []) (length names) ≡ Some name
 last_name [] name = refl
 last_name (first ∷ names) name = last_name names name
 
--- ---- a loop over the names
-
-pub named_next : (tables : List Table) (i : ℕ) (table : Table) → i < length tables → table ≡ get_or tables i table → take (i + 1) (map named tables) ≡ take i (map named tables) ++ named table ∷ []
-named_next tables i table within is =
-    take_more (map named tables) i (named table) (omega (arith, as_many tables, within)) ∙ ap (λ (t : NamedRows). take i (map named tables) ++ t ∷ []) (get_or-map named tables i table (named table) within ∙ ap named (sym is))
+-- ---- names
 
 -- a name that stands in a place is one of the names
 pub is_among : (names : List (List ℕ)) (i : ℕ) (name : List ℕ) → slice_get names i ≡ Some name → names ≡ with_name names name
@@ -141,20 +130,20 @@ pub is_new : (names : List (List ℕ)) (name : List ℕ) → list_any (is_same_n
 is_new names name other = sym (ap (λ (b : Bool). if b then names else names ++ name ∷ []) other)
 
 -- what stood under the key of a row that was put
-pub is_put : (tables : List Table) (i : ℕ) (table : Table) (memory : BTreeMap ℕ (List ℕ)) (key : ℕ) (value : List ℕ) (had : Option (List ℕ)) → i < length tables → table ≡ get_or tables i table
-    → had ≡ lookup (is_at (nat_cmp key)) table.1.entries → memory.entries ≡ insert_entry nat_cmp table.1.entries key value
-    → (name : List ℕ) → slice_get (names_of (map named tables)) i ≡ Some name
-    → IsPut (map named tables) name (key, value) had (map named (slice_set tables i (table.0, memory)))
+pub is_put : (tables : List NamedRows) (i : ℕ) (table : NamedRows) (memory : List Row) (key : ℕ) (value : List ℕ) (had : Option (List ℕ)) → i < length tables → table ≡ get_or tables i table
+    → had ≡ lookup (is_at (nat_cmp key)) table.1 → memory ≡ insert_entry nat_cmp table.1 key value
+    → (name : List ℕ) → slice_get (names_of tables) i ≡ Some name
+    → IsPut tables name (key, value) had (slice_set tables i (table.0, memory))
 is_put tables i table memory key value had within is was now name at = go had was
   where
     same : table.0 ≡ name
     same = let e = sym (name_at tables i table within is) ∙ at in cc
 
-    go : (had : Option (List ℕ)) → had ≡ lookup (is_at (nat_cmp key)) table.1.entries → IsPut (map named tables) name (key, value) had (map named (slice_set tables i (table.0, memory)))
+    go : (had : Option (List ℕ)) → had ≡ lookup (is_at (nat_cmp key)) table.1 → IsPut tables name (key, value) had (slice_set tables i (table.0, memory))
     go None was =
-        subst (λ (n : List ℕ). IsPermutation (keyed n (key, value) ∷ records_in (map named tables)) (records_in (map named (slice_set tables i (table.0, memory))))) same
-        (put_at tables i table memory (key, value) within is (subst (λ (rows : List Row). IsPermutation ((key, value) ∷ table.1.entries) rows) (sym now) (with_row key value table.1.entries (sym was))))
-    go (Some old) was = subst (λ (n : List ℕ). Contains (records_in (map named tables)) (of_table n key, old)) same (found_at tables i table (key, old) within is (found_row key old table.1.entries (sym was)))
+        subst (λ (n : List ℕ). IsPermutation (keyed n (key, value) ∷ records_in tables) (records_in (slice_set tables i (table.0, memory)))) same
+        (put_at tables i table memory (key, value) within is (subst (λ (rows : List Row). IsPermutation ((key, value) ∷ table.1) rows) (sym now) (with_row key value table.1 (sym was))))
+    go (Some old) was = subst (λ (n : List ℕ). Contains (records_in tables) (of_table n key, old)) same (found_at tables i table (key, old) within is (found_row key old table.1 (sym was)))
 
 pub nothing_had : (old new : List NamedRows) (name : List ℕ) (row : Row) (had : Option (List ℕ)) → is_some had ≡ false → IsPut old name row had new → IsPermutation (keyed name row ∷ records_in old) (records_in new)
 nothing_had old new name row None none put = put

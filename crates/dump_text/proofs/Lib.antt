@@ -1,4 +1,5 @@
 mod Lines
+mod Rising
 mod Gathering
 mod Taken
 mod OneLine

@@ -1,6 +1,5 @@
 -- How records of lines are gathered, table by table.
 use Rattle.std.specs.Prelude.{ℕ, ◌≡◌, ◌≤◌, ◌⊎◌, false, List, ◌∷◌, map, length, Option, Some, None, Result, Ok, Err, slice_get, IsPermutation}
-use Rattle.std.specs.BTreeMap.{BTreeMap}
 use Rattle.std.specs.List.{Contains, list_any}
 use Rattle.history.specs.declared.key.Key.{Key}
 use Rattle.history.specs.Key.{of_table}
@@ -10,10 +9,6 @@ use Rattle.dump_text.specs.Dump.{is_same_name}
 use Rattle.dump_text.specs.Dump.{with_name}
 use Rattle.dump_text.specs.declared.fault.LineFault.{LineFault}
 use Rattle.dump_text.specs.declared.fault.LineFault.TheVariants.{Twice, NinthTable}
-
--- a table in memory
-abbrev pub named : List ℕ × BTreeMap ℕ (List ℕ) → NamedRows
-named table = (table.0, table.1.entries)
 
 abbrev pub names_of : List NamedRows → List (List ℕ)
 names_of tables = map (λ (table : NamedRows). table.0) tables

@@ -1,5 +1,6 @@
 pub mod Dump
 pub mod Causes
+pub mod Keyed
 pub mod Gathering
 pub mod Taking
 pub mod Again

@@ -7,6 +7,7 @@
 
 mod fault;
 mod gathered;
+mod keyed_rows;
 mod laws;
 mod reading;
 mod record;

@@ -22,7 +22,7 @@ pub fn read_dump(alloc: Global, text: &[u8]) -> Result<Tables, DumpFault>
     let mut count: u64 = 0;
     while let Some((line, behind)) = next_line(rest) {
         if let Some(said) = read_count(line) {
-            return end(alloc, &gathered, count, said, behind);
+            return end(alloc, gathered, count, said, behind);
         }
         take(alloc, &mut gathered, line, count + 1)?;
         count += 1;
@@ -49,13 +49,13 @@ fn take(alloc: Global, gathered: &mut Gathered, line: &[u8], n: u64) -> Result<(
 // What the lines of records say, of which there are `count`, when the line behind them says how many there are.
 fn end(
     alloc: Global,
-    gathered: &Gathered,
+    gathered: Gathered,
     count: u64,
     said: u64,
     behind: &[u8],
 ) -> Result<Tables, DumpFault>
     requires { count + length behind.now + 1 < 2 ^ 64 }
-    ensures { (text : List _) (read : List _) → HasRead gathered.now read → count ≡ length read
+    ensures { (text : List _) (read : List _) → HasRead gathered read → count ≡ length read
         → lines_of text ≡ map record_words read ++ count_words said ∷ lines_of behind.now → DumpSays text result }
 {
     if !behind.is_empty() {
@@ -70,5 +70,5 @@ fn end(
             counted: count,
         });
     }
-    Ok(gathered.tables(alloc)?)
+    Ok(gathered.into_tables(alloc)?)
 }

@@ -4,7 +4,7 @@ use Rattle.std.specs.Prelude.{if◌then◌else◌, IsPermutation, Some}
 use Rattle.std.specs.FinMap.{get, entries}
 use Rattle.std.specs.List.{Contains}
 use Rattle.pcm_media.specs.Images.{Content, MayLeave}
-use Rattle.pcm_media.specs.Memory.{content_of}
+use Rattle.blank_media.specs.Changes.{content_of}
 use Rattle.pcm_media.specs.View.{View}
 use Rattle.pcm_media.proofs.Left.{left_as_read}
 use Rattle.array_shape.specs.declared.shape.Shape.{Shape}

@@ -1,7 +1,7 @@
 // What a restore of a dump holds.
 ghost use Rattle.std.specs.Prelude.{ℕ, ◌≡◌, List, Bool, Ok, Err};
 ghost use Rattle.pcm_media.specs.Images.{MayLeave};
-ghost use Rattle.pcm_media.specs.Memory.{content_of};
+ghost use Rattle.blank_media.specs.Changes.{content_of};
 ghost use Rattle.array_shape.specs.declared.shape.Shape.{Shape};
 ghost use Rattle.eaw_device.specs.Made.{LeavesAsRead};
 ghost use Rattle.eaw_device.specs.Opens.{Opens};

@@ -2,7 +2,7 @@
 use Rattle.std.specs.Prelude.{ℕ, ◌≡◌, ◌<◌, List, length, Result, Ok, Err}
 use Rattle.mars_base.specs.Bytes.{range}
 use Rattle.pcm_media.specs.Images.{Content}
-use Rattle.pcm_media.specs.Memory.{content_of}
+use Rattle.blank_media.specs.Changes.{content_of}
 use Rattle.pcm_media.specs.View.{View}
 use Rattle.array_shape.specs.declared.shape.Shape.{Shape}
 use Rattle.array_shape.specs.declared.bad_shape.BadShape.{BadShape}

@@ -7,13 +7,14 @@ ghost use Rattle.restore_runs.specs.Making.{BeginsAsArray, Makes, MakesFrom};
 use crate::sizing::{half_for, shape_for};
 use crate::stop::{Stop, input_stop, restore_stop};
 use array_shape::HEADER_LEN;
+use blank_media::BlankMedia;
 use command_words::RestoreNumbers;
 use dump_text::read_dump;
 use history::Tables;
 use history_text::count_records;
-use mars_base::{Failed, NoMemory};
+use mars_base::Failed;
 use outside::Source;
-use pcm_media::{Media, MemoryMedia};
+use pcm_media::Media;
 use restoring::restore;
 use row_bytes::read_array_header;
 use script_run::read_input;
@@ -23,7 +24,7 @@ use table_builder::pages_needed;
 /// An array in memory.
 #[derive(Drop)]
 pub struct Made {
-    pub media: MemoryMedia,
+    pub media: BlankMedia,
     /// How many records it has.
     pub records: u64,
 }
@@ -67,17 +68,11 @@ fn make_of(alloc: Global, asked: &RestoreNumbers, tables: Tables) -> Result<Made
         Ok(shape) => shape,
         Err(bad) => return Err(Stop::Shape(bad)),
     };
-    let mut media = blank(alloc, shape.media_len())?;
+    let mut media = BlankMedia::new(alloc, shape.media_len())?;
     match restore(alloc, &mut media, &shape, fill, tables) {
         Ok(()) => Ok(Made { media, records }),
         Err(fault) => Err(restore_stop(fault)),
     }
-}
-
-// A medium of zeros.
-fn blank(alloc: Global, len: u64) -> Result<MemoryMedia, NoMemory> {
-    let zeros = vec![in alloc; 0; len as usize]?;
-    MemoryMedia::new(alloc, &zeros, 0, 0)
 }
 
 /// Whether a medium begins as an array of its length does.

@@ -73,7 +73,7 @@ pub fn restore_stop(fault: RestoreFault) -> Stop
 {
     match fault {
         RestoreFault::Tables(fault) => Stop::Tables(fault),
-        // A medium in memory that has the length of its array fails only where there is no memory for the record of its calls.
+        // A medium in memory that has the length of its array fails only at its last moment, which no restore comes to.
         RestoreFault::Format(_) => Stop::NoMemory,
     }
 }

@@ -1,0 +1,50 @@
+-- `then` picks the changes of the new notes. Assumes `Logic`.
+use Rattle.std.proofs.Common.{[], ◌∷◌, ◌++◌, refl, w64}
+use Rattle.std.proofs.raw_atomic.Walks.{proved}
+use types.Kit.{‵, raw, ◌⊛◌, ◌$◌, ◌∵◌, !, qed, move, keep, split, fjoin, suffices, done}
+use types.Part.{agg}
+use types.Run.{enter, returns, no_more}
+use types.ByLocal.{alloc_all, pass_all, free_all, look_at, sets}
+use denote.Builtin.{u64, RefOf}
+use denote.Exit.{yes}
+use denote.Plain.{uint_vals, uint_Tells}
+use denote.RattleType.{owns}
+use denote.Ref.{shr_vals}
+use denote.Signature.{plain, types_at, named_lft}
+use denote.Steps.{nothing}
+use denote.Triple.Entry.{alive}
+use denote.Triple.Walked.{says, Stays, stay_dropped, walk_of, ends_at, Goes-dropped}
+use Rattle.blank_media.proofs.Walks.{none, none_made}
+use Rattle.blank_media.specs.Changes.{step_of}
+use Rattle.blank_media.specs.contracts.notes.Change as Change
+use Rattle.blank_media.specs.contracts.notes.Notes as Notes
+use Rattle.blank_media.specs.contracts.notes.Notes.then as f
+use Rattle.blank_media.proofs.notes.Notes.then.Statement.{statement}
+use Rattle.blank_media.proofs.notes.Notes.then.Code as code
+
+abbrev stayed : Stays f.ended.signature.params f.ended.kept
+stayed = (stay_dropped _ yes, (stay_dropped _ yes, (stay_dropped _ yes, tt)))
+
+pub then_spec : {M : Type 1} → statement M
+then_spec 𝓤 𝓛 𝓜 𝓡 wired =
+    let c = f.clauses 𝓛 𝓜.mem 𝓡.returns in let W = walk_of 𝓛 f.ended stayed c in
+    proved 𝓛 f.ended stayed c 𝓜 𝓡 (
+      Goes-dropped 𝓛 3 (RefOf (0 ∷ []) tt (plain (λ _. Notes.the_row)) (λ _. tt)) yes (λ κs x w. refl),
+      (
+        Goes-dropped 𝓛 3 (plain (λ _. u64)) yes (λ κs x w. refl),
+        (Goes-dropped 𝓛 3 (RefOf (1 ∷ []) tt (plain (λ κs. Change.the_row (named_lft 3 2 tt κs))) (λ _. tt)) yes (λ κs x w. refl), tt),
+      ),
+    )
+    f.Key.name code.function (code.unfolded 𝓤 𝓛.H 𝓜 𝓡 wired)
+    (λ κs. (shr_vals, (uint_vals w64, (shr_vals, tt))))
+    (λ κs. ((λ r vs s. s.0), (uint_Tells w64, ((λ r vs s. s.0), tt)))) (λ κs qs bounds a n are.
+    let y : W.Ghost = ((κs, qs, bounds, a, (shr_vals a.0, (uint_vals w64 a.1.0, (shr_vals a.1.1.0, tt)))), n) in
+    let more : (Notes.the_row).Denot = record { made = a.0.now.made ++ (record { moment = a.1.0; step = step_of a.1.1.0.now }) ∷ [] } in
+    qed 𝓛 ((raw (alive 𝓛 f.signature κs qs) ⊛ ‵ (owns (types_at f.signature.params κs) a y.0.4)) ∷ raw ((c κs a).requires n) ∷ []) ∵
+    split ! $ keep ! (0 ∷ []) $
+    enter ! _ _ _ _ _ $ alloc_all ! (λ l. pass_all ! refl ((tt, tt), ((tt, record { fits = are.1.0.1 }), ((tt, tt), tt))) $
+    sets ! (agg ! (no_more !)) refl (tt, tt) $
+    nothing ! $ none_made ! $ fjoin ! $
+    returns ! (look_at ! 0 refl) $ free_all ! refl $
+    suffices ! _ (ends_at 𝓛 f.ended stayed c y none more (tt, (tt, (tt, tt))) (tt, (tt, (tt, tt)))) $ says ! refl $
+    nothing ! $ nothing ! $ fjoin ! $ nothing ! $ fjoin ! $ nothing ! $ fjoin ! $ move ! (2 ∷ 0 ∷ 1 ∷ []) $ done !))
