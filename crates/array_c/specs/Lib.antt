@@ -4,6 +4,7 @@ pub mod Shown
 pub mod Refusals
 pub mod Asks
 pub mod Told
+pub mod Safe
 pub mod Tells
 pub mod Opens
 pub mod Formats

@@ -2,12 +2,13 @@
 //! device. The library computes, and makes no call of the system but for memory.
 //!
 //! Read first `commands.rt`, `arrays.rt` and `tape.rt`, the functions that C calls, beside `mars_array.h`; then `specs/Asks`, which says what a
-//! command does. `kept/held.rt` and `kept/parts.rt` are the one place with a raw pointer.
+//! command does, and `laws.rt`, what a loss of power leaves. `kept/held.rt` and `kept/parts.rt` are the one place with a raw pointer.
 #![tactic(auto)]
 
 mod arrays;
 mod commands;
 mod kept;
+mod laws;
 mod logs;
 mod meanings;
 mod open_array;
@@ -29,6 +30,7 @@ pub use commands::{
     mars_array_partial_abort, mars_array_read,
 };
 pub use kept::{Held, Kept};
+pub use laws::data_stays_safe;
 pub use open_array::OpenArray;
 pub use tape::{
     mars_array_done_up_to, mars_array_moment, mars_array_piece, mars_array_piece_bytes,

@@ -1,11 +1,11 @@
 // What C calls to take the tape of an open array down. `mars_array.h` says what it owes.
 ghost use Rattle.std.specs.Prelude.{◌≡◌, pos, true, None};
 ghost use Rattle.tape_media.specs.Tape.{next_of};
-ghost use Rattle.array_c.specs.Shown.{tape_of, store_in};
+ghost use Rattle.array_c.specs.Shown.{tape_of};
 ghost use Rattle.array_c.specs.Status.{is_closed};
 ghost use Rattle.array_c.specs.Told.{IsPutOut};
 ghost use Rattle.array_c.specs.Asks.{Looks, Changes};
-ghost use Rattle.array_c.specs.Tells.{IsPiece, IsWrite, IsDone, IsDoneUpTo, GoesOn};
+ghost use Rattle.array_c.specs.Tells.{IsPiece, IsWrite, IsDone, IsMoment, IsDoneUpTo, GoesOn};
 
 use crate::kept::Kept;
 use crate::status::{IS_CLOSED, NOTHING, OK};
@@ -75,7 +75,7 @@ pub extern "C" fn mars_array_piece_failed(alloc: Global, a: &mut Kept) -> i32
 /// The moment of the last call.
 #[unsafe(no_mangle)]
 pub extern "C" fn mars_array_moment(alloc: Global, a: &mut Kept) -> u64
-    ensures { Looks (λ array. result ≡ (store_in array).moment) (result ≡ 0) a.old.held.array a.new.held.array }
+    ensures { Looks (IsMoment result) (result ≡ 0) a.old.held.array a.new.held.array }
 {
     let Some(array) = a.take(alloc) else {
         return 0;

@@ -2,8 +2,8 @@
 ghost use Rattle.std.specs.Prelude.{◌≡◌, ◌≤◌, ℕ, List, true, false, IsTrue, drop};
 ghost use Rattle.tape_media.specs.Steps.{DeviceMayLeave};
 ghost use Rattle.tape_media.specs.Tape.{next_of, done_moment};
-ghost use Rattle.array_c.specs.Shown.{tape_of, store_in};
-ghost use Rattle.array_c.specs.Tells.{IsPiece, IsWrite, IsDone, IsDoneUpTo, GoesOn};
+ghost use Rattle.array_c.specs.Shown.{tape_of};
+ghost use Rattle.array_c.specs.Tells.{IsPiece, IsWrite, IsDone, IsMoment, IsDoneUpTo, GoesOn};
 
 use crate::open_array::OpenArray;
 use crate::putting::put_out;
@@ -60,9 +60,9 @@ impl OpenArray {
 
     /// The moment of the last call.
     pub fn moment(&self) -> u64
-        ensures { result ≡ (store_in self.now).moment }
+        ensures { IsMoment result self.now }
     {
-        self.store.moment()
+        moment(&self.store)
     }
 
     /// The moment up to which the pieces of all calls were done.
@@ -73,12 +73,22 @@ impl OpenArray {
     }
 }
 
+// The moment of the last call of a store.
+fn moment<S: TapedStore>(store: &S) -> u64
+    ensures moment { result ≡ (S.view store.now).moment }
+    ensures now { IsTrue S.tells → (S.view store.now).is_dead ≡ false
+        → (image : List ℕ) → (S.view store.now).left_since result image → S.opens (S.view store.now).shape image (S.view store.now).state.bytes }
+{
+    store.moment()
+}
+
 // The moment up to which the pieces of all calls of a store were done.
 fn done_up_to<S: TapedStore>(store: &S) -> u64
     ensures moment { result ≡ done_moment (S.tape store.now) }
-    ensures durable { (t : ℕ) (image : List ℕ) → t ≤ result → DeviceMayLeave (S.tape store.now).past image → (S.view store.now).left_since t image }
-    ensures now { IsTrue S.tells → result ≡ (S.view store.now).moment → (S.view store.now).is_dead ≡ false
-        → (image : List ℕ) → DeviceMayLeave (S.tape store.now).past image → S.opens (S.view store.now).shape image (S.view store.now).state.bytes }
+    ensures durable { (t : ℕ) (image : List ℕ) → t ≤ result → DeviceMayLeave (S.tape store.now).past image
+        → (S.view store.now).left_since t image }
+    ensures now { IsTrue S.tells → result ≡ (S.view store.now).moment → (S.view store.now).is_dead ≡ false → (image : List ℕ)
+        → DeviceMayLeave (S.tape store.now).past image → S.opens (S.view store.now).shape image (S.view store.now).state.bytes }
 {
     store.done_up_to()
 }
