@@ -1,6 +1,7 @@
 // A call of a caller's is made by the core of an open array.
-ghost use Rattle.std.specs.Prelude.{◌≡◌, ◌≤◌, ◌⊎◌, Some, None, IfOk, IfErr, OnErr, IfSome, IfNone};
+ghost use Rattle.std.specs.Prelude.{◌≡◌, ◌≤◌, ◌⊎◌, Some, None, IfOk, IfErr, OnErr};
 ghost use Rattle.mars_c.specs.Calls.{Makes, DoesOpen, Unmade, Fits, Calls};
+ghost use Rattle.mars_c.specs.Status.{bad_caller};
 ghost use Rattle.mars_c.specs.Told.{same_rows, rows_in, count_in};
 
 use crate::kept::Kept;
@@ -21,21 +22,18 @@ pub fn ask(alloc: Global, m: &mut Kept, caller: u8, call: &Call) -> Result<Reply
     };
     let reply = step(&mut shell, caller, call);
     m.put(shell);
-    match reply {
-        Some(reply) => Ok(reply),
-        None => Err(BAD_CALLER),
-    }
+    reply
 }
 
-/// There is no reply where there is no such caller.
-pub fn step(shell: &mut Shell, caller: u8, call: &Call) -> Option<Reply>
-    ensures some { IfSome result (Makes same_rows caller call.now shell.old shell.new) }
-    ensures none { IfNone result ((shell.old.callers ≤ caller) × (shell.new ≡ shell.old)) }
+/// It fails where there is no such caller.
+pub fn step(shell: &mut Shell, caller: u8, call: &Call) -> Result<Reply, i32>
+    ensures ok { IfOk result (Makes same_rows caller call.now shell.old shell.new) }
+    ensures err { IfErr result (λ status. (status ≡ bad_caller) × (shell.old.callers ≤ caller) × (shell.new ≡ shell.old)) }
 {
     if caller >= shell.callers {
-        return None;
+        return Err(BAD_CALLER);
     }
-    Some(shell.core.step(caller, call))
+    Ok(shell.core.step(caller, call))
 }
 
 /// Makes a scan, whose rows are kept, and puts into `count` how many there are.
@@ -53,8 +51,9 @@ pub fn ask_rows(alloc: Global, m: &mut Kept, caller: u8, call: &Call, count: &mu
 fn step_rows(alloc: Global, shell: &mut Shell, caller: u8, call: &Call, count: &mut u64) -> i32
     ensures { Calls rows_in Fits (λ told. count.new ≡ count_in count.old told) caller call.now (Some shell.old) (Some shell.new) result }
 {
-    let Some(reply) = step(shell, caller, call) else {
-        return BAD_CALLER;
+    let reply = match step(shell, caller, call) {
+        Ok(reply) => reply,
+        Err(status) => return status,
     };
     let status = status_of(&reply);
     *count = counted(&reply, *count);
