@@ -81,6 +81,7 @@ fn are_inside(child: u64, entry: Option<(u64, u64)>, count: u32) -> bool
 }
 
 // Reads a page of the tree.
+#[inline(always)]
 pub fn read_node<S: EawStore>(
     pages: &mut Pages<S>,
     page: u32,
@@ -104,6 +105,7 @@ pub fn read_node<S: EawStore>(
 }
 
 // Goes down to the leaf of a key.
+#[inline(always)]
 fn descend<S: EawStore>(
     pages: &mut Pages<S>,
     root: Root,

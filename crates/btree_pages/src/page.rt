@@ -37,15 +37,13 @@ pub fn child_in(page: &[u8; PAGE_LEN], count: u16, key: u64) -> (u64, Option<(u6
     ensures behind { result.1 ≡ behind_in (pairs_said page.now) key }
     ensures above { IfSome result.1 (λ entry. key < entry.0) }
 {
-    let mut child = read_pair(page, 0).1;
     for i in 1..count {
-        let (low, other) = read_pair(page, i);
-        if key < low {
-            return (child, Some((low, other)));
+        let next = read_pair(page, i);
+        if key < next.0 {
+            return (read_pair(page, i - 1).1, Some(next));
         }
-        child = other;
     }
-    (child, None)
+    (read_pair(page, count - 1).1, None)
 }
 
 // What a key leads to in a page.
