@@ -31,8 +31,8 @@ Fits status = ⊥
 abbrev pub IsBadName : List ℕ → ℤ → Type 0
 IsBadName name status = (status ≡ bad_name) × (IsName name → ⊥)
 
-abbrev pub IsBadRecord : List ℕ → List ℕ → ℤ → Type 0
-IsBadRecord name value status = IsBadName name status ⊎ ((status ≡ bad_value) × (IsValue value → ⊥))
+pub record IsBadRecord (name value : List ℕ) (status : ℤ) : Type 0 where
+  pub why : IsBadName name status ⊎ ((status ≡ bad_value) × (IsValue value → ⊥))
 
 -- It was done, the status is that of its answer, and this is said of that. Or, for one of these reasons, nothing was done, and nothing is said.
 abbrev pub Asks : {A : Type 0} → (TapedRecords → TapedRecords → A → Type 0) → (A → ℤ) → (ℤ → Type 0) → (Option A → Type 0) → ℕ → TapedRecords → TapedRecords → ℤ → Type 0
