@@ -18,8 +18,8 @@ use Rattle.taped_records.specs.Told.{IsPutOut}
 use Rattle.taped_records.specs.Calls.{IsBadName, Asks}
 
 -- why nothing was asked: the text is no name, or the key is too large
-abbrev pub IsBadPlace : List ℕ → ℕ → ℤ → Type 0
-IsBadPlace name key status = IsBadName name status ⊎ ((status ≡ bad_key) × (2 ^ 55 ≤ key))
+pub record IsBadPlace (name : List ℕ) (key : ℕ) (status : ℤ) : Type 0 where
+  pub why : IsBadName name status ⊎ ((status ≡ bad_key) × (2 ^ 55 ≤ key))
 
 -- The status of a call that was not done: of the core's reply, or of a reason of the bytes' own.
 abbrev pub status_of_stop : Stop Unkept → ℤ
