@@ -1,4 +1,3 @@
-pub mod MainRows
 pub mod FateTexts
 pub mod FormatLemmas
 pub mod FreshRecords
@@ -15,6 +14,9 @@ pub mod Serving
 pub mod Lining
 pub mod Joining
 pub mod Making
+pub mod Resting
+pub mod Looking
+pub mod Drilled
 pub mod Showing
 pub mod Summing
 pub mod Running

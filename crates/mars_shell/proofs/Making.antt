@@ -90,7 +90,7 @@ runs_more limits old (first ∷ turns) mid turn new runs step = (runs.0, runs.1,
 
 module _ (tells : Bool) (old : CoreView) (script : List (ℕ × Call)) where
   pub made_none : Made tells old script [] old
-  made_none = record { limits = refl; drawn = refl; runs = λ told. refl; comes = λ told sound safe. continues_none old sound safe }
+  made_none = record { limits = refl; drawn = refl; runs = λ told. refl; shown = λ told first. first; comes = λ told sound safe. continues_none old sound safe }
 
   module _ (turns : List Turn) (mid new : CoreView) (caller : ℕ) (call : Call) (reply : Reply) (made : Made tells old script turns mid) (steps : Steps tells caller call mid new reply) where
     pub drawn_more : (d : ℕ × Call) → length turns < length script → get_or script (length turns) d ≡ (caller, call)
@@ -107,6 +107,7 @@ module _ (tells : Bool) (old : CoreView) (script : List (ℕ × Call)) where
       drawn = drawn_more d more is ∙ ap (λ (n : ℕ). take n script) (sym (length-append turns ((caller, call, reply) ∷ [])));
       runs = λ told. runs_more old.limits old.state turns mid.state (caller, call, reply) new.state (made.runs told)
           (subst (λ (l : Limits). Step l mid.state caller call reply new.state) made.limits (steps.step told));
+      shown = λ told first. steps.shown told (made.shown told first);
       comes = λ told sound safe.
           let on = made.comes told sound safe in
           continues_on old mid new on (continues_step tells caller call mid new reply on.sound steps told);

@@ -1,11 +1,11 @@
 -- What a drill does and writes.
-use Rattle.std.specs.Prelude.{ℕ, ◌≡◌, ◌%◌, ◌^◌, List, [], ◌∷◌, ◌++◌, length, map, take, count_by, flat_map, bytes_eq, codes, Bool, IsTrue}
+use Rattle.std.specs.Prelude.{ℕ, ◌≡◌, ◌-◌, ◌%◌, ◌^◌, List, [], ◌∷◌, ◌++◌, length, map, take, count_by, flat_map, bytes_eq, codes, Bool, IsTrue}
 use Rattle.history.specs.Key.{main_name}
 use Rattle.history.specs.Writes.{rows_of}
 use Rattle.std.specs.Fmt.{decimal}
 use Rattle.std.specs.List.{All, sum_by}
 use Rattle.history.specs.declared.call.Call.{Call}
-use Rattle.history.specs.declared.call.Call.TheVariants.{Abort}
+use Rattle.history.specs.declared.call.Call.TheVariants.{Begin, Scan, Abort}
 use Rattle.history.specs.declared.call.Reply.{Reply}
 use Rattle.history.specs.declared.call.Reply.TheVariants.{Fine, Committed, Busy, LogFull, SlotsFull, PagesFull, Media}
 use Rattle.caller_steps.specs.State.{State, records_of}
@@ -38,6 +38,15 @@ summary_text numbers turns rows = number_line (codes "drill " ++ decimal numbers
     (codes "committed" ∷ codes "aborted" ∷ codes "busy" ∷ codes "refused" ∷ [])
     ++ (number_line (codes "records") (length rows) ++ number_line (codes "sum") (sum_by (λ row. row.0) rows % 2 ^ 64)))
 
+-- the last key that a table can have
+abbrev pub last_key : ℕ
+last_key = 2 ^ 64 - 1
+
+-- The calls of a drill: those that are drawn, and behind them caller 0 begins and scans `main`. By then no caller has a transaction that stands
+-- in its way.
+abbrev pub drill_calls : ℕ → ℕ → ℕ → List (ℕ × Call)
+drill_calls seed count callers = drill seed count callers ++ (0, Begin) ∷ (0, Scan main_name 0 last_key) ∷ []
+
 -- By how the script ended: all its calls were made, and after each reply it went on. If the medium failed, it was at the last call made.
 abbrev pub AreMade : Ended → List (ℕ × Call) → List Turn → Type 0
 AreMade MediaFault script turns = (made : List Turn) × (caller : ℕ) × (call : Call)
@@ -45,9 +54,9 @@ AreMade MediaFault script turns = (made : List Turn) × (caller : ℕ) × (call 
 AreMade NoMemory script turns = Unit {0}
 AreMade ended script turns = (length turns ≡ length script) × All (λ turn. IsTrue (goes_on turn.2)) turns
 
--- The turns are the calls of the drawn script, or the first so many of them. If all were made the summary is written, and if the medium
+-- The turns are the calls of the drill, or the first so many of them. If all were made the summary is written, and if the medium
 -- failed the line that says so.
 pub record Drills (numbers : DrillNumbers) (ended : Ended) (cut : Bool) (text : List ℕ) (limits : Limits) (turns : List Turn) (final : State) : Type 0 where
-  pub drawn : map (λ (turn : Turn). (turn.0, turn.1)) turns ≡ take (length turns) (drill numbers.seed numbers.count limits.callers)
-  pub made : AreMade ended (drill numbers.seed numbers.count limits.callers) turns
+  pub drawn : map (λ (turn : Turn). (turn.0, turn.1)) turns ≡ take (length turns) (drill_calls numbers.seed numbers.count limits.callers)
+  pub made : AreMade ended (drill_calls numbers.seed numbers.count limits.callers) turns
   pub told : TellsEnd ended cut text (summary_text numbers turns (rows_of main_name (records_of final))) media_line

@@ -9,7 +9,6 @@ pub mod Told
 pub mod Served
 pub mod Tally
 pub mod Drill
-pub mod MainRows
 pub mod Made
 pub mod Commands
 pub mod Follow

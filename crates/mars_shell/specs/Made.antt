@@ -34,6 +34,7 @@ pub record Made (tells : Bool) (old : CoreView) (script : List (ℕ × Call)) (t
   pub limits : new.limits ≡ old.limits
   pub drawn : map without_reply turns ≡ take (length turns) script
   pub runs : IsTrue tells → Runs old.limits old.state turns new.state
+  pub shown : IsTrue tells → (IsFalse old.state.is_dead → old.shows old.state) → IsFalse new.state.is_dead → new.shows new.state
   pub comes : IsTrue tells → IsSound old.state → IsSafe old old.moment (length old.state.history) → Continues old new
 
 -- the medium failed at the last call made, or there was no memory to go on
@@ -48,4 +49,4 @@ MadeAll tells old script tally new = (turns : List Turn) × Made tells old scrip
 -- the same, with the text of the summary
 abbrev pub SummedUp : Bool → DrillNumbers → CoreView → List (ℕ × Call) → List ℕ → CoreView → Type 0
 SummedUp tells numbers old script text new = (turns : List Turn) × Made tells old script turns new × (map without_reply turns ≡ script) × GoOn turns
-    × (IsTrue tells → text ≡ tally_text numbers (tally_of turns) (rows_of main_name (records_of new.state)))
+    × (IsTrue tells → text ≡ tally_text numbers (tally_of turns) (reply.Listed (rows_of main_name (records_of new.state))))

@@ -4,11 +4,12 @@ use Rattle.std.specs.Fmt.{decimal}
 use Rattle.std.specs.List.{sum_by}
 use Rattle.history.specs.declared.call.Call.{Call}
 use Rattle.history.specs.declared.call.Reply.{Reply}
-use Rattle.history.specs.declared.call.Reply.TheVariants.{Media, NoMemory}
+use Rattle.history.specs.declared.call.Reply.TheVariants.{Listed, Media, NoMemory}
 use Rattle.caller_steps.specs.Run.{Turn}
 use Rattle.script_run.specs.declared.responder.Stop.{Stop}
 use Rattle.script_run.specs.declared.responder.Stop.TheVariants as stop
 use Rattle.command_words.specs.declared.words.DrillNumbers.{DrillNumbers}
+use Rattle.script_text.specs.Replies.{reply_line}
 use Rattle.mars_shell.specs.Drill.{word_of}
 use Rattle.history_text.specs.Text.{number_line}
 use Rattle.mars_shell.specs.Lines.{goes_on}
@@ -31,12 +32,16 @@ tally_of turns = record {
 abbrev pub key_sum : List (ℕ × List ℕ) → ℕ
 key_sum rows = sum_by (λ row. row.0) rows % 2 ^ 64
 
--- the text of the summary with this tally and these records
-abbrev pub tally_text : DrillNumbers → Tally → List (ℕ × List ℕ) → List ℕ
-tally_text numbers tally rows = number_line (codes "drill " ++ decimal numbers.seed) numbers.count
+-- what a look at the records at the end is told as: how many there are and the sum of their keys, or the reply in their place
+abbrev pub look_text : Reply → List ℕ
+look_text (Listed rows) = number_line (codes "records") (length rows) ++ number_line (codes "sum") (key_sum rows)
+look_text reply = reply_line 0 reply
+
+-- the text of the summary with this tally and this reply to the look
+abbrev pub tally_text : DrillNumbers → Tally → Reply → List ℕ
+tally_text numbers tally look = number_line (codes "drill " ++ decimal numbers.seed) numbers.count
     ++ (number_line (codes "committed") tally.committed ++ (number_line (codes "aborted") tally.aborted
-    ++ (number_line (codes "busy") tally.busy ++ (number_line (codes "refused") tally.refused
-    ++ (number_line (codes "records") (length rows) ++ number_line (codes "sum") (key_sum rows))))))
+    ++ (number_line (codes "busy") tally.busy ++ (number_line (codes "refused") tally.refused ++ look_text look))))
 
 abbrev pub total : Tally → ℕ
 total tally = tally.committed + (tally.aborted + (tally.busy + tally.refused))
@@ -53,6 +58,12 @@ counted tally call reply = record {
   busy = more_if (counts (codes "busy") reply call) tally.busy;
   refused = more_if (counts (codes "refused") reply call) tally.refused;
 }
+
+-- the script goes on after the reply, or it ends there
+abbrev pub Goes : ℕ → Reply → Result (Unit {0}) Stop → Type 0
+Goes caller reply (Ok x) = IsTrue (goes_on reply)
+Goes caller reply (Err (stop.Media number)) = (number ≡ caller) × (reply ≡ Media)
+Goes caller reply (Err stop.NoMemory) = reply ≡ NoMemory
 
 -- the reply was counted, or it ends the script
 abbrev pub Counted : Tally → ℕ → Call → Reply → Tally → Result (Unit {0}) Stop → Type 0

@@ -1,5 +1,5 @@
 // What is done on a core over the records of an array.
-ghost use Rattle.std.specs.Prelude.{◌≡◌, ℕ, Bool, List, None, IsTrue, IsFalse, IfOk, IfErr};
+ghost use Rattle.std.specs.Prelude.{◌≡◌, ℕ, Bool, List, None, IsTrue, IfOk, IfErr};
 ghost use Rattle.eaw_face.specs.Causes.{IsAlive};
 ghost use Rattle.caller_steps.specs.State.{State};
 ghost use Rattle.caller_steps.specs.Room.{Limits};
@@ -32,9 +32,6 @@ pub trait CoreWork {
     /// Whether all that is told is formed before any of it is written, so that nothing is where memory runs out.
     ghost at_once: { Bool };
 
-    /// Whether it reads all that the core has kept.
-    ghost reads_kept: { Bool };
-
     /// What is done, in terms of the input, how the work ended, what was written, the limits of the core, the turns and the last state.
     ghost does: { Self → List ℕ → Ended → Bool → List ℕ → Limits → List Turn → State → Type 0 };
 
@@ -51,10 +48,9 @@ pub trait CoreWork {
         core: Core<S, I, H>,
     ) -> (Result<Ended, NoMemory>, Core<S, I, H>)
         requires set { can_be_done self.now }
-        requires keeps { IsTrue reads_kept → IsTrue H.keeps }
-        requires whole { IsTrue reads_kept → IsFalse H.forgets }
         requires numbers { numbers ≡ (S.view core.records.store).shape.numbers }
         requires ready { CanShare S.tells 0 (core_of S.opens I.index (S.view core.records.store) core) }
+        requires shows { IsTrue S.tells → (core_of S.opens I.index (S.view core.records.store) core).shows (core_of S.opens I.index (S.view core.records.store) core).state }
         ensures works { Wrote K.tells (K.written sink.old) (K.written sink.new) (K.faults sink.old) (K.faults sink.new)
             (λ cut text. IsTrue S.tells → Works (λ ended. does self.now input.now ended cut text) (core_of S.opens I.index (S.view core.records.store) core) result.0 cut text
             (core_of S.opens I.index (S.view result.1.records.store) result.1)) }
@@ -75,8 +71,6 @@ pub fn work_over<K: Sink, S: EawStore + Drop + Send, I: KeyIndex + Send, H: Keep
     work: &W,
 ) -> (Result<Ended, CoreFault>, S)
     requires set { W.can_be_done work.now }
-    requires keeps { IsTrue W.reads_kept → IsTrue H.keeps }
-    requires whole { IsTrue W.reads_kept → IsFalse H.forgets }
     requires alive { IsAlive (S.view store) }
     requires free { (t : ℕ) → (S.view store).ranges t ≡ None }
     ensures served { Wrote K.tells (K.written sink.old) (K.written sink.new) (K.faults sink.old) (K.faults sink.new)

@@ -1,20 +1,23 @@
 // The work of a drawn script, which ends with a summary.
-ghost use Rattle.std.specs.Prelude.{◌≡◌, ◌<◌, ◌^◌, IsTrue, IsFalse, IfOk, IfErr};
-ghost use Rattle.eaw_face.specs.Causes.{IsAlive};
-ghost use Rattle.drill_gen.specs.Drill.{drill};
+ghost use Rattle.std.specs.Prelude.{◌≡◌, ◌<◌, ◌^◌, IsTrue, IfOk, IfErr};
+ghost use Rattle.history.specs.Key.{main_name};
+ghost use Rattle.history.specs.declared.call.Call.TheVariants.{Scan};
+ghost use Rattle.mars_manager.specs.Sharing.{CanShare};
+ghost use Rattle.mars_shell.specs.Drill.{drill_calls, last_key};
 ghost use Rattle.mars_core.specs.Held.{core_of};
 ghost use Rattle.script_run.specs.Answers.{HasStopCause};
 ghost use Rattle.mars_shell.specs.Made.{SummedUp, EndsEarly};
 
 use crate::core_work::CoreWork;
-use crate::final_rows::final_rows;
-use crate::kept::{base_of, history_of};
 use crate::summary::summary_text;
+use crate::tally::going_on;
 use crate::turns::make_turns;
 use array_runs::write_ended;
+use caller_steps::Core as Steps;
 use command_words::DrillNumbers;
 use drill_gen::script;
 use eaw_face::EawStore;
+use history::{Call, main_table};
 use mars_base::NoMemory;
 use mars_core::Core;
 use noted::Keeper;
@@ -23,6 +26,9 @@ use page_store::KeyIndex;
 use script_run::{Ended, Stop};
 use std::alloc::Global;
 use texts::{MEDIA_LINE, write_front};
+
+// The caller that looks at the records at the end.
+const LOOKER: u8 = 0;
 
 /// The calls of the script that the numbers draw are made, and a summary is written.
 #[derive(Drop)]
@@ -39,8 +45,6 @@ impl CoreWork for DrawnScript {
     ghost can_be_done = { λ work. work.numbers.seed < 2 ^ 31 };
 
     ghost at_once = { true };
-
-    ghost reads_kept = { true };
 
     ghost does = { λ work input. Drills work.numbers };
 
@@ -69,6 +73,17 @@ impl CoreWork for DrawnScript {
     }
 }
 
+// What it asks: all records of `main`.
+fn whole_scan() -> Call
+    ensures { result ≡ Scan main_name 0 last_key }
+{
+    Call::Scan {
+        table: main_table(),
+        low: 0,
+        high: u64::MAX,
+    }
+}
+
 // Makes the calls on a core and forms the summary. An error says why there is none.
 fn sum_up<S: EawStore, I: KeyIndex, H: Keeper>(
     alloc: Global,
@@ -76,15 +91,14 @@ fn sum_up<S: EawStore, I: KeyIndex, H: Keeper>(
     callers: u8,
     core: &mut Core<S, I, H>,
 ) -> Result<Vec<u8>, Stop>
-    requires keeps { IsTrue H.keeps }
-    requires whole { IsFalse H.forgets }
     requires seed { numbers.now.seed < 2 ^ 31 }
     requires callers { callers ≡ (S.view core.old.records.store).shape.numbers }
-    requires alive { IsAlive (S.view core.old.records.store) }
+    requires ready { CanShare S.tells 0 (core_of S.opens I.index (S.view core.old.records.store) core.old) }
+    requires shows { IsTrue S.tells → (core_of S.opens I.index (S.view core.old.records.store) core.old).shows (core_of S.opens I.index (S.view core.old.records.store) core.old).state }
     ensures summed { IfOk result (λ text. SummedUp S.tells numbers.now (core_of S.opens I.index (S.view core.old.records.store) core.old)
-        (drill numbers.now.seed numbers.now.count callers) text.items (core_of S.opens I.index (S.view core.new.records.store) core.new)) }
+        (drill_calls numbers.now.seed numbers.now.count callers) text.items (core_of S.opens I.index (S.view core.new.records.store) core.new)) }
     ensures early { IfErr result (λ stop. EndsEarly S.tells (core_of S.opens I.index (S.view core.old.records.store) core.old)
-        (drill numbers.now.seed numbers.now.count callers) stop (core_of S.opens I.index (S.view core.new.records.store) core.new)) }
+        (drill_calls numbers.now.seed numbers.now.count callers) stop (core_of S.opens I.index (S.view core.new.records.store) core.new)) }
     ensures cause { HasStopCause (S.view core.old.records.store).faults (S.view core.new.records.store).faults result }
 {
     let Ok(turns) = script(alloc, numbers.seed, numbers.count, callers) else {
@@ -94,10 +108,18 @@ fn sum_up<S: EawStore, I: KeyIndex, H: Keeper>(
         Ok(tally) => tally,
         Err(stop) => return Err(stop),
     };
-    let Ok(rows) = final_rows(history_of(core), base_of(core), alloc) else {
-        return Err(Stop::NoMemory);
-    };
-    match summary_text(alloc, numbers, &tally, &rows) {
+    let begun = core.step(LOOKER, &Call::Begin);
+    match going_on(LOOKER, &begun) {
+        Ok(()) => {}
+        Err(stop) => return Err(stop),
+    }
+    let scan = whole_scan();
+    let look = core.step(LOOKER, &scan);
+    match going_on(LOOKER, &look) {
+        Ok(()) => {}
+        Err(stop) => return Err(stop),
+    }
+    match summary_text(alloc, numbers, &tally, &look) {
         Ok(text) => Ok(text),
         Err(_) => Err(Stop::NoMemory),
     }

@@ -14,7 +14,6 @@ mod callers;
 mod commands;
 mod core_work;
 mod drilling;
-mod final_rows;
 mod following;
 mod formatting;
 mod framed_run;

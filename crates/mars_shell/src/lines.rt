@@ -65,8 +65,6 @@ impl CoreWork for ByTurns {
 
     ghost at_once = { false };
 
-    ghost reads_kept = { false };
-
     ghost does = { λ work. Answers };
 
     fn reads(&self) -> bool {

@@ -21,7 +21,7 @@ use crate::records::over_records;
 use array_runs::Status;
 use caller_work::Gate;
 use command_words::Words;
-use noted::KeepsAll;
+use noted::KeepsNothing;
 use outside::{Sink, Source};
 use pcm_media::Media;
 use std::marker::Brand;
@@ -70,7 +70,7 @@ pub fn obey<
         Words::Dump => run_told(rt.alloc(), source, sink, media, &Dump),
         Words::Drill(numbers) => {
             let work = DrawnScript { numbers };
-            over_records::<S, K, M, Brand, KeepsAll, DrawnScript>(
+            over_records::<S, K, M, Brand, KeepsNothing, DrawnScript>(
                 rt.alloc(),
                 source,
                 sink,

@@ -41,8 +41,6 @@ pub fn over_records<
     requires depth { HasDepth writing }
     requires of_type { (D.least ≡ depth_of writing) × (D.most ≡ depth_of writing) }
     requires set { W.can_be_done work.now }
-    requires keeps { IsTrue W.reads_kept → IsTrue H.keeps }
-    requires whole { IsTrue W.reads_kept → IsFalse H.forgets }
     ensures no_usage { result.0 ≡ Status.Usage → ⊥ }
     ensures early { IsEarly result.0 → IsTrue W.reads × (result.1 ≡ media) }
     ensures silent { IsEarly result.0 ⊎ IsRefusal result.0 → sink.new ≡ sink.old }
@@ -83,8 +81,6 @@ fn serve<K: Sink, S: EawStore + Drop + Send, H: Keeper, W: CoreWork>(
     work: &W,
 ) -> (Result<Ended, CoreFault>, S)
     requires set { W.can_be_done work.now }
-    requires keeps { IsTrue W.reads_kept → IsTrue H.keeps }
-    requires whole { IsTrue W.reads_kept → IsFalse H.forgets }
     requires alive { IsAlive (S.view store) }
     requires free { (t : ℕ) → (S.view store).ranges t ≡ None }
     ensures served { Wrote K.tells (K.written sink.old) (K.written sink.new) (K.faults sink.old) (K.faults sink.new)

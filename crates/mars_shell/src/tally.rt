@@ -1,7 +1,7 @@
 // The tally of the replies to a script.
 ghost use Rattle.std.specs.Prelude.{◌≡◌, ◌≤◌, ◌<◌, ◌+◌, ◌-◌, ◌^◌, []};
 ghost use Rattle.history.specs.declared.call.Reply.TheVariants.{Fine};
-ghost use Rattle.mars_shell.specs.Tally.{tally_of, total, counted, Counted};
+ghost use Rattle.mars_shell.specs.Tally.{tally_of, total, counted, Counted, Goes};
 
 use history::{Call, Reply};
 use script_run::Stop;
@@ -87,5 +87,33 @@ impl Tally {
             | Call::Settle
             | Call::Purge => {}
         }
+    }
+}
+
+/// Whether the script goes on after the reply to a caller, or why it ends there.
+pub fn going_on(caller: u8, reply: &Reply) -> Result<(), Stop>
+    ensures { Goes caller reply.now result }
+{
+    match reply {
+        Reply::Media => Err(Stop::Media { number: caller }),
+        Reply::NoMemory => Err(Stop::NoMemory),
+        Reply::Fine
+        | Reply::Found(_)
+        | Reply::Absent
+        | Reply::Listed(_)
+        | Reply::Saved(_)
+        | Reply::Committed(_)
+        | Reply::Purged(_)
+        | Reply::NoTransaction
+        | Reply::NoTable
+        | Reply::Already
+        | Reply::NoSave { .. }
+        | Reply::SavesFull
+        | Reply::Busy { .. }
+        | Reply::LogFull { .. }
+        | Reply::SlotsFull { .. }
+        | Reply::PagesFull { .. }
+        | Reply::Dead
+        | Reply::Damaged { .. } => Ok(()),
     }
 }

@@ -1,9 +1,21 @@
-use Rattle.std.proofs.Common.{ℕ, ◌<◌, List, [], refl, sym, subst, ◌∙◌, arith}
+use Rattle.std.proofs.Common.{◌≡◌, ℕ, ◌<◌, List, [], ◌∷◌, refl, sym, subst, ap, ◌∙◌, arith}
 use Rattle.std.specs.List.{All}
 use Rattle.history.specs.declared.call.Call.{Call}
+use Rattle.history.specs.declared.call.Call.TheVariants.{Begin, Scan}
 use Rattle.drill_gen.specs.Drill.{drill}
-use Rattle.mars_shell.proofs.Making.{made_none, clean_all, drill_inside}
+use Rattle.record_table.proofs.Sharing.{Laws}
+use Rattle.history.specs.Key.{main_name}
+use Rattle.caller_steps.specs.Core.{CoreView, Steps}
+use Rattle.mars_core.specs.Held.{Held, core_of}
+use Rattle.mars_shell.specs.Drill.{last_key}
+use Rattle.mars_shell.specs.Made.{MadeAll, EndsEarly}
+use Rattle.mars_shell.proofs.Making.{made_none, drill_inside, no_fault}
+use Rattle.mars_shell.proofs.Drilled.{early_wider, look_early, looked_early, summed, drilled_alive, drilled_none, drilled_free, drilled_shown}
+use Rattle.mars_shell.proofs.drilling.sum_up.Given.{Over}
 use Rattle.mars_shell.proofs.drilling.sum_up.Goals as goal
+
+index_laws : (g : Over) → Laws g.I.KeyIndex.index
+index_laws g = let K = g.met.I.KeyIndex in record { rises = K.rises; given = K.given; counts = K.counts; rests = K.rests; extends = K.extends }
 
 pub returns-in_default-clause-early : goal.returns-in_default-clause-early
 returns-in_default-clause-early g c = ([], made_none g.S.EawStore.tells _ _, refl)
@@ -17,8 +29,55 @@ make_turns-requires-clause-inside g c =
     subst (λ (n : ℕ). All (λ turn. turn.0 < n) (drill numbers.seed numbers.count c.args.callers)) c.requires.callers own in
     subst (λ (turns : List (ℕ × Call)). All (λ turn. turn.0 < shape.numbers) turns) (sym (c.as_slice.ensures ∙ c.in-Ok.ensures)) here
 
-pub returns-in_default-final_rows-clause-early : goal.returns-in_default-final_rows-clause-early
-returns-in_default-final_rows-clause-early g c = let all = c.in-Ok-make_turns.ensures.all in (all.0, rw (c.as_slice.ensures ∙ c.in-Ok.ensures) at all.1, clean_all all.0 all.3)
+-- what a core shows
+abbrev shown : (g : Over) → Held g.row.S.Denot → CoreView
+shown g core = core_of g.S.EawStore.opens g.I.KeyIndex.index (g.S.EawStore.view core.records.store) core
 
+pub returns-in-Err-clause-early : goal.returns-in-Err-clause-early
+returns-in-Err-clause-early g c =
+    let s = g.S.EawStore in
+    early_wider s.tells (shown g c.args.core.now) (shown g c.make_turns.new.core) (drill c.args.numbers.now.seed c.args.numbers.now.count c.args.callers) ((0, Begin) ∷ (0, Scan main_name 0 last_key) ∷ []) c.in-Err.stop
+    (subst (λ (turns : List (ℕ × Call)). EndsEarly s.tells (shown g c.args.core.now) turns c.in-Err.stop (shown g c.make_turns.new.core)) (c.as_slice.ensures ∙ c.in-Ok.ensures) c.in-Err.ensures.early)
+
+pub returns-in-Err-going_on-2-clause-early : goal.returns-in-Err-going_on-2-clause-early
+returns-in-Err-going_on-2-clause-early g c =
+    let s = g.S.EawStore in
+    let drawn = drill c.args.numbers.now.seed c.args.numbers.now.count c.args.callers in
+    let all = subst (λ (turns : List (ℕ × Call)). MadeAll s.tells (shown g c.args.core.now) turns c.in-Ok-make_turns.tally (shown g c.make_turns.new.core)) (c.as_slice.ensures ∙ c.in-Ok.ensures) c.in-Ok-make_turns.ensures.all in
+    let two = subst (λ (call : Call). Steps s.tells 0 call (shown g c.step-begun.new.self) (shown g c.step-look.new.self) c.step-look.result) c.whole_scan-scan.ensures c.step-look.ensures.steps in
+    look_early s.tells (shown g c.args.core.now) (shown g c.make_turns.new.core) drawn c.in-Ok-make_turns.tally all (shown g c.step-begun.new.self) c.step-begun.result c.step-begun.ensures.steps c.in-Ok-going_on.ensures
+    (shown g c.step-look.new.self) c.step-look.result two c.in-Err-going_on-2.stop c.in-Err-going_on-2.ensures
+
+pub returns-in-Ok-summary_text-clause-summed : goal.returns-in-Ok-summary_text-clause-summed
+returns-in-Ok-summary_text-clause-summed g c =
+    let s = g.S.EawStore in
+    let numbers = c.args.numbers.now in
+    let drawn = drill numbers.seed numbers.count c.args.callers in
+    let mid = shown g c.make_turns.new.core in
+    let all = subst (λ (turns : List (ℕ × Call)). MadeAll s.tells (shown g c.args.core.now) turns c.in-Ok-make_turns.tally (shown g c.make_turns.new.core)) (c.as_slice.ensures ∙ c.in-Ok.ensures) c.in-Ok-make_turns.ensures.all in
+    let two = subst (λ (call : Call). Steps s.tells 0 call (shown g c.step-begun.new.self) (shown g c.step-look.new.self) c.step-look.result) c.whole_scan-scan.ensures c.step-look.ensures.steps in
+    summed s.tells (shown g c.args.core.now) mid drawn c.in-Ok-make_turns.tally all (shown g c.step-begun.new.self) c.step-begun.result c.step-begun.ensures.steps c.in-Ok-going_on.ensures
+    (shown g c.step-look.new.self) c.step-look.result two c.in-Ok-going_on-2.ensures g.I.KeyIndex.index (index_laws g)
+    (λ told. drilled_shown s.tells (shown g c.args.core.now) mid numbers.seed numbers.count c.args.callers c.in-Ok-make_turns.tally all c.requires.ready told (c.requires.shows told))
+    (drilled_alive s.tells (shown g c.args.core.now) mid numbers.seed numbers.count c.args.callers c.in-Ok-make_turns.tally all c.requires.ready)
+    (drilled_none s.tells (shown g c.args.core.now) mid numbers.seed numbers.count c.args.callers c.in-Ok-make_turns.tally all c.requires.ready)
+    (drilled_free s.tells (shown g c.args.core.now) mid numbers.seed numbers.count c.args.callers c.in-Ok-make_turns.tally all c.requires.ready)
+    numbers c.in-Ok-summary_text.text.items c.in-Ok-summary_text.ensures
+
+pub returns-in-Ok-summary_text-clause-cause : goal.returns-in-Ok-summary_text-clause-cause
+returns-in-Ok-summary_text-clause-cause g c =
+    c.step-look.ensures.steps.kept (no_fault c.step-look.result c.in-Ok-going_on-2.ensures) ∙ c.step-begun.ensures.steps.kept (no_fault c.step-begun.result c.in-Ok-going_on.ensures) ∙ c.in-Ok-make_turns.ensures.cause
+
+-- there is no memory for the text
 pub returns-clause-early : goal.returns-clause-early
-returns-clause-early g c = let all = c.in-Ok-make_turns.ensures.all in (all.0, rw (c.as_slice.ensures ∙ c.in-Ok.ensures) at all.1, clean_all all.0 all.3)
+returns-clause-early g c =
+    let s = g.S.EawStore in
+    let drawn = drill c.args.numbers.now.seed c.args.numbers.now.count c.args.callers in
+    let all = subst (λ (turns : List (ℕ × Call)). MadeAll s.tells (shown g c.args.core.now) turns c.in-Ok-make_turns.tally (shown g c.make_turns.new.core)) (c.as_slice.ensures ∙ c.in-Ok.ensures) c.in-Ok-make_turns.ensures.all in
+    let two = subst (λ (call : Call). Steps s.tells 0 call (shown g c.step-begun.new.self) (shown g c.step-look.new.self) c.step-look.result) c.whole_scan-scan.ensures c.step-look.ensures.steps in
+    looked_early s.tells (shown g c.args.core.now) (shown g c.make_turns.new.core) drawn c.in-Ok-make_turns.tally all (shown g c.step-begun.new.self) c.step-begun.result c.step-begun.ensures.steps c.in-Ok-going_on.ensures
+    (shown g c.step-look.new.self) c.step-look.result two c.in-Ok-going_on-2.ensures
+
+pub returns-clause-cause : goal.returns-clause-cause
+returns-clause-cause g c =
+    c.step-look.ensures.steps.kept (no_fault c.step-look.result c.in-Ok-going_on-2.ensures) ∙ c.step-begun.ensures.steps.kept (no_fault c.step-begun.result c.in-Ok-going_on.ensures) ∙ c.in-Ok-make_turns.ensures.cause

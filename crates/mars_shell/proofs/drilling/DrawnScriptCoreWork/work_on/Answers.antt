@@ -41,9 +41,3 @@ returns-in-Err-NoMemory-clause-works g c =
       counts = refl;
       holds = λ told. short_told c.args.self.now.numbers s.tells _ _ c.args.numbers c.requires.numbers told c.requires.ready early;
     }
-
-pub sum_up-requires-clause-keeps : goal.sum_up-requires-clause-keeps
-sum_up-requires-clause-keeps g c = c.requires.keeps refl
-
-pub sum_up-requires-clause-whole : goal.sum_up-requires-clause-whole
-sum_up-requires-clause-whole g c = c.requires.whole refl
