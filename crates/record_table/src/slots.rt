@@ -56,6 +56,7 @@ pub fn slot_count<S: EawStore>(pages: &Pages<S>) -> u64
 }
 
 // Reads what the number sees in a slot.
+#[inline(always)]
 pub fn read_as<S: EawStore>(
     pages: &mut Pages<S>,
     tid: u8,
@@ -131,6 +132,7 @@ pub fn heard(
 }
 
 // Looks up a key in the index of its table, and then reads its slot.
+#[inline(always)]
 pub fn seek<S: EawStore, K: KeyIndex>(
     pages: &mut Pages<S>,
     tid: u8,

@@ -187,6 +187,7 @@ impl LateData {
 
     /// Fills the buffer with the bytes of the data from `addr` on, with all commits that wait. If the medium fails, nothing is said of the
     /// buffer.
+    #[inline(always)]
     pub fn read<M: Media>(
         &self,
         media: &mut M,

@@ -1,4 +1,4 @@
-use Rattle.std.proofs.Common.{ℕ, List, sym, ◌∙◌, subst}
+use Rattle.std.proofs.Common.{ℕ, sym, ◌∙◌, subst}
 use Rattle.history.specs.Locks.{touches, touched}
 use Rattle.history.specs.Table.{Granted}
 use Rattle.history.specs.declared.call.Call.{Call}
