@@ -113,6 +113,21 @@ int32_t mars_settle(mars *m, uint8_t caller, uint64_t *number);
 /* Takes keys that have no record out of the index, so that others find room, and tells how many. The caller has no transaction. */
 int32_t mars_purge(mars *m, uint8_t caller, uint64_t *keys);
 
+/* Long bytes: 0 to 16,384 bytes of any value under a key below 2^55. They lie in records of the table: those of the key k in the records from
+ * 512 * k to 512 * k + 410, one with their length and one for each 40 bytes. So a table has long bytes or records of its own, and not both: where
+ * mars_put or mars_del has changed such a record, what is read is MARS_BROKEN or other bytes. 16,384 bytes are too many for the log of a small array
+ * (MARS_LOG_FULL): they take 8 loggers with 64 entries.
+ *
+ * Puts the bytes in the place of those that were there. It makes a save first, which stays (mars_save would tell the next number); where it is
+ * refused, it goes back to that, and the bytes are those that were there. If that is refused too, the status is MARS_HALF. */
+int32_t mars_put_bytes(mars *m, uint8_t caller, const uint8_t *table, size_t table_len, uint64_t key, const uint8_t *bytes, size_t size);
+/* The first room_size of the bytes are put into room, and how many there are into len. If there are none (MARS_ABSENT), both stay as they were. */
+int32_t mars_get_bytes(mars *m, uint8_t caller, const uint8_t *table, size_t table_len, uint64_t key, uint8_t *room, size_t room_size, uint64_t *len);
+/* Removes them, as mars_put_bytes puts them: MARS_OK if there were some, and MARS_ABSENT if there were none. */
+int32_t mars_del_bytes(mars *m, uint8_t caller, const uint8_t *table, size_t table_len, uint64_t key);
+/* How many there are, by one look-up. If there are none, len stays as it was. */
+int32_t mars_bytes_length(mars *m, uint8_t caller, const uint8_t *table, size_t table_len, uint64_t key, uint64_t *len);
+
 /* The name of a table by its number, from 0 on ("main" is 0); MARS_NO_TABLE if there is none. It is told as a value is by mars_get. */
 int32_t mars_table(mars *m, uint8_t number, uint8_t *room, size_t room_size, uint64_t *len);
 

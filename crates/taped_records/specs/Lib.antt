@@ -5,3 +5,4 @@ pub mod Calls
 pub mod Tells
 pub mod Opens
 pub mod Formats
+pub mod Long

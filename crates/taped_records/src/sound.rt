@@ -14,7 +14,7 @@ use std::marker::Model;
 /// A core whose history is legal, and whose live transactions are right and clash nowhere.
 #[derive(Drop)]
 pub struct Sound<C: Steps> {
-    core: C,
+    pub(crate) core: C,
 }
 
 impl<C: Steps> Model for Sound<C> {
