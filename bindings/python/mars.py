@@ -38,6 +38,7 @@ except ImportError:  # pragma: no cover
 
 KEY_MAX = 2**64 - 1
 VALUE_MAX = 54
+BYTES_MAX = 16384
 NAME_MAX = 16
 
 Bytes = Union[bytes, bytearray, memoryview]
@@ -78,6 +79,7 @@ class Status(enum.IntEnum):
     NAME_TAKEN = 29
     TABLES_FULL = 30
     IS_OPEN = 31
+    BAD_DEPTH = 32
 
 
 class Piece(enum.IntEnum):
@@ -182,6 +184,12 @@ class BadCaller(Bad):
     """There is no such caller, or the array has not so many."""
 
     status = Status.BAD_CALLER
+
+
+class BadDepth(Bad):
+    """At most 64 commits may wait for their write-back."""
+
+    status = Status.BAD_DEPTH
 
 
 class BadName(Bad):
@@ -358,15 +366,16 @@ class Memory:
 
 
 class Array:
-    """The array on a device, open for so many callers, each of which may have a transaction at the same time. It owns the device."""
+    """The array on a device, open for so many callers, each of which may have a transaction at the same time. It owns the device. Up to `depth`
+    commits, 0 to 64, may wait for their write-back; they are durable all the same."""
 
-    def __init__(self, device: Device, callers: int = 1) -> None:
+    def __init__(self, device: Device, callers: int = 1, depth: int = 0) -> None:
         self._mars = _Mars()
         self._device = device
         self._lock = threading.Lock()
         self._failure: Optional[BaseException] = None
         data = device.read()
-        _check(_call().mars_open(self._mars, data, len(data), _number(callers, 8)))
+        _check(_call().mars_open_late(self._mars, data, len(data), _number(callers, 8), _number(depth, 8)))
         try:
             self.sync()
         except BaseException:
@@ -493,6 +502,30 @@ class Transaction:
         _check(_call().mars_row(self._mars, at, key, room, VALUE_MAX, size))
         return Row(key.value, room.raw[: size.value])
 
+    def get_bytes(self, key: int, table: str) -> Optional[bytes]:
+        """The long bytes under a key, or None."""
+        size = self.bytes_length(key, table)
+        if size is None:
+            return None
+        name, room, told = _name(table), _room(size), ctypes.c_uint64()
+        _check(self._ask("get_bytes", name, len(name), _number(key, 64), room, size, told))
+        return room.raw[:size]
+
+    def put_bytes(self, key: int, value: Bytes, table: str) -> None:
+        """Puts up to 16,384 bytes of any kind under a key below 2^55, in a table where nothing else is. It takes a save."""
+        name, data = _name(table), _bytes(value)
+        _check(self._ask("put_bytes", name, len(name), _number(key, 64), data, len(data)))
+
+    def delete_bytes(self, key: int, table: str) -> bool:
+        """Removes long bytes, and returns whether there were some. It takes a save."""
+        name = _name(table)
+        return _is_found(self._ask("del_bytes", name, len(name), _number(key, 64)))
+
+    def bytes_length(self, key: int, table: str) -> Optional[int]:
+        """How many long bytes are under a key, or None."""
+        name, size = _name(table), ctypes.c_uint64()
+        return size.value if _is_found(self._ask("bytes_length", name, len(name), _number(key, 64), size)) else None
+
     def save(self) -> int:
         """Makes a save, and returns its number, from 1 on."""
         number = ctypes.c_uint64()
@@ -561,11 +594,11 @@ def make(path: Union[str, "os.PathLike[str]"], loggers: int = 1, callers: int = 
     _sync_folder(os.path.dirname(os.path.abspath(path)))
 
 
-def open(path: Union[str, "os.PathLike[str]"], callers: int = 1) -> Array:
-    """Opens the array in a file for so many callers, and makes durable what the opening repaired."""
+def open(path: Union[str, "os.PathLike[str]"], callers: int = 1, depth: int = 0) -> Array:
+    """Opens the array in a file for so many callers, and makes durable what the opening repaired. Up to `depth` commits may wait, as in `Array`."""
     device = File(path)
     try:
-        return Array(device, callers)
+        return Array(device, callers, depth)
     except BaseException:
         device.close()
         raise
@@ -605,7 +638,7 @@ _AT_KEY = [_MARS, _U8, _TEXT, _SIZE, _U64]
 _CALLS: Dict[str, List[Any]] = {
     "size": [_U8, _U8, _U16, _U32],
     "format": [_TEXT, _SIZE, _U8, _U8, _U16, _U32],
-    "open": [_MARS, _TEXT, _SIZE, _U8],
+    "open_late": [_MARS, _TEXT, _SIZE, _U8, _U8],
     "close": [_MARS],
     "begin": [_MARS, _U8],
     "get": [*_AT_KEY, _TEXT, _SIZE, _OUT],
@@ -621,6 +654,10 @@ _CALLS: Dict[str, List[Any]] = {
     "settle": [_MARS, _U8, _OUT],
     "purge": [_MARS, _U8, _OUT],
     "table": [_MARS, _U8, _TEXT, _SIZE, _OUT],
+    "put_bytes": [*_AT_KEY, _TEXT, _SIZE],
+    "get_bytes": [*_AT_KEY, _TEXT, _SIZE, _OUT],
+    "del_bytes": _AT_KEY,
+    "bytes_length": [*_AT_KEY, _OUT],
     "piece": [_MARS, _OUT, _OUT],
     "piece_bytes": [_MARS, _U64, _TEXT, _SIZE, _OUT],
     "piece_done": [_MARS],

@@ -155,6 +155,28 @@ class Records(unittest.TestCase):
         self.assertEqual(self.rows(), [(1, b"b")])
 
 
+class LongBytes(unittest.TestCase):
+    def test_bytes_of_all_lengths_and_values(self):
+        with fresh(loggers=8, pages=128) as array:
+            for size in (0, 1, 39, 40, 41, 256, 1000, mars.BYTES_MAX):
+                data = bytes((at * 167 + size) % 256 for at in range(size))
+                with array.transaction() as work:
+                    work.put_bytes(7, data, "main")
+                with array.transaction() as work:
+                    self.assertEqual((work.get_bytes(7, "main"), work.bytes_length(7, "main")), (data, size))
+            with array.transaction() as work:
+                self.assertTrue(work.delete_bytes(7, "main"))
+                self.assertFalse(work.delete_bytes(7, "main"))
+                self.assertIsNone(work.get_bytes(7, "main"))
+
+    def test_a_put_that_is_refused_leaves_what_was_there(self):
+        with fresh(entries=8) as array, array.transaction() as work:
+            work.put_bytes(7, b"\0old", "main")
+            work.put_bytes(8, b"", "main")
+            self.assertRaises(mars.LogFull, work.put_bytes, 7, bytes(1000), "main")
+            self.assertEqual([work.get_bytes(key, "main") for key in (7, 8, 9)], [b"\0old", b"", None])
+
+
 class Statuses(unittest.TestCase):
     def refused(self, status, call, *words, **more):
         with self.assertRaises(mars.Error) as caught:
@@ -193,6 +215,16 @@ class Statuses(unittest.TestCase):
             self.refused(mars.Status.NO_TRANSACTION, other.settle)
         self.refused(mars.Status.IS_CLOSED, array.transaction)
 
+    def test_of_long_bytes(self):
+        with fresh() as array, array.transaction() as work:
+            work.put(512, b"nonsense")
+            self.refused(mars.Status.BROKEN, work.get_bytes, 1, "main")
+            self.refused(mars.Status.TOO_LONG, work.put_bytes, 2, bytes(mars.BYTES_MAX + 1), "main")
+            for call in (work.get_bytes, work.bytes_length, work.delete_bytes):
+                self.refused(mars.Status.BAD_KEY, call, 2**55, "main")
+                self.refused(mars.Status.NO_TABLE, call, 1, "other")
+                self.refused(mars.Status.BAD_NAME, call, 1, "Other")
+
     def test_of_a_full_array(self):
         with fresh(pages=4, callers=1, entries=8) as array:
             work = array.transaction()
@@ -203,6 +235,7 @@ class Statuses(unittest.TestCase):
     def test_of_an_opening(self):
         data = mars.fresh()
         self.refused(mars.Status.BAD_SHAPE, mars.fresh, loggers=9)
+        self.refused(mars.Status.BAD_DEPTH, mars.Array, mars.Memory(data), 1, 65)
         for status, wrong in ((mars.Status.NOT_MARS, b""), (mars.Status.NOT_MARS, b"x" + data[1:]), (mars.Status.BAD_SHAPE, data[:-1])):
             self.refused(status, mars.Array, mars.Memory(wrong))
         row = bytes([0xC3, 1, 0, 0, 100]) + bytes(11)
@@ -234,11 +267,11 @@ class Statuses(unittest.TestCase):
 
 
 class Devices(unittest.TestCase):
-    def stopped_at(self, last, draw):
+    def stopped_at(self, last, draw, depth):
         """Commits until the device stops, and returns what it holds, and how many were told; or None where it does not stop."""
         device, told = Breaking(mars.fresh(callers=2, entries=8, pages=8), last, draw), 0
         try:
-            with mars.Array(device) as array:
+            with mars.Array(device, depth=depth) as array:
                 for number in range(1, 5):
                     with array.transaction() as work:
                         put_all(work, number)
@@ -248,10 +281,10 @@ class Devices(unittest.TestCase):
         return None
 
     def test_one_that_fails_or_tears_at_each_piece(self):
-        for draw in (None, random.Random(7)):
+        for draw, depth in itertools.product((None, random.Random(7)), (0, 3)):
             last = 0
             while True:
-                stopped = self.stopped_at(last, draw)
+                stopped = self.stopped_at(last, draw, depth)
                 if stopped is None:
                     break
                 data, told = stopped

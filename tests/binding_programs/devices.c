@@ -53,14 +53,14 @@ static void do_piece(mars *m, uint8_t *device, int32_t kind, uint64_t at, uint64
     OK(mars_piece_done(m));
 }
 
-/* All commits are answered first, and then power is lost at each piece of the tape, four times. */
-static int torn(const uint8_t *start, uint64_t size) {
+/* All commits are answered first, of which so many may wait, and then power is lost at each piece of the tape, four times. */
+static int torn(const uint8_t *start, uint64_t size, uint8_t depth) {
     uint64_t moments[COMMITS + 1] = {0}, at, len;
     uint8_t *device = malloc(size), *image = malloc(size);
     int pieces = 0, least = 0;
     mars m = MARS_CLOSED;
     memcpy(device, start, size);
-    OK(mars_open(&m, device, size, 1));
+    OK(mars_open_late(&m, device, size, 1, depth));
     for (uint64_t c = 1; c <= COMMITS; c++) {
         OK(put_commit(&m, c));
         moments[c] = mars_moment(&m);
@@ -117,9 +117,9 @@ static bool failed(const uint8_t *start, uint64_t size, int fails_at) {
 int main(void) {
     uint64_t size;
     uint8_t *start = fresh(&size, 2, 4, 32, 64);
-    int pieces = torn(start, size), at = 0;
+    int pieces = torn(start, size, 0), late = torn(start, size, COMMITS / 2), at = 0;
     while (failed(start, size, at)) at++;
     free(start);
-    printf("devices: %d pieces torn, %d failed\n", pieces, at);
+    printf("devices: %d pieces torn, %d where commits wait, %d failed\n", pieces, late, at);
     return at < pieces;
 }

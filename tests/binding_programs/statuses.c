@@ -139,6 +139,8 @@ static void openings(uint8_t *bytes, size_t size) {
     IS(mars_format(bytes, size, 9, 8, 64, 64), MARS_BAD_SHAPE);
     IS(mars_open(&m, bytes, size, 9), MARS_BAD_CALLER);
     IS(mars_open(&m, bytes, size - 1, 8), MARS_BAD_SHAPE);
+    IS(mars_open_late(&m, bytes, size, 8, 65), MARS_BAD_DEPTH);
+    IS(mars_open_late(&m, bytes, size, 9, 64), MARS_BAD_CALLER);
     IS(mars_open(&m, bytes, 511, 8), MARS_NOT_MARS);
     IS(mars_open(&m, bytes, 0, 8), MARS_NOT_MARS);
     bytes[0] ^= 1;
@@ -177,6 +179,10 @@ static void closed(void) {
     IS(mars_settle(&m, 0, &n), MARS_IS_CLOSED);
     IS(mars_purge(&m, 0, &n), MARS_IS_CLOSED);
     IS(mars_table(&m, 0, room, 8, &n), MARS_IS_CLOSED);
+    IS(mars_put_bytes(&m, 0, MAIN, 1, room, 0), MARS_IS_CLOSED);
+    IS(mars_get_bytes(&m, 0, MAIN, 1, room, 8, &n), MARS_IS_CLOSED);
+    IS(mars_del_bytes(&m, 0, MAIN, 1), MARS_IS_CLOSED);
+    IS(mars_bytes_length(&m, 0, MAIN, 1, &n), MARS_IS_CLOSED);
     IS(mars_piece(&m, &key, &n), MARS_NOTHING);
     IS(mars_piece_bytes(&m, 0, room, 8, &n), MARS_IS_CLOSED);
     IS(mars_piece_done(&m), MARS_IS_CLOSED);
@@ -215,11 +221,11 @@ static void texts(void) {
     uint8_t room[100], other[100];
     uint64_t len, n;
     mars_text(-1, other, 100, &n);
-    for (int32_t status = MARS_OK; status <= MARS_IS_OPEN; status++) {
+    for (int32_t status = MARS_OK; status <= MARS_BAD_DEPTH; status++) {
         mars_text(status, room, 100, &len);
         HOLDS(len > 0 && len < 100 && (len != n || memcmp(room, other, n)));
     }
-    mars_text(MARS_IS_OPEN + 1, room, 100, &len);
+    mars_text(MARS_BAD_DEPTH + 1, room, 100, &len);
     HOLDS(len == n && memcmp(room, other, n) == 0);
     mars_text(MARS_OK, room, 0, &len);
     HOLDS(len > 0);

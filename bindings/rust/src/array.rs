@@ -75,12 +75,17 @@ impl Array<File> {
 
 impl<D: Device> Array<D> {
     /// Opens the array on a device for so many callers, and makes durable what the opening repaired.
-    pub fn open(mut device: D, callers: u8) -> Result<Array<D>> {
+    pub fn open(device: D, callers: u8) -> Result<Array<D>> {
+        Array::open_late(device, callers, 0)
+    }
+
+    /// Opens it so that up to `depth` commits, 0 to 64, may wait for their write-back. They are durable all the same.
+    pub fn open_late(mut device: D, callers: u8, depth: u8) -> Result<Array<D>> {
         let bytes = device.read()?;
         let mars = Handle(Box::new(UnsafeCell::new(raw::Mars { kept: ptr::null_mut(), is_open: false })));
         let array = Array { mars, device: RefCell::new(device), failure: Cell::new(None) };
         // SAFETY: it is closed, and `bytes` has as many bytes as is said.
-        check(unsafe { raw::mars_open(array.mars(), bytes.as_ptr(), bytes.len(), callers) })?;
+        check(unsafe { raw::mars_open_late(array.mars(), bytes.as_ptr(), bytes.len(), callers, depth) })?;
         array.sync()?;
         Ok(array)
     }

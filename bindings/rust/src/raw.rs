@@ -16,7 +16,7 @@ pub const WRITE: i32 = 1;
 extern "C" {
     pub fn mars_size(loggers: u8, callers: u8, entries: u16, pages: u32) -> u64;
     pub fn mars_format(bytes: *mut u8, size: usize, loggers: u8, callers: u8, entries: u16, pages: u32) -> i32;
-    pub fn mars_open(m: *mut Mars, bytes: *const u8, size: usize, callers: u8) -> i32;
+    pub fn mars_open_late(m: *mut Mars, bytes: *const u8, size: usize, callers: u8, depth: u8) -> i32;
     pub fn mars_close(m: *mut Mars);
     pub fn mars_begin(m: *mut Mars, caller: u8) -> i32;
     pub fn mars_get(m: *mut Mars, caller: u8, table: *const u8, table_len: usize, key: u64, room: *mut u8, room_size: usize, len: *mut u64) -> i32;
@@ -32,6 +32,11 @@ extern "C" {
     pub fn mars_settle(m: *mut Mars, caller: u8, number: *mut u64) -> i32;
     pub fn mars_purge(m: *mut Mars, caller: u8, keys: *mut u64) -> i32;
     pub fn mars_table(m: *mut Mars, number: u8, room: *mut u8, room_size: usize, len: *mut u64) -> i32;
+    pub fn mars_put_bytes(m: *mut Mars, caller: u8, table: *const u8, table_len: usize, key: u64, bytes: *const u8, size: usize) -> i32;
+    pub fn mars_get_bytes(m: *mut Mars, caller: u8, table: *const u8, table_len: usize, key: u64, room: *mut u8, room_size: usize,
+                          len: *mut u64) -> i32;
+    pub fn mars_del_bytes(m: *mut Mars, caller: u8, table: *const u8, table_len: usize, key: u64) -> i32;
+    pub fn mars_bytes_length(m: *mut Mars, caller: u8, table: *const u8, table_len: usize, key: u64, len: *mut u64) -> i32;
     pub fn mars_piece(m: *mut Mars, at: *mut u64, len: *mut u64) -> i32;
     pub fn mars_piece_bytes(m: *mut Mars, skip: u64, room: *mut u8, room_size: usize, len: *mut u64) -> i32;
     pub fn mars_piece_done(m: *mut Mars) -> i32;

@@ -68,6 +68,8 @@ pub enum Status {
     TablesFull,
     /// The array is open.
     IsOpen,
+    /// At most 64 commits may wait for their write-back.
+    BadDepth,
     /// A status that this crate does not know.
     Unknown,
 }
@@ -75,7 +77,7 @@ pub enum Status {
 use Status::*;
 
 /// Each status that mars.h has, by its number less one.
-const ALL: [Status; 31] = [
+const ALL: [Status; 32] = [
     Absent,
     NoTransaction,
     NoTable,
@@ -107,6 +109,7 @@ const ALL: [Status; 31] = [
     NameTaken,
     TablesFull,
     IsOpen,
+    BadDepth,
 ];
 
 impl Status {

@@ -103,6 +103,40 @@ impl<'a, D: Device> Transaction<'a, D> {
         Ok((key, Value { bytes, len: len as usize }))
     }
 
+    /// The long bytes under a key.
+    pub fn get_bytes(&self, table: &str, key: u64) -> Result<Option<Vec<u8>>> {
+        let size = match self.bytes_length(table, key)? {
+            Some(size) => size as usize,
+            None => return Ok(None),
+        };
+        let (mut room, mut len) = (vec![0; size], 0);
+        // SAFETY: `room` has as many bytes as is said.
+        let status =
+            unsafe { raw::mars_get_bytes(self.array.mars(), self.caller, table.as_ptr(), table.len(), key, room.as_mut_ptr(), room.len(), &mut len) };
+        check(status)?;
+        Ok(Some(room))
+    }
+
+    /// Puts up to 16,384 bytes of any kind under a key below 2^55, in a table where nothing else is. It takes a save.
+    pub fn put_bytes(&mut self, table: &str, key: u64, bytes: &[u8]) -> Result<()> {
+        // SAFETY: a slice has as many bytes as it says.
+        check(unsafe { raw::mars_put_bytes(self.array.mars(), self.caller, table.as_ptr(), table.len(), key, bytes.as_ptr(), bytes.len()) })
+    }
+
+    /// Removes long bytes, and gives whether there were some. It takes a save.
+    pub fn delete_bytes(&mut self, table: &str, key: u64) -> Result<bool> {
+        // SAFETY: as above.
+        is_there(unsafe { raw::mars_del_bytes(self.array.mars(), self.caller, table.as_ptr(), table.len(), key) })
+    }
+
+    /// How many long bytes are under a key.
+    pub fn bytes_length(&self, table: &str, key: u64) -> Result<Option<u64>> {
+        let mut len = 0;
+        // SAFETY: as above.
+        let status = unsafe { raw::mars_bytes_length(self.array.mars(), self.caller, table.as_ptr(), table.len(), key, &mut len) };
+        Ok(is_there(status)?.then_some(len))
+    }
+
     /// Makes a save.
     pub fn save(&mut self) -> Result<Save> {
         let mut number = 0;

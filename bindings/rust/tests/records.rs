@@ -117,6 +117,25 @@ fn values_of_all_bytes_that_may_be() -> mars::Result<()> {
 }
 
 #[test]
+fn bytes_of_all_lengths_and_values() -> mars::Result<()> {
+    let array = fresh(Shape { loggers: 8, pages: 128, ..Shape::default() });
+    for size in [0, 1, 39, 40, 41, 256, 1000, 16_384] {
+        let bytes: Vec<u8> = (0..size).map(|at| (at * 167 + size) as u8).collect();
+        let mut work = array.begin(0)?;
+        work.put_bytes(MAIN, 7, &bytes)?;
+        work.commit()?;
+        let work = array.begin(0)?;
+        assert_eq!(work.get_bytes(MAIN, 7)?.unwrap(), bytes);
+        assert_eq!(work.bytes_length(MAIN, 7)?, Some(size as u64));
+    }
+    let mut work = array.begin(0)?;
+    assert!(work.delete_bytes(MAIN, 7)?);
+    assert!(!work.delete_bytes(MAIN, 7)?);
+    assert!(work.get_bytes(MAIN, 7)?.is_none());
+    Ok(())
+}
+
+#[test]
 fn an_array_goes_to_another_thread() {
     let array = fresh(Shape::default());
     let moment = std::thread::spawn(move || shared::put_all(&array, 1).map(|_| array.moment())).join().unwrap().unwrap();

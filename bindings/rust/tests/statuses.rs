@@ -46,6 +46,19 @@ fn of_calls() -> Result<()> {
 }
 
 #[test]
+fn of_long_bytes() -> Result<()> {
+    let array = fresh(Shape::default());
+    let mut work = array.begin(0)?;
+    work.put(MAIN, 512, b"nonsense")?;
+    refused(work.get_bytes(MAIN, 1), Status::Broken);
+    refused(work.put_bytes(MAIN, 2, &[0; 16_385]), Status::TooLong);
+    refused(work.put_bytes(MAIN, 1 << 55, b""), Status::BadKey);
+    refused(work.get_bytes("other", 1), Status::NoTable);
+    refused(work.delete_bytes("Other", 1), Status::BadName);
+    Ok(())
+}
+
+#[test]
 fn of_a_full_array() -> Result<()> {
     let array = fresh(Shape { callers: 1, entries: 8, pages: 4, ..Shape::default() });
     let mut work = array.begin(0)?;
@@ -69,6 +82,7 @@ fn of_an_opening() -> Result<()> {
     };
     refused(Shape { loggers: 9, ..Shape::default() }.fresh(), Status::BadShape);
     refused(opened(|_| (), 9), Status::BadCaller);
+    refused(Array::open_late(Shape::default().fresh()?, 1, 65), Status::BadDepth);
     refused(opened(Vec::clear, 1), Status::NotMars);
     refused(opened(|bytes| bytes[0] ^= 1, 1), Status::NotMars);
     refused(opened(|bytes| bytes.truncate(bytes.len() - 1), 1), Status::BadShape);
