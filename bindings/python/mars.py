@@ -502,6 +502,19 @@ class Transaction:
         _check(_call().mars_row(self._mars, at, key, room, VALUE_MAX, size))
         return Row(key.value, room.raw[: size.value])
 
+    def first(self, low: int = 0, high: int = KEY_MAX, table: str = "main") -> Optional[Row]:
+        """The first record from the key `low` to `high`, both included, or None."""
+        name, key, room, size = _name(table), ctypes.c_uint64(), _room(VALUE_MAX), ctypes.c_uint64()
+        status = self._ask("next", name, len(name), _number(low, 64), _number(high, 64), key, room, VALUE_MAX, size)
+        return Row(key.value, room.raw[: size.value]) if _is_found(status) else None
+
+    def cursor(self, low: int = 0, high: int = KEY_MAX, table: str = "main") -> Iterator[Row]:
+        """The same records as `rows`, each as it is when it is asked for: it needs no room for all of them, and may be left at any one."""
+        row = self.first(low, high, table)
+        while row is not None:
+            yield row
+            row = self.first(row.key + 1, high, table) if row.key < high else None
+
     def get_bytes(self, key: int, table: str) -> Optional[bytes]:
         """The long bytes under a key, or None."""
         size = self.bytes_length(key, table)
@@ -646,6 +659,7 @@ _CALLS: Dict[str, List[Any]] = {
     "del": _AT_KEY,
     "scan": [_MARS, _U8, _TEXT, _SIZE, _U64, _U64, _OUT],
     "row": [_MARS, _U64, _OUT, _TEXT, _SIZE, _OUT],
+    "next": [*_AT_KEY, _U64, _OUT, _TEXT, _SIZE, _OUT],
     "save": [_MARS, _U8, _OUT],
     "back": [_MARS, _U8, _U32],
     "commit": [_MARS, _U8, _OUT],

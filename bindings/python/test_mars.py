@@ -110,6 +110,24 @@ class Records(unittest.TestCase):
         self.assertEqual(self.rows(low=6, high=5), [])
         self.assertEqual(self.array.tables(), ["main"])
 
+    def test_a_cursor_reads_row_by_row(self):
+        with self.array.transaction() as work:
+            for key in (0, 3, 9, 70, 71, mars.KEY_MAX):
+                work.put(key, b"%d" % key)
+            seen = []
+            for row in work.cursor():
+                seen.append(row)
+                if row.key == 3:
+                    work.delete(9)
+                    work.put(5, b"5")
+            self.assertEqual(seen, [(key, b"%d" % key) for key in (0, 3, 5, 70, 71, mars.KEY_MAX)])
+            self.assertEqual([row.key for row in work.cursor(1, 70)], [3, 5, 70])
+            self.assertEqual(list(work.cursor(4, 4)), [])
+            self.assertEqual(list(work.cursor(6, 5)), [])
+            self.assertEqual((work.first(6), work.first(6, 69)), ((70, b"70"), None))
+            self.assertRaises(mars.NoTable, work.first, table="other")
+            self.assertRaises(OverflowError, work.first, -1)
+
     def test_saves(self):
         with self.array.transaction() as work:
             work.put(1, b"a")

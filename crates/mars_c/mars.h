@@ -100,6 +100,11 @@ int32_t mars_del(mars *m, uint8_t caller, const uint8_t *table, size_t table_len
  * mars_scan of any caller, and mars_row tells one by its place, from 0 on, with its key and its value as mars_get does. */
 int32_t mars_scan(mars *m, uint8_t caller, const uint8_t *table, size_t table_len, uint64_t low, uint64_t high, uint64_t *count);
 int32_t mars_row(mars *m, uint64_t at, uint64_t *key, uint8_t *room, size_t room_size, uint64_t *len);
+/* The first record from the key `from` to the key `to`, both included, as the caller sees it now: its key, and its value as mars_get tells one. If
+ * there is none (MARS_ABSENT), key, room and len stay as they were. Go on from *key + 1, unless *key is `to`. It is a scan of a few keys for most
+ * records, holds the table as mars_scan does, and leaves the rows of the last mars_scan. */
+int32_t mars_next(mars *m, uint8_t caller, const uint8_t *table, size_t table_len, uint64_t from, uint64_t to, uint64_t *key, uint8_t *room,
+                  size_t room_size, uint64_t *len);
 /* Makes a save, and tells its number, from 1 on. mars_back goes back to one, and forgets the later ones. */
 int32_t mars_save(mars *m, uint8_t caller, uint64_t *save);
 int32_t mars_back(mars *m, uint8_t caller, uint32_t save);

@@ -60,6 +60,32 @@ static void rows(mars *m) {
     OK(mars_abort(m, 1));
 }
 
+static void one_by_one(mars *m) {
+    uint8_t room[54];
+    uint64_t key = 0, len = 0, from, wanted = 1;
+    OK(mars_begin(m, 1));
+    for (uint64_t k = 1; k != 0; k *= 8) OK(put_number(m, 1, k, k));
+    for (from = 0; mars_next(m, 1, MAIN, from, UINT64_MAX - 1, &key, room, 54, &len) == MARS_OK; from = key + 1) {
+        if (key == 5) continue; /* (it was there before) */
+        IS(key, wanted);
+        wanted *= 8;
+    }
+    IS(wanted, 0);
+    key = 7, len = 8, room[0] = '-';
+    IS(mars_next(m, 1, MAIN, 9, 63, &key, room, 54, &len), MARS_ABSENT);
+    IS(mars_next(m, 1, MAIN, 9, 8, &key, room, 54, &len), MARS_ABSENT);
+    IS(mars_next(m, 1, TEXT("other"), 0, 9, &key, room, 54, &len), MARS_NO_TABLE);
+    IS(mars_next(m, 1, TEXT("?"), 0, 9, &key, room, 54, &len), MARS_BAD_NAME);
+    IS(mars_next(m, 8, MAIN, 0, 9, &key, room, 54, &len), MARS_BAD_CALLER);
+    IS(mars_next(m, 2, MAIN, 0, 9, &key, room, 54, &len), MARS_NO_TRANSACTION);
+    HOLDS(key == 7 && len == 8 && room[0] == '-');
+    OK(mars_next(m, 1, MAIN, 9, 64, &key, room, 0, &len));
+    HOLDS(key == 64 && len == 1 && room[0] == '-');
+    OK(mars_next(m, 1, MAIN, UINT64_MAX, UINT64_MAX, &key, room, 54, &len));
+    HOLDS(key == UINT64_MAX && len == 4 && memcmp(room, "last", 4) == 0);
+    OK(mars_abort(m, 1));
+}
+
 static void saves(mars *m) {
     uint64_t save;
     OK(mars_begin(m, 0));
@@ -171,6 +197,7 @@ static void closed(void) {
     IS(mars_del(&m, 0, MAIN, 1), MARS_IS_CLOSED);
     IS(mars_scan(&m, 0, MAIN, 1, 2, &n), MARS_IS_CLOSED);
     IS(mars_row(&m, 0, &key, room, 8, &n), MARS_IS_CLOSED);
+    IS(mars_next(&m, 0, MAIN, 1, 2, &key, room, 8, &n), MARS_IS_CLOSED);
     IS(mars_save(&m, 0, &n), MARS_IS_CLOSED);
     IS(mars_back(&m, 0, 1), MARS_IS_CLOSED);
     IS(mars_commit(&m, 0, &n), MARS_IS_CLOSED);
@@ -245,6 +272,7 @@ int main(void) {
     drain(&m);
     values(&m);
     rows(&m);
+    one_by_one(&m);
     saves(&m);
     groups(&m);
     tables(&m);

@@ -36,7 +36,7 @@ mod transaction;
 pub use array::{Array, Shape};
 pub use device::{Device, File};
 pub use status::{Error, Result, Status};
-pub use transaction::{Offered, Row, Save, Transaction, Value};
+pub use transaction::{Cursor, Offered, Row, Save, Transaction, Value};
 
 /// The table that each array has.
 pub const MAIN: &str = "main";

@@ -24,6 +24,8 @@ extern "C" {
     pub fn mars_del(m: *mut Mars, caller: u8, table: *const u8, table_len: usize, key: u64) -> i32;
     pub fn mars_scan(m: *mut Mars, caller: u8, table: *const u8, table_len: usize, low: u64, high: u64, count: *mut u64) -> i32;
     pub fn mars_row(m: *mut Mars, at: u64, key: *mut u64, room: *mut u8, room_size: usize, len: *mut u64) -> i32;
+    pub fn mars_next(m: *mut Mars, caller: u8, table: *const u8, table_len: usize, from: u64, to: u64, key: *mut u64, room: *mut u8, room_size: usize,
+                     len: *mut u64) -> i32;
     pub fn mars_save(m: *mut Mars, caller: u8, save: *mut u64) -> i32;
     pub fn mars_back(m: *mut Mars, caller: u8, save: u32) -> i32;
     pub fn mars_commit(m: *mut Mars, caller: u8, number: *mut u64) -> i32;

@@ -78,18 +78,7 @@ impl<'a, D: Device> Transaction<'a, D> {
 
     /// The records of these keys as they are now, by rising keys.
     pub fn rows(&self, table: &str, keys: impl RangeBounds<u64>) -> Result<Vec<Row>> {
-        let low = match keys.start_bound() {
-            Bound::Included(key) => Some(*key),
-            Bound::Excluded(key) => key.checked_add(1),
-            Bound::Unbounded => Some(0),
-        };
-        let high = match keys.end_bound() {
-            Bound::Included(key) => Some(*key),
-            Bound::Excluded(key) => key.checked_sub(1),
-            Bound::Unbounded => Some(u64::MAX),
-        };
-        // (a scan from above to below has no rows, and asks for the table all the same)
-        let (low, high) = low.zip(high).unwrap_or((1, 0));
+        let (low, high) = bounds(keys);
         let mut count = 0;
         // SAFETY: as above.
         check(unsafe { raw::mars_scan(self.array.mars(), self.caller, table.as_ptr(), table.len(), low, high, &mut count) })?;
@@ -101,6 +90,21 @@ impl<'a, D: Device> Transaction<'a, D> {
         // SAFETY: `bytes` has as many bytes as is said.
         check(unsafe { raw::mars_row(self.array.mars(), at, &mut key, bytes.as_mut_ptr(), VALUE_MAX, &mut len) })?;
         Ok((key, Value { bytes, len: len as usize }))
+    }
+
+    /// The first record of these keys.
+    pub fn first(&self, table: &str, keys: impl RangeBounds<u64>) -> Result<Option<Row>> {
+        let (low, high) = bounds(keys);
+        let (mars, mut key, mut bytes, mut len) = (self.array.mars(), 0, [0; VALUE_MAX], 0);
+        // SAFETY: `bytes` has as many bytes as is said.
+        let status =
+            unsafe { raw::mars_next(mars, self.caller, table.as_ptr(), table.len(), low, high, &mut key, bytes.as_mut_ptr(), VALUE_MAX, &mut len) };
+        Ok(is_there(status)?.then_some((key, Value { bytes, len: len as usize })))
+    }
+
+    /// The same records as of [`Transaction::rows`], each of which is read when it is asked for.
+    pub fn cursor<'t>(&'t self, table: &'t str, keys: impl RangeBounds<u64>) -> Cursor<'t, D> {
+        Cursor { work: self, table, left: Some(bounds(keys)) }
     }
 
     /// The long bytes under a key.
@@ -178,6 +182,41 @@ impl<'a, D: Device> Transaction<'a, D> {
         let offered = Offered { array: self.array, caller: self.caller };
         mem::forget(self);
         Ok(offered)
+    }
+}
+
+// The first and the last of these keys; where there are none, a first one behind the last.
+fn bounds(keys: impl RangeBounds<u64>) -> (u64, u64) {
+    let low = match keys.start_bound() {
+        Bound::Included(key) => Some(*key),
+        Bound::Excluded(key) => key.checked_add(1),
+        Bound::Unbounded => Some(0),
+    };
+    let high = match keys.end_bound() {
+        Bound::Included(key) => Some(*key),
+        Bound::Excluded(key) => key.checked_sub(1),
+        Bound::Unbounded => Some(u64::MAX),
+    };
+    low.zip(high).unwrap_or((1, 0))
+}
+
+/// Records of a table, each of which is read when it is asked for.
+pub struct Cursor<'t, D: Device> {
+    work: &'t Transaction<'t, D>,
+    table: &'t str,
+    left: Option<(u64, u64)>,
+}
+
+impl<D: Device> Iterator for Cursor<'_, D> {
+    type Item = Result<Row>;
+
+    fn next(&mut self) -> Option<Result<Row>> {
+        let (low, high) = self.left.take()?;
+        let row = self.work.first(self.table, low..=high).transpose()?;
+        if let Ok((key, _)) = row {
+            self.left = key.checked_add(1).map(|next| (next, high)).filter(|left| left.0 <= left.1);
+        }
+        Some(row)
     }
 }
 

@@ -63,6 +63,27 @@ fn rows_of_a_range() -> mars::Result<()> {
 }
 
 #[test]
+fn a_cursor_reads_row_by_row() -> mars::Result<()> {
+    let array = fresh(Shape::default());
+    let mut work = array.begin(0)?;
+    for key in [0, 3, 9, 70, 71, u64::MAX] {
+        work.put(MAIN, key, key.to_string().as_bytes())?;
+    }
+    let found = |low, high| work.cursor(MAIN, low..high).map(|row| row.unwrap().0).collect::<Vec<_>>();
+    assert_eq!(found(0, u64::MAX), [0, 3, 9, 70, 71]);
+    assert_eq!(found(4, 71), [9, 70]);
+    assert_eq!(found(4, 9), []);
+    assert_eq!(found(6, 6), []);
+    assert_eq!(work.cursor(MAIN, ..).count(), 6);
+    assert!(work.cursor(MAIN, ..).all(|row| row.map_or(false, |(key, value)| value == key.to_string().as_bytes())));
+    assert_eq!(work.first(MAIN, 72..)?.map(|row| row.0), Some(u64::MAX));
+    assert!(work.first(MAIN, 72..=1000)?.is_none());
+    let refused: Vec<_> = work.cursor("other", ..).map(|row| row.unwrap_err().status()).collect();
+    assert_eq!(refused, [Some(mars::Status::NoTable)]);
+    Ok(())
+}
+
+#[test]
 fn saves() -> mars::Result<()> {
     let array = fresh(Shape::default());
     let mut work = array.begin(0)?;

@@ -6,3 +6,4 @@ pub mod Tells
 pub mod Opens
 pub mod Formats
 pub mod Long
+pub mod Cursor

@@ -1,8 +1,8 @@
 -- What a caller is told of an open array and its tape.
-use Rattle.std.specs.Prelude.{ℕ, ℤ, pos, ◌≡◌, ◌≤◌, List, [], drop, length, slice_get, Option, Some, None}
+use Rattle.std.specs.Prelude.{ℕ, ℤ, pos, ◌≡◌, ◌≤◌, List, drop, length, Option, Some, None}
 use Rattle.caller_steps.specs.Core.{Continues, IsSafe}
 use Rattle.tape_media.specs.Steps.{Step, writes, barrier, with_first_done}
-use Rattle.tape_media.specs.Tape.{Tape, next_of, done_moment}
+use Rattle.tape_media.specs.Tape.{Tape, done_moment}
 use Rattle.mars_core.specs.Taped.{IsSafeOnDevice}
 use Rattle.taped_records.specs.declared.records.TapedRecords.{TapedRecords}
 use Rattle.taped_records.specs.Status.{no_piece}

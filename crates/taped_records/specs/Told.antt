@@ -1,5 +1,5 @@
 -- What is told of a reply, where the caller has room for it.
-use Rattle.std.specs.Prelude.{ℕ, ℤ, pos, ◌≡◌, List, [], length, take, Option, Some, None}
+use Rattle.std.specs.Prelude.{ℕ, ℤ, ◌≡◌, List, length, take, Option, Some, None}
 use Rattle.mars_base.specs.Bytes.{put}
 use Rattle.history.specs.declared.call.Reply.{Reply}
 use Rattle.history.specs.declared.call.Reply.TheVariants.{Found, Listed, Saved, Committed, Purged}

@@ -1,0 +1,34 @@
+// What C calls to read records one by one. `mars.h` says what it owes.
+ghost use Rattle.std.specs.Prelude.{◌≡◌, None};
+ghost use Rattle.taped_records.specs.Cursor.{AsksNext};
+ghost use Rattle.taped_records.specs.Status.{is_closed};
+ghost use Rattle.taped_records.specs.Told.{IsPutOut};
+ghost use Rattle.mars_c.specs.Calls.{Changes};
+
+use crate::kept::Kept;
+use std::alloc::Global;
+use taped_records::IS_CLOSED;
+
+/// The first record from one key to another, both included: its key, as much of its value as there is room for, and how long that is.
+#[unsafe(no_mangle)]
+pub extern "C" fn mars_next(
+    alloc: Global,
+    m: &mut Kept,
+    caller: u8,
+    table: &[u8],
+    from: u64,
+    to: u64,
+    key: &mut u64,
+    room: &mut [u8],
+    len: &mut u64,
+) -> i32
+    ensures { Changes (λ was now. AsksNext table.now from to caller key.old key.new room.old room.new len.old len.new was now result)
+        ((result ≡ is_closed) × (key.new ≡ key.old) × IsPutOut None room.old room.new len.old len.new) m.old.held.array m.new.held.array }
+{
+    let Some(mut array) = m.take(alloc) else {
+        return IS_CLOSED;
+    };
+    let status = array.next(caller, table, from, to, key, room, len);
+    m.put(array);
+    status
+}
