@@ -80,7 +80,7 @@ static void one_by_one(mars *m) {
     IS(mars_next(m, 2, MAIN, 0, 9, &key, room, 54, &len), MARS_NO_TRANSACTION);
     HOLDS(key == 7 && len == 8 && room[0] == '-');
     OK(mars_next(m, 1, MAIN, 9, 64, &key, room, 0, &len));
-    HOLDS(key == 64 && len == 1 && room[0] == '-');
+    HOLDS(key == 64 && len == 2 && room[0] == '-');
     OK(mars_next(m, 1, MAIN, UINT64_MAX, UINT64_MAX, &key, room, 54, &len));
     HOLDS(key == UINT64_MAX && len == 4 && memcmp(room, "last", 4) == 0);
     OK(mars_abort(m, 1));
