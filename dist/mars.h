@@ -65,7 +65,8 @@ enum {
     MARS_IN_USE,      /* some caller has a transaction: end all of them first */
     MARS_NAME_TAKEN,  /* there is a table of this name */
     MARS_TABLES_FULL, /* an array has at most 8 tables */
-    MARS_IS_OPEN      /* the mars is open: close it first */
+    MARS_IS_OPEN,     /* the mars is open: close it first */
+    MARS_BAD_DEPTH    /* at most 64 commits may wait */
 };
 
 /* What mars_piece answers. */
@@ -81,6 +82,10 @@ int32_t mars_format(uint8_t *bytes, size_t size, uint8_t loggers, uint8_t caller
 /* Opens the array in a copy of these bytes, as a loss of power left them, for so many callers. The mars is closed before, and at MARS_OK it is open.
  * You owe: the bytes are all that the device holds, and durable there. What the opening repaired is on the tape. */
 int32_t mars_open(mars *m, const uint8_t *bytes, size_t size, uint8_t callers);
+/* Opens it so that up to depth commits, 0 to 64, may wait for their write-back (0: none, as mars_open). A commit is durable all the same once the
+ * tape is taken down: its log is on the device then. Its data is written to its place by a later call, or by the next opening: what waits is not
+ * lost by mars_close, nor by a loss of power. */
+int32_t mars_open_late(mars *m, const uint8_t *bytes, size_t size, uint8_t callers, uint8_t depth);
 /* Closes it, if it is open, and frees its memory. What was not committed is dropped; what is still on the tape is too. */
 void mars_close(mars *m);
 
@@ -95,6 +100,11 @@ int32_t mars_del(mars *m, uint8_t caller, const uint8_t *table, size_t table_len
  * mars_scan of any caller, and mars_row tells one by its place, from 0 on, with its key and its value as mars_get does. */
 int32_t mars_scan(mars *m, uint8_t caller, const uint8_t *table, size_t table_len, uint64_t low, uint64_t high, uint64_t *count);
 int32_t mars_row(mars *m, uint64_t at, uint64_t *key, uint8_t *room, size_t room_size, uint64_t *len);
+/* The first record from the key `from` to the key `to`, both included, as the caller sees it now: its key, and its value as mars_get tells one. If
+ * there is none (MARS_ABSENT), key, room and len stay as they were. Go on from *key + 1, unless *key is `to`. It is a scan of a few keys for most
+ * records, holds the table as mars_scan does, and leaves the rows of the last mars_scan. */
+int32_t mars_next(mars *m, uint8_t caller, const uint8_t *table, size_t table_len, uint64_t from, uint64_t to, uint64_t *key, uint8_t *room,
+                  size_t room_size, uint64_t *len);
 /* Makes a save, and tells its number, from 1 on. mars_back goes back to one, and forgets the later ones. */
 int32_t mars_save(mars *m, uint8_t caller, uint64_t *save);
 int32_t mars_back(mars *m, uint8_t caller, uint32_t save);
@@ -107,6 +117,21 @@ int32_t mars_offer(mars *m, uint8_t caller);
 int32_t mars_settle(mars *m, uint8_t caller, uint64_t *number);
 /* Takes keys that have no record out of the index, so that others find room, and tells how many. The caller has no transaction. */
 int32_t mars_purge(mars *m, uint8_t caller, uint64_t *keys);
+
+/* Long bytes: 0 to 16,384 bytes of any value under a key below 2^55. They lie in records of the table: those of the key k in the records from
+ * 512 * k to 512 * k + 410, one with their length and one for each 40 bytes. So a table has long bytes or records of its own, and not both: where
+ * mars_put or mars_del has changed such a record, what is read is MARS_BROKEN or other bytes. 16,384 bytes are too many for the log of a small array
+ * (MARS_LOG_FULL): they take 8 loggers with 64 entries.
+ *
+ * Puts the bytes in the place of those that were there. It makes a save first, which stays (mars_save would tell the next number); where it is
+ * refused, it goes back to that, and the bytes are those that were there. If that is refused too, the status is MARS_HALF. */
+int32_t mars_put_bytes(mars *m, uint8_t caller, const uint8_t *table, size_t table_len, uint64_t key, const uint8_t *bytes, size_t size);
+/* The first room_size of the bytes are put into room, and how many there are into len. If there are none (MARS_ABSENT), both stay as they were. */
+int32_t mars_get_bytes(mars *m, uint8_t caller, const uint8_t *table, size_t table_len, uint64_t key, uint8_t *room, size_t room_size, uint64_t *len);
+/* Removes them, as mars_put_bytes puts them: MARS_OK if there were some, and MARS_ABSENT if there were none. */
+int32_t mars_del_bytes(mars *m, uint8_t caller, const uint8_t *table, size_t table_len, uint64_t key);
+/* How many there are, by one look-up. If there are none, len stays as it was. */
+int32_t mars_bytes_length(mars *m, uint8_t caller, const uint8_t *table, size_t table_len, uint64_t key, uint64_t *len);
 
 /* The name of a table by its number, from 0 on ("main" is 0); MARS_NO_TABLE if there is none. It is told as a value is by mars_get. */
 int32_t mars_table(mars *m, uint8_t number, uint8_t *room, size_t room_size, uint64_t *len);
