@@ -146,6 +146,9 @@ static void openings(void) {
     IS(mars_array_open(&a, device, SIZE - 1, 0), MARS_ARRAY_BAD_SHAPE);
     mars_array_text(MARS_ARRAY_IN_USE, device, 10, &len);
     HOLDS(len > 10 && memcmp(device, "the number", 10) == 0);
+    memset(device, '-', 4);
+    mars_array_text(MARS_ARRAY_OK, device, 3, &len);
+    HOLDS(len == 4 && memcmp(device, "don-", 4) == 0);
 }
 
 /* Power is lost at each piece of commits at a depth, and that piece is torn after so many bytes: the first so many commits are found, each whole. */

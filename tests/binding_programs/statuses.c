@@ -256,6 +256,9 @@ static void texts(void) {
     HOLDS(len == n && memcmp(room, other, n) == 0);
     mars_text(MARS_OK, room, 0, &len);
     HOLDS(len > 0);
+    memset(room, '-', 4);
+    mars_text(MARS_OK, room, 3, &len);
+    HOLDS(len == 4 && memcmp(room, "don-", 4) == 0);
 }
 
 int main(void) {

@@ -93,17 +93,3 @@ pub extern "C" fn mars_array_len(alloc: Global, a: &mut Kept) -> u64
 pub extern "C" fn mars_array_text(status: i32, room: &mut [u8], len: &mut u64) {
     put_out(text_of(status), room, len);
 }
-
-#[cfg(test)]
-mod tests {
-    use super::mars_array_text;
-
-    #[test]
-    fn text_is_cut(rt: HostRuntime) {
-        let mut room = [0; 3];
-        let mut len = 0;
-        mars_array_text(0, &mut room, &mut len);
-        assert_eq!(rt; len, 4);
-        assert_eq!(rt; &room, b"don");
-    }
-}

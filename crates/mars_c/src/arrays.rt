@@ -90,17 +90,3 @@ pub extern "C" fn mars_close(alloc: Global, m: &mut Kept)
 pub extern "C" fn mars_text(status: i32, room: &mut [u8], len: &mut u64) {
     put_out(text_of(status), room, len);
 }
-
-#[cfg(test)]
-mod tests {
-    use super::mars_text;
-
-    #[test]
-    fn text_is_cut(rt: HostRuntime) {
-        let mut room = [0; 3];
-        let mut len = 0;
-        mars_text(0, &mut room, &mut len);
-        assert_eq!(rt; len, 4);
-        assert_eq!(rt; &room, b"don");
-    }
-}
