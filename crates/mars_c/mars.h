@@ -162,6 +162,7 @@ void mars_text(int32_t status, uint8_t *room, size_t room_size, uint64_t *len);
 #include <fcntl.h>
 #include <stdlib.h>
 #include <sys/file.h>
+#include <sys/mman.h>
 #include <sys/stat.h>
 #include <unistd.h>
 
@@ -246,15 +247,31 @@ static inline int32_t mars_make_file(const char *path, uint8_t loggers, uint8_t 
     return status;
 }
 
+/* The pages of the file themselves, so that an opening copies them once, straight into the library. They are all read here, where a fault is told:
+ * NULL, and then they are read as any file is. */
+static inline void *mars_map_all(int fd, size_t size) {
+#ifdef MADV_POPULATE_READ
+    void *bytes = size ? mmap(NULL, size, PROT_READ, MAP_PRIVATE, fd, 0) : MAP_FAILED;
+    if (bytes == MAP_FAILED) return NULL;
+    if (madvise(bytes, size, MADV_POPULATE_READ) == 0) return bytes;
+    munmap(bytes, size);
+#else
+    (void)fd, (void)size;
+#endif
+    return NULL;
+}
+
 static inline int32_t mars_read_file(mars_file *f, uint8_t callers) {
     struct stat is;
     if (flock(f->fd, LOCK_EX | LOCK_NB) || fstat(f->fd, &is)) return MARS_FILE;
     size_t size = (size_t)is.st_size;
-    uint8_t *bytes = (uint8_t *)malloc(size ? size : 1);
+    void *map = mars_map_all(f->fd, size);
+    uint8_t *bytes = map ? (uint8_t *)map : (uint8_t *)malloc(size ? size : 1);
     if (!bytes) return MARS_NO_MEMORY;
-    int32_t status = mars_read_all(f->fd, bytes, size) ? MARS_FILE : mars_open(&f->m, bytes, size, callers);
+    int32_t status = !map && mars_read_all(f->fd, bytes, size) ? MARS_FILE : mars_open(&f->m, bytes, size, callers);
     int why = errno;
-    free(bytes);
+    if (map) munmap(map, size);
+    else free(bytes);
     errno = why;
     return status;
 }
