@@ -1,4 +1,5 @@
 // The numbers of an array, and its places.
+ghost use Rattle.std.specs.Prelude.{◌≡◌, ◌/◌, ◌%◌, ◌<◌};
 ghost use Rattle.array_shape.specs.Numbers.{AreInRange};
 
 use crate::bad_shape::{BadShape, ShapeNumber};
@@ -162,11 +163,10 @@ impl Shape {
         ensures logger { result.logger ≡ logger_of self.now addr }
         ensures offset { result.offset ≡ offset_of self.now addr }
     {
-        let page = addr / PAGE_LEN;
-        let loggers = u64::from(self.loggers);
+        let (turn, logger) = dealt(addr / PAGE_LEN, self.loggers);
         Place {
-            logger: (page % loggers) as u8,
-            offset: PAGE_LEN * (page / loggers) + addr % PAGE_LEN,
+            logger: logger as u8,
+            offset: PAGE_LEN * turn + addr % PAGE_LEN,
         }
     }
 
@@ -203,6 +203,22 @@ impl Shape {
         ensures { result ≡ region_at self.now logger }
     {
         HEADER_LEN + u64::from(logger) * self.region_len()
+    }
+}
+
+// Pages are dealt to the loggers by turns: in which turn this one, and to which logger. A division by a constant is far cheaper than one by
+// a number that is known at run time alone, and each read and write of the data needs one.
+fn dealt(page: u64, loggers: u8) -> (u64, u64)
+    requires { 0 < loggers }
+    ensures turn { result.0 ≡ page / loggers }
+    ensures logger { result.1 ≡ page % loggers }
+{
+    match loggers {
+        1 => (page, 0),
+        2 => (page / 2, page % 2),
+        4 => (page / 4, page % 4),
+        8 => (page / 8, page % 8),
+        _ => (page / u64::from(loggers), page % u64::from(loggers)),
     }
 }
 

@@ -1,5 +1,5 @@
 -- What the calls of a medium in memory did, told as the tape of one of which nothing was taken down.
-use Rattle.std.specs.Prelude.{ℕ, false, List, [], replicate}
+use Rattle.std.specs.Prelude.{ℕ, ◌+◌, ◌-◌, ◌^◌, nat_le, Bool, false, List, [], replicate}
 use Rattle.pcm_media.specs.Images.{Content}
 use Rattle.tape_media.specs.Steps as steps
 use Rattle.tape_media.specs.Steps.{Step, Made, writes, barrier}
@@ -23,3 +23,7 @@ blank len = tape_of len 0 0 []
 -- what it holds
 abbrev pub content_of : Tape → Content
 content_of tape = steps.content_of tape.past
+
+-- its next calls will not fail: this many, whatever they write
+abbrev pub is_steady : Tape → ℕ → ℕ → Bool
+is_steady tape calls bytes = nat_le (tape.moment + calls) (2 ^ 64 - 1)

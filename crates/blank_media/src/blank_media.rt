@@ -1,12 +1,12 @@
 // A medium in memory that begins with zeros.
-ghost use Rattle.std.specs.Prelude.{◌≡◌, ◌+◌, ◌-◌, ◌^◌, ◌≤◌, [], ◌∷◌, true, length, IfOk, OnOk, OnErr};
+ghost use Rattle.std.specs.Prelude.{◌≡◌, ◌+◌, ◌-◌, ◌^◌, ◌≤◌, [], ◌∷◌, true, length, ℕ, IfOk, IsOk, IsTrue, OnOk, OnErr};
 ghost use Rattle.mars_base.specs.Bytes.{put, range};
 ghost use Rattle.mars_base.specs.Moments.{Ticks};
 ghost use Rattle.pcm_media.specs.Images.{written, settled};
 ghost use Rattle.pcm_media.specs.View.{Writes};
 ghost use Rattle.tape_media.specs.Steps.{writes, barrier};
 ghost use Rattle.tape_media.specs.Tape.{Takes, view_of};
-ghost use Rattle.blank_media.specs.Changes.{blank, content_of};
+ghost use Rattle.blank_media.specs.Changes.{blank, content_of, is_steady};
 
 use crate::notes::Change;
 use crate::work::Work;
@@ -15,8 +15,8 @@ use pcm_media::Media;
 use std::alloc::Global;
 use std::marker::Model;
 
-/// A medium in memory that begins with zeros. Its calls fail only at the last moment, and take no memory: where a medium is to be filled once and
-/// then read, it costs its bytes alone.
+/// A medium in memory that begins with zeros. Its calls fail only at the last moment, and take no memory: however long it is used, it costs its
+/// bytes alone.
 #[derive(Drop)]
 pub struct BlankMedia {
     bytes: Vec<u8>,
@@ -61,14 +61,15 @@ impl BlankMedia {
 }
 
 impl Media for BlankMedia {
-    ghost use Rattle.std.specs.Prelude.{true, false, refl};
+    ghost use Rattle.std.specs.Prelude.{true, refl};
     ghost use Rattle.tape_media.specs.Tape.{view_of, counts_now, only_now};
+    ghost use Rattle.blank_media.specs.Changes.{is_steady};
 
     ghost tells = { true };
 
     ghost view = { view_of };
 
-    ghost steady = { λ m calls more. false };
+    ghost steady = { is_steady };
 
     ghost spent = { λ m. Unit {0} };
 
@@ -91,6 +92,7 @@ impl Media for BlankMedia {
         ensures bytes { OnOk result (buf.new ≡ range (content_of self.old).bytes at (length buf.old)) }
         ensures does { Writes true [] (view_of self.old) (view_of self.new) result }
         ensures ticks { Ticks self.old.moment self.new.moment result }
+        ensures steady { (calls more : ℕ) → IsTrue (is_steady self.old (calls + 1) more) → IsOk result × IsTrue (is_steady self.new calls more) }
 
         ensures takes { Takes [] self.old self.new result }
         // It fails only where the moment can not rise.
@@ -107,6 +109,7 @@ impl Media for BlankMedia {
         ensures written { OnOk result (content_of self.new ≡ written at bytes.now (content_of self.old)) }
         ensures does { Writes true ((at, length bytes.now) ∷ []) (view_of self.old) (view_of self.new) result }
         ensures ticks { Ticks self.old.moment self.new.moment result }
+        ensures steady { (calls more : ℕ) → IsTrue (is_steady self.old (calls + 1) (length bytes.now + more)) → IsOk result × IsTrue (is_steady self.new calls more) }
 
         ensures takes { Takes (writes at bytes.now ∷ []) self.old self.new result }
         // It fails only where the moment can not rise.
@@ -121,6 +124,7 @@ impl Media for BlankMedia {
         ensures settled { OnOk result (content_of self.new ≡ settled (content_of self.old)) }
         ensures does { Writes true [] (view_of self.old) (view_of self.new) result }
         ensures ticks { Ticks self.old.moment self.new.moment result }
+        ensures steady { (calls more : ℕ) → IsTrue (is_steady self.old (calls + 1) more) → IsOk result × IsTrue (is_steady self.new calls more) }
 
         ensures takes { Takes (barrier ∷ []) self.old self.new result }
         // It fails only where the moment can not rise.

@@ -22,6 +22,9 @@ impl Model for Notes {
     ghost also_owns = { λ _. ftrue };
 }
 
+// It owns nothing, so it may go to another thread.
+unsafe impl Send for Notes {}
+
 impl Notes {
     // Nothing was done yet.
     pub fn new() -> Notes
