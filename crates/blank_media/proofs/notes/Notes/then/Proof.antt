@@ -14,7 +14,7 @@ use denote.Signature.{plain, types_at, named_lft}
 use denote.Steps.{nothing}
 use denote.Triple.Entry.{alive}
 use denote.Triple.Walked.{says, Stays, stay_dropped, walk_of, ends_at, Goes-dropped}
-use Rattle.blank_media.proofs.Walks.{none, none_made}
+use Rattle.ghost_walks.proofs.Walks.{none, none_made}
 use Rattle.blank_media.specs.Changes.{step_of}
 use Rattle.blank_media.specs.contracts.notes.Change as Change
 use Rattle.blank_media.specs.contracts.notes.Notes as Notes

@@ -14,7 +14,7 @@ use denote.Signature.{plain, types_at}
 use denote.Steps.{nothing}
 use denote.Triple.Entry.{alive}
 use denote.Triple.Walked.{says, Stays, stay_dropped, walk_of, ends_at, Goes-dropped}
-use Rattle.noted.proofs.Walks.{none, none_made}
+use Rattle.ghost_walks.proofs.Walks.{none, none_made}
 use Rattle.record_slots.specs.contracts.value.Value as Value
 use Rattle.noted.specs.contracts.notes.RowNotes as Rows
 use Rattle.noted.specs.contracts.notes.RowNotes.then as f
