@@ -62,16 +62,13 @@ typedef struct Table {
     size_t name_len;
 } Table;
 
-typedef struct Row {
-    uint64_t key, len;
-    uint8_t value[MOST_VALUE];
-} Row;
-
-/* The rows that were asked for, as they were then. */
+/* Stands at a row, or at the end of the keys that were asked for. */
 typedef struct Cursor {
     sqlite3_vtab_cursor base;
-    uint64_t count, at;
-    Row *rows;
+    uint64_t last; /* of these keys */
+    bool is_at_end;
+    uint64_t key, len;
+    uint8_t value[MOST_VALUE];
 } Cursor;
 
 /* ---- errors ---- */
@@ -380,39 +377,23 @@ static int cursor_open(sqlite3_vtab *v, sqlite3_vtab_cursor **out) {
 static int cursor_close(sqlite3_vtab_cursor *v) {
     Array *a = ((Table *)v->pVtab)->array;
     if (--a->cursors == 0 && !a->is_writing) drop(a);
-    sqlite3_free(((Cursor *)v)->rows);
     sqlite3_free(v);
     return SQLITE_OK;
 }
 
-/* Room for so many rows. */
-static int32_t make_rows(Cursor *c, uint64_t count) {
-    sqlite3_free(c->rows);
-    c->rows = sqlite3_malloc64((count ? count : 1) * sizeof *c->rows);
-    return c->rows ? MARS_OK : MARS_NO_MEMORY;
-}
-
-/* Reads one record, by which the transaction holds no more than its key. */
-static int32_t read_one(Cursor *c, Table *t, uint64_t key) {
-    int32_t status = make_rows(c, 1);
-    if (status != MARS_OK) return status;
-    Row *row = c->rows;
-    row->key = key;
-    status = mars_get(&t->array->file.m, CALLER, t->name, t->name_len, key, row->value, MOST_VALUE, &row->len);
-    c->count = status == MARS_OK;
-    return status == MARS_ABSENT ? MARS_OK : status;
-}
-
-static int32_t read_range(Cursor *c, Table *t, uint64_t low, uint64_t high) {
+/* Goes to the first row from this key on. Where the transaction of the last one was ended, a new one begins. One key alone is held alone. */
+static int go_to(Cursor *c, uint64_t from) {
+    Table *t = (Table *)c->base.pVtab;
     mars *m = &t->array->file.m;
-    uint64_t count = 0;
-    int32_t status = mars_scan(m, CALLER, t->name, t->name_len, low, high, &count);
-    if (status == MARS_OK) status = make_rows(c, count);
-    for (; status == MARS_OK && c->count < count; c->count++) {
-        Row *row = &c->rows[c->count];
-        status = mars_row(m, c->count, &row->key, row->value, MOST_VALUE, &row->len);
+    int32_t status = begin(t->array);
+    if (status == MARS_OK && from < c->last) {
+        status = mars_next(m, CALLER, t->name, t->name_len, from, c->last, &c->key, c->value, MOST_VALUE, &c->len);
+    } else if (status == MARS_OK) {
+        c->key = from;
+        status = mars_get(m, CALLER, t->name, t->name_len, from, c->value, MOST_VALUE, &c->len);
     }
-    return status;
+    c->is_at_end = status != MARS_OK;
+    return status == MARS_ABSENT ? SQLITE_OK : told(t, status);
 }
 
 /* Narrows the keys from *low to *high. What is no whole number narrows nothing: SQLite tests the rows. */
@@ -426,41 +407,36 @@ static void narrow(int way, sqlite3_value *value, sqlite3_int64 *low, sqlite3_in
 
 static int cursor_filter(sqlite3_vtab_cursor *v, int ways, const char *text, int count, sqlite3_value **values) {
     Cursor *c = (Cursor *)v;
-    Table *t = (Table *)v->pVtab;
     sqlite3_int64 low = 0, high = INT64_MAX;
     int at = 0;
     (void)text;
     for (int way = EQUAL; way <= TO && at < count; way *= 2)
         if (ways & way) narrow(way, values[at++], &low, &high);
-    c->count = c->at = 0;
-    if (low > high) return SQLITE_OK;
-    int32_t status = begin(t->array);
-    if (status == MARS_OK) status = low == high ? read_one(c, t, (uint64_t)low) : read_range(c, t, (uint64_t)low, (uint64_t)high);
-    return told(t, status);
+    c->is_at_end = low > high;
+    if (c->is_at_end) return SQLITE_OK;
+    c->last = (uint64_t)high;
+    return go_to(c, (uint64_t)low);
 }
 
 static int cursor_next(sqlite3_vtab_cursor *v) {
-    ((Cursor *)v)->at++;
-    return SQLITE_OK;
+    Cursor *c = (Cursor *)v;
+    c->is_at_end = c->key >= c->last;
+    return c->is_at_end ? SQLITE_OK : go_to(c, c->key + 1);
 }
 
 static int cursor_is_at_end(sqlite3_vtab_cursor *v) {
-    return ((Cursor *)v)->at >= ((Cursor *)v)->count;
-}
-
-static const Row *row_of(sqlite3_vtab_cursor *v) {
-    return &((Cursor *)v)->rows[((Cursor *)v)->at];
+    return ((Cursor *)v)->is_at_end;
 }
 
 static int cursor_column(sqlite3_vtab_cursor *v, sqlite3_context *to, int column) {
-    const Row *row = row_of(v);
-    if (column == 0) sqlite3_result_int64(to, (sqlite3_int64)row->key);
-    if (column == 1) sqlite3_result_text(to, (const char *)row->value, (int)row->len, SQLITE_TRANSIENT);
+    const Cursor *c = (Cursor *)v;
+    if (column == 0) sqlite3_result_int64(to, (sqlite3_int64)c->key);
+    if (column == 1) sqlite3_result_text(to, (const char *)c->value, (int)c->len, SQLITE_TRANSIENT);
     return SQLITE_OK;
 }
 
 static int cursor_rowid(sqlite3_vtab_cursor *v, sqlite3_int64 *key) {
-    *key = (sqlite3_int64)row_of(v)->key;
+    *key = (sqlite3_int64)((Cursor *)v)->key;
     return SQLITE_OK;
 }
 
