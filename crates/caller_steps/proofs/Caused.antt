@@ -33,16 +33,7 @@ if_none false r refusal e = sym (some_is r refusal e)
 save_own : (saves : ℕ) (call : Call) (refusal : Reply) → save_refusal saves call ≡ Some refusal → is_of_state refusal ≡ true
 save_own saves Save refusal e = ap is_of_state (if_none _ reply.SavesFull refusal e)
 save_own saves (Back n) refusal e = ap is_of_state (if_none _ (reply.NoSave n) refusal e)
-save_own saves Begin refusal e = absurd (cc)
-save_own saves (Get name key) refusal e = absurd (cc)
-save_own saves (Put name key value) refusal e = absurd (cc)
-save_own saves (Del name key) refusal e = absurd (cc)
-save_own saves (Scan name low high) refusal e = absurd (cc)
-save_own saves Commit refusal e = absurd (cc)
-save_own saves Abort refusal e = absurd (cc)
-save_own saves Offer refusal e = absurd (cc)
-save_own saves Settle refusal e = absurd (cc)
-save_own saves Purge refusal e = absurd (cc)
+save_own saves _ refusal e = absurd (cc)
 
 module _ (s : State) (t : ℕ) (call : Call) where
   or_own : (first : Option Reply) → save_refusal (saves_of s t) call ≡ first → (refusal : Reply) → or_else first (table_refusal s.names call) ≡ Some refusal → is_of_state refusal ≡ true
@@ -73,12 +64,7 @@ kind_else saves Save (reply.Saved n) kind = refl
 kind_else saves Save _ kind = absurd kind
 kind_else saves (Back n) reply.Fine kind = refl
 kind_else saves (Back n) _ kind = absurd kind
-kind_else saves Begin answer kind = absurd kind
-kind_else saves Commit answer kind = absurd kind
-kind_else saves Abort answer kind = absurd kind
-kind_else saves Offer answer kind = absurd kind
-kind_else saves Settle answer kind = absurd kind
-kind_else saves Purge answer kind = absurd kind
+kind_else saves _ answer kind = absurd kind
 
 meet_else : (limits : Limits) (call : Call) (answer : Reply) → MayMeet limits call answer → is_of_state answer ≡ false
 meet_else limits call reply.Media meets = refl
@@ -180,12 +166,7 @@ module _ (limits : Limits) (s : State) (t : ℕ) where
       go Commit cause = absurd cause
       go Settle cause = none (s.offers t) cause
       go Purge cause = absurd cause
-      go (Get name key) cause = cause
-      go (Put name key value) cause = cause
-      go (Del name key) cause = cause
-      go (Scan name low high) cause = cause
-      go Save cause = cause
-      go (Back n) cause = cause
+      go _ cause = cause
 
   -- what is not refused: the medium has not failed, the caller's transaction lets it be, and its table is there
   pub not_refused : (call : Call) → refusal_in s t call ≡ None → (s.is_dead ≡ false) × ((may_do s t call ≡ true) × (has_table s.names call ≡ true))
@@ -230,12 +211,7 @@ module _ (limits : Limits) (s : State) (t : ℕ) where
       go (Scan name low high) cause = table (Scan name low high) cause
       go Save cause = table Save cause
       go (Back n) cause = table (Back n) cause
-      go Begin cause = λ holder blocks. false≢true blocks.1.1
-      go Commit cause = λ holder blocks. false≢true blocks.1.1
-      go Abort cause = λ holder blocks. false≢true blocks.1.1
-      go Offer cause = λ holder blocks. false≢true blocks.1.1
-      go Settle cause = λ holder blocks. false≢true blocks.1.1
-      go Purge cause = λ holder blocks. false≢true blocks.1.1
+      go _ cause = λ holder blocks. false≢true blocks.1.1
 
 -- and so nowhere, while nobody has a transaction
 pub nobody_holds : (limits : Limits) (old : State) (caller holder : ℕ) (call : Call) → ((other : ℕ) → old.live other ≡ None) → ReplyCause limits old caller call (reply.Busy holder) → ⊥

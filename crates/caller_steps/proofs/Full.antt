@@ -99,28 +99,10 @@ module _ (limits : Limits) (old : State) (caller : ℕ) where
   fits_none (Put name key value) reply fits lacks = fits_at (of_table name key) (old.index.slot_of (of_table name key)) reply fits lacks
   fits_none (Del name key) reply fits (seen, slot, is, lacks) =
       fits_at (of_table name key) (Some slot) reply (subst (λ (n : ℕ). HasEntry limits old caller (of_table name key) n) (ap (λ (o : Option ℕ). unwrap_or o old.index.due) is) (fits seen)) lacks
-  fits_none (Get name key) reply fits lacks = lacks
-  fits_none (Scan name low high) reply fits lacks = lacks
-  fits_none Save reply fits lacks = lacks
-  fits_none (Back n) reply fits lacks = lacks
-  fits_none Begin reply fits lacks = lacks
-  fits_none Commit reply fits lacks = lacks
-  fits_none Abort reply fits lacks = lacks
-  fits_none Offer reply fits lacks = lacks
-  fits_none Settle reply fits lacks = lacks
-  fits_none Purge reply fits lacks = lacks
+  fits_none _ reply fits lacks = lacks
 
   pub lacks_one : (call : Call) (one other : Reply) → Lacks limits old caller call one → Lacks limits old caller call other → one ≡ other
   lacks_one (Put name key value) one other a b = at_one (of_table name key) (old.index.slot_of (of_table name key)) one other a b
   lacks_one (Del name key) one other (seen, slot, is, a) (seen', slot', is', b) =
       at_one (of_table name key) (Some slot) one other a (subst (λ (n : ℕ). LacksAt limits old caller (of_table name key) (Some n) other) (some_one slot' slot (sym is' ∙ is)) b)
-  lacks_one (Get name key) one other a b = absurd a
-  lacks_one (Scan name low high) one other a b = absurd a
-  lacks_one Save one other a b = absurd a
-  lacks_one (Back n) one other a b = absurd a
-  lacks_one Begin one other a b = absurd a
-  lacks_one Commit one other a b = absurd a
-  lacks_one Abort one other a b = absurd a
-  lacks_one Offer one other a b = absurd a
-  lacks_one Settle one other a b = absurd a
-  lacks_one Purge one other a b = absurd a
+  lacks_one _ one other a b = absurd a

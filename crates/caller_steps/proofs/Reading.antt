@@ -42,35 +42,25 @@ module _ (calls : Granted) (none : HasNone calls) where
   back_none n false is = none
 
   log_none : (call : Call) (reply : Reply) → is_write call ≡ false → (log_after (log_of calls) call reply).writes ≡ []
-  log_none (Get name key) reply reads = none
   log_none (Put name key value) reply reads = absurd (true≢false reads)
   log_none (Del name key) reply reads = absurd (true≢false reads)
-  log_none (Scan name low high) reply reads = none
-  log_none Save reply reads = none
   log_none (Back n) reply reads = back_none n (has_save (log_of calls).saved n) refl
-  log_none Begin reply reads = none
-  log_none Commit reply reads = none
-  log_none Abort reply reads = none
-  log_none Offer reply reads = none
-  log_none Settle reply reads = none
   log_none Purge reply reads = absurd (true≢false reads)
+  log_none _ reply reads = none
 
   more_none : (call : Call) (reply : Reply) → is_write call ≡ false → HasNone (calls ++ (call, reply) ∷ [])
   more_none call reply reads = ap (λ (l : Log). l.writes) (log_of-push calls call reply) ∙ log_none call reply reads
 
   live_none : (call : Call) (reply : Reply) → is_write call ≡ false → HasNone (unwrap_or (live_with calls call reply) [])
-  live_none Begin reply reads = refl
   live_none (Get name key) reply reads = more_none (Get name key) reply reads
   live_none (Put name key value) reply reads = absurd (true≢false reads)
   live_none (Del name key) reply reads = absurd (true≢false reads)
   live_none (Scan name low high) reply reads = more_none (Scan name low high) reply reads
   live_none Save reply reads = more_none Save reply reads
   live_none (Back n) reply reads = more_none (Back n) reply reads
-  live_none Commit reply reads = refl
-  live_none Abort reply reads = refl
   live_none Offer reply reads = none
-  live_none Settle reply reads = refl
   live_none Purge reply reads = absurd (true≢false reads)
+  live_none _ reply reads = refl
 
 module _ (limits : Limits) (old : State) (caller : ℕ) (new : State) (alive : new.is_dead ≡ false) where
   said : (answer reply : Reply) → Says answer old reply new → new.index ≡ old.index

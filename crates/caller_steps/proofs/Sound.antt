@@ -27,16 +27,16 @@ use Rattle.caller_steps.proofs.Fates.{Fate, refused, failed, began, granted, com
 with_index : (state : State) → IsSound state → (index : Index) → IsSound (record state { index = index })
 with_index state sound index = record { legal = sound.legal; certain = sound.certain; doubtful = sound.doubtful; groups = sound.groups; doubtful_groups = sound.doubtful_groups; right = sound.right; offers = sound.offers; apart = sound.apart }
 
--- a caller has settled
-without_offer : (state : State) (caller : ℕ) → IsSound state → IsSound (with_offer state caller unoffered)
-without_offer state caller sound = record {
+-- a caller offers its transaction, or has settled
+offers_as : (old : State) (caller : ℕ) → IsSound old → (offer : Offer) → IsOfferOf old.history caller (old.live caller) offer → IsSound (with_offer old caller offer)
+offers_as old caller sound offer is = record {
   legal = sound.legal;
   certain = sound.certain;
   doubtful = sound.doubtful;
   groups = sound.groups;
   doubtful_groups = sound.doubtful_groups;
   right = sound.right;
-  offers = offer-update state.history caller state.live state.offers sound.offers unoffered tt;
+  offers = offer-update old.history caller old.live old.offers sound.offers offer is;
   apart = sound.apart;
 }
 
@@ -69,19 +69,6 @@ module _ (old : State) (caller : ℕ) (sound : IsSound old) where
     right = right-update (records_of old) old.live caller None (λ other ne. sound.right other) tt;
     offers = live-update old.history caller old.live old.offers sound.offers None (of_none old.history caller None (old.offers caller) un);
     apart = apart-update old.names old.live caller None sound.apart (λ other ne stripe. refl);
-  }
-
-  -- a caller offers its transaction, or has settled
-  offers_as : (offer : Offer) → IsOfferOf old.history caller (old.live caller) offer → IsSound (with_offer old caller offer)
-  offers_as offer is = record {
-    legal = sound.legal;
-    certain = sound.certain;
-    doubtful = sound.doubtful;
-    groups = sound.groups;
-    doubtful_groups = sound.doubtful_groups;
-    right = sound.right;
-    offers = offer-update old.history caller old.live old.offers sound.offers offer is;
-    apart = sound.apart;
   }
 
   module _ (calls : Granted) (is : calls_of old caller ≡ calls) where
@@ -150,10 +137,10 @@ module _ (old : State) (caller : ℕ) (sound : IsSound old) where
   fate_sound callers call reply new alive (committed calls un c r l index e) = subst IsSound (sym e) (commits calls (ap (λ o. unwrap_or o []) l) un alive index)
   fate_sound callers call reply new alive (doubted calls un c r l index e) = subst IsSound (sym e) (doubts calls (ap (λ o. unwrap_or o []) l) un index)
   fate_sound callers call reply new alive (aborted calls un c r l e) = subst IsSound (sym e) (ends un)
-  fate_sound callers call reply new alive (given calls un c r l e) = subst IsSound (sym e) (offers_as offered (ap is_some l))
+  fate_sound callers call reply new alive (given calls un c r l e) = subst IsSound (sym e) (offers_as old caller sound offered (ap is_some l))
   fate_sound callers call reply new alive (settled inside has c r index e) =
       let group = group_sound old sound alive (offerers callers old) in
-      subst IsSound (sym e) (with_index _ (without_offer (committed_group old (offerers callers old)) caller group) index)
+      subst IsSound (sym e) (with_index _ (offers_as (committed_group old (offerers callers old)) caller group unoffered tt) index)
   fate_sound callers call reply new alive (unsure inside has c r index e) = subst IsSound (sym e) (with_index _ (doubted_sound old sound alive (offerers callers old)) index)
   fate_sound callers call reply new alive (told n has c r e) = subst IsSound (sym e) (one_without old caller sound)
   fate_sound callers call reply new alive (purged n un l c r index e) = subst IsSound (sym e) (same index old.is_dead (λ is. is))
