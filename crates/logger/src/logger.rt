@@ -137,7 +137,8 @@ impl Logger {
         ensures costs { Costs true 1 (M.view media.old).moment (M.view media.new).moment result }
         ensures does { Writes M.tells [] (M.view media.old) (M.view media.new) result }
     {
-        let cell = self.read_cell(media, tid, entry)?;
+        let mut cell = [0; 528];
+        self.read_cell(media, tid, entry, &mut cell)?;
         buf.copy_from_slice(&cell[16..]);
         Ok(head_of(&cell))
     }
@@ -193,23 +194,29 @@ impl Logger {
         ensures does { Writes M.tells ((cell_at self.shape self.number tid entry, 528) ∷ [])
             (M.view media.old) (M.view media.new) result }
     {
-        let cell = cell_with(addr, bytes);
+        let mut cell = [0; 528];
+        fill_cell(&mut cell, addr, bytes);
         let len = 16 + bytes.len();
         media.write(self.shape.cell_at(self.number, tid, entry), &cell[..len])
     }
 
-    fn read_cell<M: Media>(self, media: &mut M, tid: u8, entry: u16) -> Result<[u8; 528], Failed>
+    // Fills the buffer with a cell.
+    fn read_cell<M: Media>(
+        self,
+        media: &mut M,
+        tid: u8,
+        entry: u16,
+        cell: &mut [u8; 528],
+    ) -> Result<(), Failed>
         requires size { (M.view media.old).size ≡ media_len self.shape }
         requires tid { tid < self.shape.numbers }
         requires entry { entry < self.shape.entries }
-        ensures cell { IsTrue M.tells → IfOk result (λ cell. cell ≡
+        ensures cell { IsTrue M.tells → OnOk result (cell.new ≡
             cell_of self.shape (M.view media.old).content.bytes self.number tid entry) }
         ensures costs { Costs true 1 (M.view media.old).moment (M.view media.new).moment result }
         ensures does { Writes M.tells [] (M.view media.old) (M.view media.new) result }
     {
-        let mut cell = [0; 528];
-        media.read(self.shape.cell_at(self.number, tid, entry), &mut cell)?;
-        Ok(cell)
+        media.read(self.shape.cell_at(self.number, tid, entry), cell)
     }
 
     fn apply_cell<M: Media>(self, media: &mut M, tid: u8, entry: u16) -> Result<(), Failed>
@@ -227,7 +234,8 @@ impl Logger {
             places_of self.shape (cell_part cell ∷ []))
             (M.view media.old) (M.view media.new) result }
     {
-        let cell = self.read_cell(media, tid, entry)?;
+        let mut cell = [0; 528];
+        self.read_cell(media, tid, entry, &mut cell)?;
         self.write_part(media, &cell)
     }
 
@@ -276,10 +284,10 @@ pub(crate) fn bytes_of(part: Part, addr: u64, bytes: &[u8]) -> &[u8]
     &bytes[from..from + usize::from(part.len)]
 }
 
-// A cell that holds these bytes for an address; what lies behind them is 0.
-fn cell_with(addr: u64, bytes: &[u8]) -> [u8; 528]
+// Puts these bytes for an address into a cell.
+fn fill_cell(cell: &mut [u8; 528], addr: u64, bytes: &[u8])
     requires { length bytes.now ≤ 512 }
-    ensures { take (16 + length bytes.now) result ≡ head_bytes (record { addr = addr; len = length bytes.now }) ++ bytes.now }
+    ensures { take (16 + length bytes.now) cell.new ≡ head_bytes (record { addr = addr; len = length bytes.now }) ++ bytes.now }
 {
     let head = Head {
         addr,
@@ -287,10 +295,8 @@ fn cell_with(addr: u64, bytes: &[u8]) -> [u8; 528]
     };
     let mut head_bytes = [0; 16];
     write_head(&head, &mut head_bytes);
-    let mut cell = [0; 528];
     cell[..16].copy_from_slice(&head_bytes);
     cell[16..16 + bytes.len()].copy_from_slice(bytes);
-    cell
 }
 
 fn head_of(cell: &[u8; 528]) -> Head

@@ -14,7 +14,7 @@ returns-clause-bytes g c told =
     let cell = cell_of shape old c.args.self.number c.args.tid c.args.entry in
     let cell_long = length-cell shape old c.args.self.number c.args.tid c.args.entry long c.args.self.there c.requires.tid c.requires.entry in
     let short : length (drop 16 (cell_of shape old c.args.self.number c.args.tid c.args.entry)) ≤ 512 = omega (arith, length-drop 16 cell) in
-    c.copy_from_slice.ensures.after ∙ (λ i. take 512 (drop 16 (c.in_ok-cell.ensures.cell told i))) ∙ take_all 512 (drop 16 cell) short
+    c.copy_from_slice.ensures.after ∙ (λ i. take 512 (drop 16 (c.in_ok-read_cell.ensures.cell told i))) ∙ take_all 512 (drop 16 cell) short
 
 pub returns-clause-costs : goal.returns-clause-costs
-returns-clause-costs g c = costs_all true _ _ _ _ (c.in_ok-cell.ensures.costs.done refl)
+returns-clause-costs g c = costs_all true _ _ _ _ (c.in_ok-read_cell.ensures.costs.done refl)

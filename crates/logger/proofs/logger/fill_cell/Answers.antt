@@ -1,7 +1,7 @@
 use Rattle.std.proofs.Common.{◌+◌, refl, ◌∙◌, length}
 use Rattle.row_bytes.specs.Written.{head_bytes}
 use Rattle.logger.proofs.Heading.{headed}
-use Rattle.logger.proofs.logger.cell_with.Goals as goal
+use Rattle.logger.proofs.logger.fill_cell.Goals as goal
 
 pub returns : goal.returns
 returns c =
