@@ -28,6 +28,7 @@ use record_slots::{Slot, Super};
 ///
 /// If it is not given out, the pair's page is damaged. If it carries another key, or none, or is another table's, the slot's own page is.
 /// That page is read unless it is held, and is held then.
+#[inline(always)]
 pub fn check_slot<S: EawStore, H: Keeper>(
     pages: &mut Pages<S>,
     held: &mut HeldPage,
@@ -72,6 +73,7 @@ pub fn check_slot<S: EawStore, H: Keeper>(
 }
 
 // Adds the record of a key if its slot holds one.
+#[inline(always)]
 fn push_record<H: Keeper>(
     rows: &mut NotedRows<H>,
     key: u64,
@@ -86,6 +88,7 @@ fn push_record<H: Keeper>(
 }
 
 // Whether what was read is a slot of this table and key.
+#[inline(always)]
 fn is_of_key(said: &Option<Slot>, table: u8, key: u64) -> bool
     ensures { IsTrue result ↔ IsOfKey table key said.now }
 {

@@ -39,6 +39,7 @@ impl HeldPage {
 }
 
 /// Reads what a slot says: nothing is read if its page is held, and else that page is, once.
+#[inline(always)]
 pub fn fetch_held_slot<S: EawStore>(
     pages: &mut Pages<S>,
     held: &mut HeldPage,
@@ -102,6 +103,7 @@ fn is_page(held: Option<u32>, page: u32) -> bool
 }
 
 // What slot `i` of a page says.
+#[inline(always)]
 fn slot_in(page: &[u8; PAGE_LEN], i: u32) -> Option<Slot>
     requires { i < 8 }
     ensures { result ≡ slot_said (range page.now (64 * i) 64) }

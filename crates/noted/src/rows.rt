@@ -48,6 +48,12 @@ impl<H: Keeper> NotedRows<H> {
         ensures ok { OnOk result (self.new ≡ self.old ++ (key, value) ∷ []) }
         ensures err { OnErr result (self.new ≡ self.old) }
     {
+        // What keeps nothing is known as the program is built, and then the value need not be made.
+        if !H::keeps() {
+            self.kept = None;
+            self.notes = self.notes.then(key, &value);
+            return Ok(());
+        }
         let told = self.notes.then(key, &value);
         if let Some(rows) = &mut self.kept {
             if rows.push(key, value).is_err() {

@@ -1,5 +1,5 @@
 -- What is kept after a read from below, after a write, and after a write that failed.
-use Rattle.std.proofs.Common.{◌≡◌, ℕ, ◌+◌, ◌-◌, ◌*◌, ◌/◌, ◌<◌, ◌≤◌, min, Bool, true, false, inl, inr, List, [], ◌∷◌, length, get_or, take, refl, sym, ◌∙◌, ap, arith}
+use Rattle.std.proofs.Common.{◌≡◌, ℕ, ◌+◌, ◌-◌, ◌*◌, ◌/◌, ◌%◌, ◌<◌, ◌≤◌, min, Bool, true, false, inl, inr, List, [], ◌∷◌, length, get_or, take, refl, sym, ◌∙◌, ap, arith}
 use Rattle.std.proofs.lemmas.Bool.{cases_lt}
 use Rattle.std.proofs.lemmas.List.{ext_get_or, get_or-take}
 use Rattle.mars_base.specs.Bytes.{put, range}
@@ -7,7 +7,7 @@ use Rattle.mars_base.proofs.Puts.{get_or-put_inside}
 use Rattle.pcm_media.specs.Images.{Content, Touched}
 use Rattle.pcm_media.proofs.Left.{get_or-put_outside}
 use Rattle.pcm_media.proofs.Ranges.{length-range, get_or-range}
-use Rattle.resident_media.specs.Blocks.{Kept, Holds, IsSeen, IsPut, IsMarked, AreKnown, Covers, IsCovered, byte_at, end_block}
+use Rattle.resident_media.specs.Blocks.{Kept, Holds, IsSeen, IsPut, IsMarked, AreKnown, Covers, byte_at, end_block}
 use Rattle.resident_media.proofs.Spots.{not_both}
 
 module _ (at count : ℕ) (part : List ℕ) (kept next : Kept) (long : length part ≡ count) (len : next.len ≡ kept.len) (covers : Covers at (length part) kept.len kept.known next.known)
@@ -87,6 +87,10 @@ holds_forgotten kept next old new at count touched len room places inside others
 -- a call that writes nothing
 pub holds_same : (kept : Kept) (old new : Content) → Touched [] old new → Holds kept old.bytes → Holds kept new.bytes
 holds_same kept old new touched holds i lt seen = holds i lt seen ∙ sym (touched.bytes.same i tt)
+
+-- all lies in one known block
+pub known_one : (known : List Bool) (at n : ℕ) → at % 16384 + n ≤ 16384 → get_or known (at / 16384) false ≡ true → AreKnown known (at / 16384) (end_block at n)
+known_one known at n few is b le lt = ap (λ (k : ℕ). get_or known k false) (omega (arith, few, le, lt)) ∙ is
 
 -- known bytes are those of the content
 pub served : (kept : Kept) (content buf : List ℕ) (at n : ℕ) → at + n ≤ kept.len → at + n ≤ length content → length buf ≡ n → AreKnown kept.known (at / 16384) (end_block at n)

@@ -1,9 +1,9 @@
 -- A place for a block.
-use Rattle.std.proofs.Common.{◌≡◌, ℕ, zero, suc, ◌+◌, ◌-◌, ◌*◌, ◌/◌, ◌%◌, ◌<◌, ◌≤◌, ◌⊎◌, min, Bool, true, false, inl, inr, List, [], ◌∷◌, ◌++◌, length, get_or, set, replicate, refl, sym, ◌∙◌, ap, arith, length-append}
-use Rattle.std.proofs.lemmas.Bool.{cases_lt, cases_eq}
-use Rattle.std.proofs.lemmas.List.{length-set, length-replicate, get_or-set_same, get_or-set_other, get_or_append_left}
+use Rattle.std.proofs.Common.{◌≡◌, ℕ, zero, suc, ◌+◌, ◌*◌, ◌/◌, ◌<◌, ◌≤◌, Bool, true, false, inl, inr, List, [], ◌∷◌, ◌++◌, length, get_or, set, replicate, refl, sym, ◌∙◌, ap, subst, arith, length-append, append_assoc}
+use Rattle.std.proofs.lemmas.Bool.{cases_eq, false_from_ne_true}
+use Rattle.std.proofs.lemmas.List.{length-set, length-replicate, get_or-set_same, get_or-set_other, get_or_append_left, get_or-append_right}
 use Rattle.resident_media.specs.Blocks.{Kept, Stands, placeless}
-use Rattle.resident_media.specs.Placing.{Gets}
+use Rattle.resident_media.specs.Placing.{Appends}
 use Rattle.resident_media.proofs.Spots.{not_both}
 
 placeless_set : (xs : List ℕ) (i v : ℕ) → i < length xs → get_or xs i 0 ≡ 0 → 0 < v → placeless (set xs i v) + 1 ≡ placeless xs
@@ -61,7 +61,7 @@ module _ (kept : Kept) (capacity : ℕ) (s : Stands kept capacity) (block : ℕ)
   pub spare : length kept.room + 16384 ≤ capacity
   spare = omega (arith, s.full, s.fits, free_less)
 
-  here : get_or (set kept.places block place) block 0 ≡ place
+  pub here : get_or (set kept.places block place) block 0 ≡ place
   here = get_or-set_same kept.places block place 0 (omega (arith, s.long))
 
   module _ (zeros : List ℕ) (long : length zeros ≡ 16384) where
@@ -71,18 +71,11 @@ module _ (kept : Kept) (capacity : ℕ) (s : Stands kept capacity) (block : ℕ)
     longer : length (kept.room ++ zeros) ≡ length kept.room + 16384
     longer = omega (arith, length-append kept.room zeros)
 
-    pub gets_new : Gets block kept next
-    gets_new = record {
-      len = refl;
-      known = refl;
-      placed = omega (arith, here);
-      places = λ b some. elim (cases_eq b block) [
-        | inl is ↦ absurd (omega (arith, ap (λ (k : ℕ). get_or kept.places k 0) is, some))
-        | inr other ↦ get_or-set_other kept.places block b place 0 other
-      ];
-      long = omega (arith, longer);
-      bytes = λ k low. get_or_append_left kept.room zeros 0 k low;
-    }
+    pub kept_places : (b : ℕ) → 0 < get_or kept.places b 0 → get_or next.places b 0 ≡ get_or kept.places b 0
+    kept_places b some = elim (cases_eq b block) [
+      | inl is ↦ absurd (omega (arith, ap (λ (k : ℕ). get_or kept.places k 0) is, some))
+      | inr other ↦ get_or-set_other kept.places block b place 0 other
+    ]
 
     pub stands_new : (capacity' : ℕ) → capacity ≤ capacity' → Stands next capacity'
     stands_new capacity' more = record {
@@ -110,9 +103,6 @@ module _ (kept : Kept) (capacity : ℕ) (s : Stands kept capacity) (block : ℕ)
       full = omega (arith, longer, free_less, s.full, length-set kept.places block place);
       fits = omega (arith, s.fits, more, length-set kept.places block place);
     }
-
-pub gets_none : (kept : Kept) (block : ℕ) → 0 < get_or kept.places block 0 → Gets block kept kept
-gets_none kept block some = record { len = refl; known = refl; placed = some; places = λ b was. refl; long = omega arith; bytes = λ k low. refl }
 
 -- other bytes in the room, of the same length, and perhaps one more block known, which has a place
 pub stands_read : (kept : Kept) (capacity : ℕ) (room : List ℕ) → Stands kept capacity → length room ≡ length kept.room → Stands (record { len = kept.len; room = room; places = kept.places; known = kept.known }) capacity
@@ -156,3 +146,32 @@ stands_marked kept capacity known s long less = record {
   full = s.full;
   fits = s.fits;
 }
+
+-- A block more, with zeros or what else may be behind its bytes.
+pub appended : (kept : Kept) (capacity : ℕ) (s : Stands kept capacity) (block : ℕ) (lt : block < length kept.known) (none : get_or kept.places block 0 ≡ 0)
+    → (bytes pad room : List ℕ) (place more : ℕ) → room ≡ (kept.room ++ bytes) ++ pad → place ≡ length kept.room / 16384 + 1 → length bytes + length pad ≡ 16384 → capacity ≤ more
+    → (let new : Kept = record { len = kept.len; room = room; places = set kept.places block place; known = set kept.known block true } in Stands new more × Appends block bytes kept new)
+appended kept capacity s block lt none bytes pad room place more room_is place_is long grows =
+    let all : room ≡ kept.room ++ (bytes ++ pad) = room_is ∙ append_assoc kept.room bytes pad in
+    let whole_block : length (bytes ++ pad) ≡ 16384 = omega (arith, length-append bytes pad, long) in
+    let mid : Kept = record { len = kept.len; room = kept.room ++ (bytes ++ pad); places = set kept.places block (length kept.room / 16384 + 1); known = kept.known } in
+    let there : get_or mid.places block 0 ≡ length kept.room / 16384 + 1 = here kept capacity s block lt none in
+    let made : List ℕ → ℕ → Kept = λ r n. record { len = kept.len; room = r; places = set kept.places block n; known = set kept.known block true } in
+    let last : Stands (made mid.room (length kept.room / 16384 + 1)) more × Appends block bytes kept (made mid.room (length kept.room / 16384 + 1)) = (
+      stands_known mid more block (stands_new kept capacity s block lt none (bytes ++ pad) whole_block more grows) (omega (arith, there)) lt,
+      record {
+        len = refl;
+        known = refl;
+        last = omega (arith, there, whole kept capacity s block lt none);
+        begins = λ i low. get_or-append_right kept.room (bytes ++ pad) (length kept.room) (length kept.room + i) 0 refl (omega arith)
+            ∙ ap (λ (k : ℕ). get_or (bytes ++ pad) k 0) (omega arith) ∙ get_or_append_left bytes pad 0 i low;
+        places = kept_places kept capacity s block lt none (bytes ++ pad) whole_block;
+        bytes = λ k low. get_or_append_left kept.room (bytes ++ pad) 0 k low;
+      },
+    ) in
+    subst (λ (r : List ℕ). Stands (made r place) more × Appends block bytes kept (made r place)) (sym all)
+    (subst (λ (n : ℕ). Stands (made mid.room n) more × Appends block bytes kept (made mid.room n)) (sym place_is) last)
+
+-- a block without a place is unknown
+pub unknown_placeless : (kept : Kept) (capacity block : ℕ) → Stands kept capacity → get_or kept.places block 0 ≡ 0 → get_or kept.known block false ≡ false
+unknown_placeless kept capacity block s none = false_from_ne_true (get_or kept.known block false) (λ seen. omega (arith, s.placed block seen, none))

@@ -1,71 +1,81 @@
 -- Bytes that are put over the kept ones, a part of a block at a time.
-use Rattle.std.proofs.Common.{◌≡◌, ℕ, ◌+◌, ◌-◌, ◌*◌, ◌/◌, ◌%◌, ◌<◌, ◌≤◌, ◌⊎◌, min, Bool, true, false, inl, inr, List, length, get_or, set, take, drop, refl, sym, ◌∙◌, ap, subst, arith}
+use Rattle.std.proofs.Common.{◌≡◌, ℕ, ◌+◌, ◌-◌, ◌*◌, ◌/◌, ◌%◌, ◌<◌, ◌≤◌, ◌⊎◌, min, Bool, true, false, inl, inr, List, length, get_or, set, refl, sym, ◌∙◌, ap, subst, arith}
 use Rattle.std.proofs.lemmas.Bool.{cases_lt, cases_eq}
 use Rattle.std.proofs.lemmas.List.{length-set, get_or-set_same, get_or-set_other}
 use borrow.Rule.Slice.PartMut.{put_mid}
 use Rattle.mars_base.specs.Bytes.{range}
 use Rattle.pcm_media.proofs.Ranges.{length-range, get_or-range}
 use Rattle.resident_media.specs.Blocks.{Kept, Stands, IsSeen, IsPut, IsCovered, Covers, spot, byte_at}
-use Rattle.resident_media.specs.Placing.{Gets}
+use Rattle.resident_media.specs.Placing.{Appends}
 use Rattle.resident_media.proofs.Parts.{now_before, now_inside, now_after, now_long}
 use Rattle.resident_media.proofs.Spots.{not_both}
 use Rattle.resident_media.proofs.Counts.{covers_keep}
 
--- a part of a block that has its place, of which `from` is the first byte
-module _ (old mid : Kept) (capacity more : ℕ) (block from at : ℕ) (part : List ℕ) (gets : Gets block old mid) (before : Stands old capacity) (after : Stands mid more)
-    (from_is : from + 16384 ≡ get_or mid.places block 0 * 16384) (here : at / 16384 ≡ block) (few : at % 16384 + length part ≤ 16384) where
+-- a part of a block that has a place
+module _ (kept : Kept) (capacity at : ℕ) (part : List ℕ) (s : Stands kept capacity) (some : 0 < get_or kept.places (at / 16384) 0) (few : at % 16384 + length part ≤ 16384) where
   abbrev start : ℕ
-  start = from + at % 16384
+  start = spot kept.places at
 
   abbrev room : List ℕ
-  room = put_mid start (length part) mid.room part
+  room = put_mid start (length part) kept.room part
 
-  within : start + length part ≤ length mid.room
-  within = omega (arith, after.within block, from_is, few)
+  within : start + length part ≤ length kept.room
+  within = omega (arith, s.within (at / 16384), some, few)
 
   abbrev next : Kept
-  next = record { len = mid.len; room = room; places = mid.places; known = set mid.known block true }
+  next = record { len = kept.len; room = room; places = kept.places; known = set kept.known (at / 16384) true }
 
-  pub part_long : length room ≡ length mid.room
-  part_long = now_long start (length part) mid.room part refl within
+  pub part_long : length room ≡ length kept.room
+  part_long = now_long start (length part) kept.room part refl within
 
   part_inside : (i : ℕ) → at ≤ i → i < at + length part → byte_at next i ≡ get_or part (i - at) 0
   part_inside i le lt =
-      let one : i / 16384 ≡ block = omega (arith, here, few, le, lt) in
-      let place : get_or mid.places (i / 16384) 0 ≡ get_or mid.places block 0 = ap (λ (k : ℕ). get_or mid.places k 0) one in
-      let there : spot mid.places i ≡ start + (i - at) = omega (arith, place, from_is, one, here, le, gets.placed) in
+      let one : i / 16384 ≡ at / 16384 = omega (arith, few, le, lt) in
+      let place : get_or kept.places (i / 16384) 0 ≡ get_or kept.places (at / 16384) 0 = ap (λ (k : ℕ). get_or kept.places k 0) one in
+      let there : spot kept.places i ≡ start + (i - at) = omega (arith, place, one, le, some) in
       ap (λ (k : ℕ). get_or room k 0) there
-      ∙ now_inside start (length part) mid.room part refl within (start + (i - at)) (omega arith) (omega (arith, le, lt))
+      ∙ now_inside start (length part) kept.room part refl within (start + (i - at)) (omega arith) (omega (arith, le, lt))
       ∙ ap (λ (k : ℕ). get_or part k 0) (omega arith)
 
-  part_outside : (i : ℕ) → IsSeen old.known i → (at ≤ i → i < at + length part → ⊥) → byte_at next i ≡ byte_at old i
+  part_outside : (i : ℕ) → IsSeen kept.known i → (at ≤ i → i < at + length part → ⊥) → byte_at next i ≡ byte_at kept i
   part_outside i seen out =
-      let some : 0 < get_or old.places (i / 16384) 0 = before.placed (i / 16384) seen in
-      let place : get_or mid.places (i / 16384) 0 ≡ get_or old.places (i / 16384) 0 = gets.places (i / 16384) some in
-      let same : spot mid.places i ≡ spot old.places i = omega (arith, place) in
-      let low : spot old.places i < length old.room = omega (arith, before.within (i / 16384), some) in
-      let back : get_or mid.room (spot mid.places i) 0 ≡ byte_at old i = ap (λ (k : ℕ). get_or mid.room k 0) same ∙ gets.bytes (spot old.places i) low in
-      let left : spot mid.places i < start → byte_at next i ≡ byte_at old i = λ lt. now_before start (length part) mid.room part refl within (spot mid.places i) lt ∙ back in
-      let right : start + length part ≤ spot mid.places i → byte_at next i ≡ byte_at old i = λ le. now_after start (length part) mid.room part refl within (spot mid.places i) le ∙ back in
-      elim (cases_lt (get_or mid.places (i / 16384) 0) (get_or mid.places block 0)) [
-        | inl lower ↦ left (omega (arith, lower, from_is, some, place))
-        | inr high ↦ elim (cases_lt (get_or mid.places block 0) (get_or mid.places (i / 16384) 0)) [
-          | inl higher ↦ right (omega (arith, higher, from_is, few))
+      let has : 0 < get_or kept.places (i / 16384) 0 = s.placed (i / 16384) seen in
+      let left : spot kept.places i < start → byte_at next i ≡ byte_at kept i = λ lt. now_before start (length part) kept.room part refl within (spot kept.places i) lt in
+      let right : start + length part ≤ spot kept.places i → byte_at next i ≡ byte_at kept i = λ le. now_after start (length part) kept.room part refl within (spot kept.places i) le in
+      elim (cases_lt (get_or kept.places (i / 16384) 0) (get_or kept.places (at / 16384) 0)) [
+        | inl lower ↦ left (omega (arith, lower, has))
+        | inr high ↦ elim (cases_lt (get_or kept.places (at / 16384) 0) (get_or kept.places (i / 16384) 0)) [
+          | inl higher ↦ right (omega (arith, higher, some, few))
           | inr level ↦
-              let p : get_or mid.places (i / 16384) 0 ≡ get_or mid.places block 0 = omega (arith, high, level) in
-              let one : i / 16384 ≡ block = after.apart (i / 16384) block (omega (arith, some, place)) p in
+              let p : get_or kept.places (i / 16384) 0 ≡ get_or kept.places (at / 16384) 0 = omega (arith, high, level) in
+              let one : i / 16384 ≡ at / 16384 = s.apart (i / 16384) (at / 16384) has p in
               elim (cases_lt i at) [
-                | inl front ↦ left (omega (arith, p, from_is, one, here, front, gets.placed))
+                | inl front ↦ left (omega (arith, p, one, front, some))
                 | inr le ↦ elim (cases_lt i (at + length part)) [
                   | inl lt ↦ absurd (out le lt)
-                  | inr rear ↦ right (omega (arith, p, from_is, one, here, rear, gets.placed))
+                  | inr rear ↦ right (omega (arith, p, one, rear, some))
                 ]
               ]
         ]
       ]
 
-  pub part_put : IsPut at (length part) part old next
+  pub part_put : IsPut at (length part) part kept next
   part_put = record { inside = λ i seen. part_inside i; outside = part_outside }
+
+-- a whole block that had no place
+pub put_appended : (old new : Kept) (capacity at : ℕ) (part : List ℕ) → Stands old capacity → at % 16384 ≡ 0 → length part ≤ 16384 → Appends (at / 16384) part old new → IsPut at (length part) part old new
+put_appended old new capacity at part before low few is = record {
+  inside = λ i seen le lt.
+      let one : i / 16384 ≡ at / 16384 = omega (arith, low, few, le, lt) in
+      let place : get_or new.places (i / 16384) 0 ≡ get_or new.places (at / 16384) 0 = ap (λ (k : ℕ). get_or new.places k 0) one in
+      let there : spot new.places i ≡ length old.room + (i - at) = omega (arith, place, is.last, one, low, le) in
+      ap (λ (k : ℕ). get_or new.room k 0) there ∙ is.begins (i - at) (omega (arith, le, lt));
+  outside = λ i seen out.
+      let some : 0 < get_or old.places (i / 16384) 0 = before.placed (i / 16384) seen in
+      let place : get_or new.places (i / 16384) 0 ≡ get_or old.places (i / 16384) 0 = is.places (i / 16384) some in
+      let same : spot new.places i ≡ spot old.places i = omega (arith, place) in
+      ap (λ (k : ℕ). get_or new.room k 0) same ∙ is.bytes (spot old.places i) (omega (arith, before.within (i / 16384), some));
+}
 
 -- an unknown block, which the part does not cover
 pub put_none : (at : ℕ) (part : List ℕ) (kept : Kept) → at % 16384 + length part ≤ 16384 → get_or kept.known (at / 16384) false ≡ false → IsPut at (length part) part kept kept

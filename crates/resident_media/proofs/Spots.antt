@@ -1,11 +1,11 @@
 -- Where bytes stand in the room, and a walk over parts of it.
-use Rattle.std.proofs.Common.{◌≡◌, ℕ, ◌+◌, ◌-◌, ◌*◌, ◌/◌, ◌%◌, ◌<◌, ◌≤◌, ◌⊎◌, Bool, true, false, inl, inr, List, length, get_or, sym, ◌∙◌, ap, arith, true≢false}
+use Rattle.std.proofs.Common.{◌≡◌, ℕ, ◌+◌, ◌-◌, ◌/◌, ◌%◌, ◌<◌, ◌≤◌, true, false, inl, inr, List, length, get_or, sym, ◌∙◌, ap, arith, true≢false}
 use Rattle.std.proofs.lemmas.Bool.{cases_lt}
 use borrow.Rule.Slice.PartMut.{put_mid}
 use Rattle.mars_base.specs.Bytes.{range}
 use Rattle.pcm_media.proofs.Ranges.{length-range, get_or-range}
 use Rattle.resident_media.specs.Blocks.{spot}
-use Rattle.resident_media.proofs.Parts.{now_before, now_inside, now_after, now_long}
+use Rattle.resident_media.proofs.Parts.{now_before, now_inside, now_long}
 
 pub not_both : false ≡ true → ⊥
 not_both e = true≢false (sym e)

@@ -1,13 +1,13 @@
 // Blocks of the first bytes of a medium that are kept in memory.
-ghost use Rattle.std.specs.Prelude.{◌≡◌, ◌+◌, ◌*◌, ◌/◌, ◌%◌, ◌<◌, ◌≤◌, ◌↔◌, ◌⊎◌, ◌^◌, ℕ, List, [], length, slice_index, IfOk, OnOk, OnErr, IsTrue, get_or, false, true};
+ghost use Rattle.std.specs.Prelude.{◌≡◌, ◌+◌, ◌*◌, ◌/◌, ◌%◌, ◌<◌, ◌≤◌, ◌↔◌, ◌⊎◌, ◌^◌, ◌-◌, min, ℕ, List, [], length, slice_index, IfOk, OnOk, OnErr, IsTrue, get_or, false, true};
 ghost use Rattle.std.specs.Vec.{vec_capacity};
 ghost use Rattle.mars_base.specs.Bytes.{put, range};
 ghost use Rattle.resident_media.specs.Blocks.{AreKnown, Covers, Holds, IsMarked, IsPut, Learns, StaysOutside, end_block, fresh, spot};
 ghost use Rattle.resident_media.specs.Resident.{Called, Served};
-ghost use Rattle.resident_media.specs.Placing.{Gets};
+ghost use Rattle.resident_media.specs.Placing.{Appends};
 
 use crate::flags::{BLOCK, behind_unknown, first_unknown, forget};
-use crate::room::copy_out;
+use crate::room::{copy_one, copy_out, spot};
 use mars_base::{Failed, NoMemory};
 use pcm_media::Media;
 use std::alloc::Global;
@@ -15,10 +15,11 @@ use std::marker::Model;
 
 const ZEROS: [u8; BLOCK] = [0; BLOCK];
 
-fn zeros() -> &'static [u8]
-    ensures { length result.now ≡ 16384 }
+fn zeros(count: usize) -> &'static [u8]
+    requires { count ≤ 16384 }
+    ensures { length result.now ≡ count }
 {
-    &ZEROS
+    &ZEROS[..count]
 }
 
 // Makes it as long as `count` at least, for which room is reserved.
@@ -77,21 +78,45 @@ impl Blocks {
         at <= self.len as u64 && count as u64 <= self.len as u64 - at
     }
 
-    // Where in the room the block begins. One that had no place has got one.
-    fn place_for(&mut self, block: usize) -> usize
+    // Puts a whole block that has no place behind the others, with zeros behind its last byte. It is known then.
+    fn append(&mut self, block: usize, bytes: &[u8])
         requires there { block < length self.old.known }
-        ensures from { result + 16384 ≡ get_or self.new.places block 0 * 16384 }
-        ensures gets { Gets block self.old self.new }
+        requires placeless { get_or self.old.places block 0 ≡ 0 }
+        requires fits { length bytes.now ≤ 16384 }
+        ensures { Appends block bytes.now self.old self.new }
     {
-        let place = self.places[block];
-        if place > 0 {
-            return (place - 1) * BLOCK;
-        }
         let from = self.room.len();
         // There is room for each block that has no place.
-        let _ = self.room.extend_from_slice(zeros());
+        let _ = self.room.extend_from_slice(bytes);
+        let _ = self.room.extend_from_slice(zeros(BLOCK - bytes.len()));
         self.places[block] = from / BLOCK + 1;
-        from
+        self.known[block] = true;
+    }
+
+    // Whether so many bytes are all that is kept of a block.
+    fn is_whole(&self, at: usize, count: usize) -> bool
+        requires { at ≤ self.now.len }
+        ensures { IsTrue result ↔ (at % 16384 ≡ 0) × (count ≡ min 16384 (self.now.len - at)) }
+    {
+        at % BLOCK == 0 && count == BLOCK.min(self.len - at)
+    }
+
+    // Puts a part of a block that has no place, if it is all that is kept of the block. It is known then.
+    fn put_first(&mut self, at: usize, part: &[u8])
+        requires some { 0 < length part.now }
+        requires within { at + length part.now ≤ self.old.len }
+        requires one { at % 16384 + length part.now ≤ 16384 }
+        requires placeless { get_or self.old.places (at / 16384) 0 ≡ 0 }
+        ensures len { self.new.len ≡ self.old.len }
+        ensures known { Covers at (length part.now) self.old.len self.old.known self.new.known }
+        ensures bytes { IsPut at (length part.now) part.now self.old self.new }
+    {
+        // A block without a place is unknown.
+        let _ = &self.places;
+        if !self.is_whole(at, part.len()) {
+            return;
+        }
+        self.append(at / BLOCK, part);
     }
 
     // Puts a part of a block over what is kept of it, if the block is known or the part covers it. It is known then.
@@ -104,11 +129,15 @@ impl Blocks {
         ensures bytes { IsPut at (length part.now) part.now self.old self.new }
     {
         let block = at / BLOCK;
-        let is_whole = at % BLOCK == 0 && part.len() == BLOCK.min(self.len - at);
-        if !is_whole && !self.known[block] {
+        let place = self.places[block];
+        if place == 0 {
+            self.put_first(at, part);
             return;
         }
-        let from = self.place_for(block) + at % BLOCK;
+        if !self.is_whole(at, part.len()) && !self.known[block] {
+            return;
+        }
+        let from = spot(&self.places, at);
         self.room[from..from + part.len()].copy_from_slice(part);
         self.known[block] = true;
     }
@@ -193,6 +222,32 @@ impl Blocks {
         copy_out(&self.room, &self.places, at, buf);
     }
 
+    // Whether so many bytes lie within one known block.
+    fn knows_one(&self, at: usize, count: usize) -> bool
+        ensures there { IsTrue result → at / 16384 < length self.now.known }
+        ensures known { IsTrue result → get_or self.now.known (at / 16384) false ≡ true }
+        ensures one { IsTrue result → at % 16384 + count ≤ 16384 }
+    {
+        let block = at / BLOCK;
+        if block >= self.known.len() {
+            return false;
+        }
+        if !self.known[block] {
+            return false;
+        }
+        count <= BLOCK - at % BLOCK
+    }
+
+    // Copies bytes of one known block.
+    fn copy_one(&self, at: usize, buf: &mut [u8])
+        requires there { at / 16384 < length self.now.known }
+        requires known { get_or self.now.known (at / 16384) false ≡ true }
+        requires one { at % 16384 + length buf.old ≤ 16384 }
+        ensures { (i : ℕ) → i < length buf.old → slice_index buf.new i ≡ slice_index self.now.room (spot self.now.places (at + i)) }
+    {
+        copy_one(&self.room, &self.places, at, buf);
+    }
+
     // Makes the blocks from `first` up to `end` known: those from the first unknown one up to the last are read from below, all in one call.
     fn learn<M: Media>(
         &mut self,
@@ -242,6 +297,10 @@ impl Blocks {
         ensures bytes { IsTrue M.tells → Holds self.old (M.view inner.old).content.bytes → length (M.view inner.old).content.bytes ≡ (M.view inner.old).size →
             OnOk result (buf.new ≡ range (M.view inner.old).content.bytes at (length buf.old)) }
     {
+        if self.knows_one(at, buf.len()) {
+            self.copy_one(at, buf);
+            return Ok(());
+        }
         // The blocks are as many as these bytes need.
         let _ = &self.len;
         self.learn(inner, scratch, at / BLOCK, (at + buf.len()).div_ceil(BLOCK))?;

@@ -4,8 +4,8 @@ ghost use Rattle.resident_media.specs.Blocks.{spot};
 
 use crate::flags::BLOCK;
 
-// Where in the room a byte stands.
-fn spot(places: &[usize], at: usize) -> usize
+/// Where in the room a byte stands, whose block has a place.
+pub fn spot(places: &[usize], at: usize) -> usize
     requires there { at / 16384 < length places.now }
     requires placed { 0 < get_or places.now (at / 16384) 0 }
     requires fits { get_or places.now (at / 16384) 0 * 16384 < 2 ^ 63 }
@@ -29,4 +29,16 @@ pub fn copy_out(room: &[u8], places: &[usize], at: usize, buf: &mut [u8])
         buf[done..done + part].copy_from_slice(&room[from..from + part]);
         done += part;
     }
+}
+
+/// The same where all lies in one block.
+pub fn copy_one(room: &[u8], places: &[usize], at: usize, buf: &mut [u8])
+    requires there { at / 16384 < length places.now }
+    requires one { at % 16384 + length buf.old ≤ 16384 }
+    requires placed { 0 < get_or places.now (at / 16384) 0 }
+    requires room { get_or places.now (at / 16384) 0 * 16384 ≤ length room.now }
+    ensures { (i : ℕ) → i < length buf.old → slice_index buf.new i ≡ slice_index room.now (spot places.now (at + i)) }
+{
+    let from = spot(places, at);
+    buf.copy_from_slice(&room[from..from + buf.len()]);
 }

@@ -1,4 +1,4 @@
-use Rattle.std.proofs.Common.{◌≡◌, ◌+◌, ◌-◌, ◌/◌, ◌%◌, ℕ, List, ◌∙◌, ap, sym, subst, arith, length, take, drop}
+use Rattle.std.proofs.Common.{◌≡◌, ◌+◌, ◌-◌, ◌/◌, ℕ, ◌∙◌, ap, sym, subst, arith, take, drop}
 use Rattle.resident_media.proofs.Spots.{Copied, copied_on}
 use borrow.Rule.Slice.PartMut.{put_mid}
 use Rattle.resident_media.proofs.room.copy_out.Goals as goal

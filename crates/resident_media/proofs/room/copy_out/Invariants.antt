@@ -1,4 +1,4 @@
-use Rattle.std.proofs.Common.{◌-◌, ℕ, length}
+use Rattle.std.proofs.Common.{◌-◌, length}
 use Rattle.resident_media.proofs.Spots.{Copied}
 use Rattle.resident_media.proofs.room.copy_out.Given as goal
 

@@ -1,4 +1,4 @@
-use Rattle.std.proofs.Common.{◌≡◌, ◌*◌, ◌≤◌, ℕ, length, replicate, false, arith}
+use Rattle.std.proofs.Common.{arith}
 use Rattle.resident_media.proofs.Places.{stands_fresh}
 use Rattle.resident_media.proofs.blocks.Blocks.new.Goals as goal
 

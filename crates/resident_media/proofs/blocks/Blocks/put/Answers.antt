@@ -1,4 +1,4 @@
-use Rattle.std.proofs.Common.{◌≡◌, ◌-◌, ◌<◌, ℕ, List, min, ap, arith, length, take, refl}
+use Rattle.std.proofs.Common.{◌≡◌, ◌-◌, ◌<◌, min, ap, arith, length, take, refl}
 use Rattle.std.proofs.lemmas.List.{length-take-le}
 use Rattle.resident_media.specs.Blocks.{Kept}
 use Rattle.resident_media.proofs.Kept.{holds_put}

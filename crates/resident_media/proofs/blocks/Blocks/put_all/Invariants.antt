@@ -1,4 +1,4 @@
-use Rattle.std.proofs.Common.{◌-◌, ℕ, length}
+use Rattle.std.proofs.Common.{◌-◌, length}
 use Rattle.resident_media.proofs.Putting.{PutTo}
 use Rattle.resident_media.proofs.blocks.Blocks.put_all.Given as goal
 

@@ -1,4 +1,4 @@
-use Rattle.std.proofs.Common.{◌≡◌, ℕ, ◌∙◌, ap, arith, rules}
+use Rattle.std.proofs.Common.{ℕ, ◌∙◌, ap, arith, rules}
 use Rattle.resident_media.specs.Blocks.{fresh, end_block}
 use Rattle.resident_media.proofs.Anew.{lies_anew, left_anew}
 use Rattle.resident_media.proofs.resident_media.ResidentMedia.over.Goals as goal

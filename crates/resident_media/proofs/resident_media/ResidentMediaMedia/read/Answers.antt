@@ -1,4 +1,4 @@
-use Rattle.std.proofs.Common.{◌≡◌, ◌≤◌, ℕ, [], List, length, subst, arith}
+use Rattle.std.proofs.Common.{◌≡◌, [], length, subst}
 use Rattle.std.proofs.lemmas.Result.{err_from_is_err_and}
 use Rattle.std.specs.Prelude.{IsTrue, OnOk}
 use Rattle.mars_base.specs.Bytes.{range}
