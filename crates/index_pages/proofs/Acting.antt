@@ -75,31 +75,20 @@ listed-take n (Some rs) = refl
 module _ (tells : Bool) (Opens : List ℕ → List ℕ → Type 0) (t : ℕ) where
   -- an action that is refused before it begins
   pub acts_none : (old : PagesView) (pages : List ℕ) (parts : List Part) (fault : PageFault) → LacksRoom old.store t pages fault → (let r : Result (Unit {0}) PageFault = Err fault in Acts tells Opens t pages parts old old r)
-  acts_none old pages parts Dead lacks = record {
-    shape = refl;
-    cause = lacks;
-    saves = refl;
-    others = λ u ne. refl;
-    kept = λ well. record { dead = refl; faults = refl; tops = refl; ranges = λ u. refl; logs = λ told u. refl };
-    made = λ told living. refl;
-    dies = λ failed. absurd (false≢true failed);
-    time = λ told living. weaker (λ image opens. inl opens) (stays old.store.moment old.store.left_since (λ image. Opens image old.store.state.bytes));
-    mirrors = none_sent tells old.store old.store refl refl (λ fine. fine) (λ told mirrors fine. refl);
-  }
-  acts_none old pages parts (LogFull g h n) lacks = record {
-    shape = refl;
-    cause = lacks;
-    saves = refl;
-    others = λ u ne. refl;
-    kept = λ well. record { dead = refl; faults = refl; tops = refl; ranges = λ u. refl; logs = λ told u. refl };
-    made = λ told living. refl;
-    dies = λ failed. absurd (false≢true failed);
-    time = λ told living. weaker (λ image opens. inl opens) (stays old.store.moment old.store.left_since (λ image. Opens image old.store.state.bytes));
-    mirrors = none_sent tells old.store old.store refl refl (λ fine. fine) (λ told mirrors fine. refl);
-  }
   acts_none old pages parts Media lacks = absurd lacks
   acts_none old pages parts SavesFull lacks = absurd lacks
   acts_none old pages parts (Damaged bad) lacks = absurd lacks
+  acts_none old pages parts _ lacks = record {
+    shape = refl;
+    cause = lacks;
+    saves = refl;
+    others = λ u ne. refl;
+    kept = λ well. record { dead = refl; faults = refl; tops = refl; ranges = λ u. refl; logs = λ told u. refl };
+    made = λ told living. refl;
+    dies = λ failed. absurd (false≢true failed);
+    time = λ told living. weaker (λ image opens. inl opens) (stays old.store.moment old.store.left_since (λ image. Opens image old.store.state.bytes));
+    mirrors = none_sent tells old.store old.store refl refl (λ fine. fine) (λ told mirrors fine. refl);
+  }
 
   -- Within a top action that has begun: these parts were written, and in these pages a part each is still to be written.
   pub record Acting (old now : PagesView) (parts : List Part) (left : List ℕ) : Type 0 where

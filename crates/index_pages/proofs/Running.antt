@@ -1,6 +1,6 @@
 -- What the writes of an action cost, one after another, and then its end.
 use Rattle.std.proofs.Common.{◌≡◌, ℕ, zero, suc, ◌+◌, ◌<◌, ◌≤◌, Bool, List, [], ◌∷◌, ◌++◌, append_assoc, length, get_or, take, drop, Result, Ok, Err, refl, sym, ◌∙◌, ap, subst, arith}
-use Rattle.std.specs.Prelude.{IsTrue, sum}
+use Rattle.std.specs.Prelude.{IsTrue, OnOk, sum}
 use Rattle.std.proofs.lemmas.List.{append-nil}
 use Rattle.std.proofs.lemmas.List.Sums.{sum_by_push}
 use Rattle.mars_base.specs.Costs.{Costs}
@@ -40,6 +40,14 @@ rest_named (p ∷ ps) (suc i) d lt = rest_named ps i d (omega arith)
 pub split_here : (ps : List PagePart) (i : ℕ) (d : PagePart) → i < length ps
     → parts_named (take i ps) ++ (address (get_or ps i d).page (get_or ps i d).at, (get_or ps i d).bytes.now) ∷ parts_named (drop (suc i) ps) ≡ parts_named ps
 split_here ps i d lt = ap (λ (l : List Part). parts_named (take i ps) ++ l) (sym (rest_named ps i d lt)) ∙ named_split ps i
+
+if_done : {A B : Type 0} (r : Result (Unit {0}) PageFault) → (A → B) → OnOk r A → OnOk r B
+if_done (Ok done) f a = f a
+if_done (Err fault) f a = tt
+
+always : {A : Type 0} (r : Result (Unit {0}) PageFault) → A → OnOk r A
+always (Ok done) a = a
+always (Err fault) a = tt
 
 module _ {S : Type 0} (tells : Bool) (view : S → StoreView) (calls : S → store.Command → ℕ) (t : ℕ) where
   costs_snoc : (cs : List PageCommand) (ns : List ℕ) (c : PageCommand) (n : ℕ) → AllZip (IsCost view calls) cs ns → IsCost view calls c n → AllZip (IsCost view calls) (cs ++ c ∷ []) (ns ++ n ∷ [])
@@ -97,7 +105,7 @@ module _ {S : Type 0} (tells : Bool) (view : S → StoreView) (calls : S → sto
 
     -- the end of the action
     pub runs_end : (mark : ℕ) (r : Result (Unit {0}) PageFault) → Costs tells (cost_at at (top_end t mark)) (view at.store).moment new.moment r → Runs tells view calls (acting_of t mark parts) old new r
-    runs_end mark (Ok x) costs =
+    runs_end mark r costs =
         let n = cost_at at (top_end t mark) in
         let all = sum_snoc running.costs n in
         record {
@@ -106,22 +114,9 @@ module _ {S : Type 0} (tells : Bool) (view : S → StoreView) (calls : S → sto
           costs = running.costs ++ n ∷ [];
           these = append-nil (acting_of t mark parts);
           each = costs_snoc (writes_of t parts) running.costs (top_end t mark) n running.each (at, refl);
-          all = refl;
+          all = always r refl;
           most = omega (arith, all, running.most, costs.most);
-          exact = λ told. omega (arith, all, running.exact told, costs.done told);
-        }
-    runs_end mark (Err fault) costs =
-        let n = cost_at at (top_end t mark) in
-        let all = sum_snoc running.costs n in
-        record {
-          made = acting_of t mark parts;
-          left = [];
-          costs = running.costs ++ n ∷ [];
-          these = append-nil (acting_of t mark parts);
-          each = costs_snoc (writes_of t parts) running.costs (top_end t mark) n running.each (at, refl);
-          all = tt;
-          most = omega (arith, all, running.most, costs.most);
-          exact = λ told. tt;
+          exact = λ told. if_done r (λ now. omega (arith, all, running.exact told, now)) (costs.done told);
         }
 
   -- nothing was done

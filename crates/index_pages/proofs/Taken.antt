@@ -506,38 +506,25 @@ taken_writable bytes n front slots pages took long small some small' =
           );
     }
 
+-- such a one, which is as another but for its slots
+abbrev pub IsLike : Super → Super → Type 0
+IsLike front after = IsWritable after × (after.version ≡ front.version) × (after.form ≡ front.form) × (after.entries ≡ front.entries) × (after.next_page ≡ front.next_page)
+
 -- so can one of which the slot that is due was taken
 pub slot_writable : (bytes : List ℕ) (front after : Super) → FreeSlots bytes → FreePages bytes → SaysSuper (page_bytes bytes 0) front → after ≡ with_slot_taken (first_slot bytes front) front → length front.entries ≡ 256
     → next_slot bytes < 2 ^ 31 → 2 ≤ next_page bytes → next_page bytes < 2 ^ 31
-    → IsWritable after × (after.version ≡ front.version) × (after.form ≡ front.form) × (after.entries ≡ front.entries) × (after.next_page ≡ front.next_page)
+    → IsLike front after
 slot_writable bytes front after slots pages says is long small some small' = elim (cases_eq (free_slots bytes) 0) [
   | inl none ↦
       let a : nat_eq front.free_slots 0 ≡ true = grind (arith, nat_tests, says.free_slots, none) in
       let taken : first_slot bytes front ≡ None = (rw a refl) in
       let after_is : after ≡ with_slot_taken None front = is ∙ ap (λ (o : Option Free). with_slot_taken o front) taken in
-      subst (λ (f : Super). IsWritable f × (f.version ≡ front.version) × (f.form ≡ front.form) × (f.entries ≡ front.entries) × (f.next_page ≡ front.next_page)) (sym after_is) (
-        record {
-          whole = record {
-            entries = long;
-            next_slot = omega (arith, says.next_slot, small);
-            next_page = was.whole.next_page;
-            free_slot = was.whole.free_slot;
-            free_page = was.whole.free_page;
-            free_slots = was.whole.free_slots;
-            free_pages = was.whole.free_pages;
-          };
-          none = was.none;
-        },
-        refl,
-        refl,
-        refl,
-        refl,
-      )
+      subst (IsLike front) (sym after_is) next_taken
   | inr more ↦
       let a : nat_eq front.free_slots 0 ≡ false = grind (arith, nat_tests, says.free_slots, more) in
       let taken : first_slot bytes front ≡ free_slot_of bytes (front.free_slot - 1) = (rw a refl) in
       let after_is : after ≡ with_slot_taken (free_slot_of bytes (front.free_slot - 1)) front = is ∙ ap (λ (o : Option Free). with_slot_taken o front) taken in
-      subst (λ (f : Super). IsWritable f × (f.version ≡ front.version) × (f.form ≡ front.form) × (f.entries ≡ front.entries) × (f.next_page ≡ front.next_page)) (sym after_is)
+      subst (IsLike front) (sym after_is)
       (popped (free_slot_of bytes (front.free_slot - 1)) refl more)
 ]
   where
@@ -551,10 +538,9 @@ slot_writable bytes front after slots pages says is long small some small' = eli
         let at : next_of (free_slot_of bytes (front.free_slot - 1)) ≡ next_of (free_slot_of bytes (free_slot bytes - 1)) = ap (λ (k : ℕ). next_of (free_slot_of bytes (k - 1))) says.free_slot in
         omega (arith, at, le, small)
 
-    popped : (o : Option Free) → free_slot_of bytes (front.free_slot - 1) ≡ o → free_slots bytes ≢ 0
-        → IsWritable (with_slot_taken o front) × ((with_slot_taken o front).version ≡ front.version) × ((with_slot_taken o front).form ≡ front.form) × ((with_slot_taken o front).entries ≡ front.entries)
-        × ((with_slot_taken o front).next_page ≡ front.next_page)
-    popped None e more = (
+    -- the next one
+    next_taken : IsLike front (with_slot_taken None front)
+    next_taken = (
       record {
         whole = record {
           entries = long;
@@ -572,6 +558,9 @@ slot_writable bytes front after slots pages says is long small some small' = eli
       refl,
       refl,
     )
+
+    popped : (o : Option Free) → free_slot_of bytes (front.free_slot - 1) ≡ o → free_slots bytes ≢ 0 → IsLike front (with_slot_taken o front)
+    popped None e more = next_taken
     popped (Some f) e more =
         let small_next : f.next < 2 ^ 31 = (let at : next_of (free_slot_of bytes (front.free_slot - 1)) ≡ f.next = ap next_of e in omega (arith, at, next_small more)) in (
           record {

@@ -45,41 +45,17 @@ granted_plain _ granted = refl
 
 pub fault_plain : (fault : TableFault) → is_busy (reply_to fault) ≡ false
 fault_plain (SlotsFull n) = refl
-fault_plain (PagesFull n) = refl
-fault_plain SavesFull = refl
-fault_plain (LogFull g h n) = refl
-fault_plain Media = refl
-fault_plain Dead = refl
-fault_plain (Damaged page) = refl
-fault_plain NoMemory = refl
+fault_plain _ = refl
 
 save_plain : (saves : ℕ) (call : Call) (answer : Reply) → IsSaveRefusal saves call answer → is_busy answer ≡ false
 save_plain saves Save answer refused = ap is_busy refused.1
 save_plain saves (Back n) answer refused = ap is_busy refused.1
-save_plain saves (Get name key) answer refused = absurd refused
-save_plain saves (Put name key value) answer refused = absurd refused
-save_plain saves (Del name key) answer refused = absurd refused
-save_plain saves (Scan name low high) answer refused = absurd refused
-save_plain saves Begin answer refused = absurd refused
-save_plain saves Commit answer refused = absurd refused
-save_plain saves Abort answer refused = absurd refused
-save_plain saves Offer answer refused = absurd refused
-save_plain saves Settle answer refused = absurd refused
-save_plain saves Purge answer refused = absurd refused
+save_plain saves _ answer refused = absurd refused
 
 save_refuses : (saves : ℕ) (call : Call) (answer : Reply) → IsSaveRefusal saves call answer → is_refusal answer ≡ true
 save_refuses saves Save answer refused = ap is_refusal refused.1
 save_refuses saves (Back n) answer refused = ap is_refusal refused.1
-save_refuses saves (Get name key) answer refused = absurd refused
-save_refuses saves (Put name key value) answer refused = absurd refused
-save_refuses saves (Del name key) answer refused = absurd refused
-save_refuses saves (Scan name low high) answer refused = absurd refused
-save_refuses saves Begin answer refused = absurd refused
-save_refuses saves Commit answer refused = absurd refused
-save_refuses saves Abort answer refused = absurd refused
-save_refuses saves Offer answer refused = absurd refused
-save_refuses saves Settle answer refused = absurd refused
-save_refuses saves Purge answer refused = absurd refused
+save_refuses saves _ answer refused = absurd refused
 
 -- a call that was not made was refused
 pub unmade_refuses : (saves : ℕ) (seats : Seats) (t : ℕ) (call : Call) (answer : Reply) → Unmade saves seats t call answer → is_refusal answer ≡ true

@@ -65,51 +65,23 @@ use Rattle.mars_core.proofs.Stepping.{ShowsPages, or_false, or_true, media_none,
 
 refusal_of : (f : TableFault) → is_refusal (reply_to f) ≡ true
 refusal_of (SlotsFull n) = refl
-refusal_of (PagesFull n) = refl
-refusal_of SavesFull = refl
-refusal_of (LogFull g h n) = refl
-refusal_of Media = refl
-refusal_of Dead = refl
-refusal_of (Damaged page) = refl
-refusal_of NoMemory = refl
+refusal_of _ = refl
 
 plain_of : (f : TableFault) → is_committed (reply_to f) ≡ false
 plain_of (SlotsFull n) = refl
-plain_of (PagesFull n) = refl
-plain_of SavesFull = refl
-plain_of (LogFull g h n) = refl
-plain_of Media = refl
-plain_of Dead = refl
-plain_of (Damaged page) = refl
-plain_of NoMemory = refl
+plain_of _ = refl
 
 -- a refusal without a fault of the medium
 abbrev Well : TableFault → Type 0
 Well f = let r : Result Reply TableFault = Err f in is_failed r ≡ false
 
 media_of : (f : TableFault) → Well f → is_media (reply_to f) ≡ false
-media_of (SlotsFull n) well = refl
-media_of (PagesFull n) well = refl
-media_of SavesFull well = refl
-media_of (LogFull g h n) well = refl
 media_of Media well = absurd (cc)
-media_of Dead well = refl
-media_of (Damaged page) well = refl
-media_of NoMemory well = refl
+media_of _ well = refl
 
 saved_out : (p : PagesView) (t : ℕ) (call : Call) → IsOfTable call → HasSaves (length (p.counts t)) call → IsSavedOut p t call → ⊥
 saved_out p t Save of saves out = omega (arith, saves, out)
-saved_out p t (Get name key) of saves out = out
-saved_out p t (Put name key value) of saves out = out
-saved_out p t (Del name key) of saves out = out
-saved_out p t (Scan name low high) of saves out = out
-saved_out p t (Back n) of saves out = out
-saved_out p t Commit of saves out = out
-saved_out p t Abort of saves out = out
-saved_out p t Offer of saves out = out
-saved_out p t Settle of saves out = out
-saved_out p t Purge of saves out = out
-saved_out p t Begin of saves out = out
+saved_out p t _ of saves out = out
 
 -- a call of a table that inserts no key writes nothing into the data
 quiet_of : (index : below.Index) (p : PagesView) (t : ℕ) (call : Call) → IsOfTable call → InsertsNone (keys_of index p.store.state.bytes) call → IsQuiet index p t call
@@ -119,26 +91,11 @@ quiet_of index p t (Del name key) of inserts = tt
 quiet_of index p t (Scan name low high) of inserts = tt
 quiet_of index p t Save of inserts = tt
 quiet_of index p t (Back n) of inserts = tt
-quiet_of index p t Commit of inserts = absurd of
-quiet_of index p t Abort of inserts = absurd of
-quiet_of index p t Offer of inserts = absurd of
-quiet_of index p t Settle of inserts = absurd of
-quiet_of index p t Purge of inserts = absurd of
-quiet_of index p t Begin of inserts = absurd of
+quiet_of index p t _ of inserts = absurd of
 
 scan_same : (limits : Limits) (call : Call) (answer : Reply) (old new : Index) → IsScan call → Indexes limits call answer old new → new ≡ old
-scan_same limits (Scan name low high) answer old new scan same = same
-scan_same limits (Get name key) answer old new scan same = same
 scan_same limits (Put name key value) answer old new scan same = absurd scan
-scan_same limits (Del name key) answer old new scan same = same
-scan_same limits Save answer old new scan same = same
-scan_same limits (Back n) answer old new scan same = same
-scan_same limits Commit answer old new scan same = same
-scan_same limits Abort answer old new scan same = same
-scan_same limits Offer answer old new scan same = same
-scan_same limits Settle answer old new scan same = same
-scan_same limits Purge answer old new scan same = same
-scan_same limits Begin answer old new scan same = same
+scan_same limits _ answer old new scan same = same
 
 -- What the records made of a call, as far as a core needs it.
 pub record Did (tells : Bool) (Opens : List ℕ → List ℕ → Type 0) (index : below.Index) (table t : ℕ) (call : Call) (old new : PagesView) (result : Result Reply TableFault) : Type 0 where
@@ -191,17 +148,7 @@ did tells Opens index table t call old new result does = record {
 -- only a scan lists rows
 listed_is : (saves : ℕ) (call : Call) (rows : List (ℕ × List ℕ)) → IsOfKind saves call (reply.Listed rows) → (name : List ℕ) × (low : ℕ) × (high : ℕ) × (call ≡ Scan name low high)
 listed_is saves (Scan name low high) rows kind = (name, low, high, refl)
-listed_is saves (Get name key) rows kind = absurd kind
-listed_is saves (Put name key value) rows kind = absurd kind
-listed_is saves (Del name key) rows kind = absurd kind
-listed_is saves Save rows kind = absurd kind
-listed_is saves (Back n) rows kind = absurd kind
-listed_is saves Commit rows kind = absurd kind
-listed_is saves Abort rows kind = absurd kind
-listed_is saves Offer rows kind = absurd kind
-listed_is saves Settle rows kind = absurd kind
-listed_is saves Purge rows kind = absurd kind
-listed_is saves Begin rows kind = absurd kind
+listed_is saves _ rows kind = absurd kind
 
 -- a scan whose rows there is no memory to keep has changed nothing
 pub did_unkept : (tells : Bool) (Opens : List ℕ → List ℕ → Type 0) (index : below.Index) (table t : ℕ) (call : Call) (old new : PagesView) (rows : List (ℕ × List ℕ)) → IsAlive old.store → IsOfKind (length (old.counts t)) call (reply.Listed rows)
@@ -240,14 +187,7 @@ has_asked names (Get name key) table is = ap is_some is
 has_asked names (Put name key value) table is = ap is_some is
 has_asked names (Del name key) table is = ap is_some is
 has_asked names (Scan name low high) table is = ap is_some is
-has_asked names Save table is = refl
-has_asked names (Back n) table is = refl
-has_asked names Commit table is = refl
-has_asked names Abort table is = refl
-has_asked names Offer table is = refl
-has_asked names Settle table is = refl
-has_asked names Purge table is = refl
-has_asked names Begin table is = refl
+has_asked names _ table is = refl
 
 -- there is none
 pub has_none : (names : List (List ℕ)) (call : Call) → number_for names call ≡ None → has_table names call ≡ false
@@ -255,14 +195,7 @@ has_none names (Get name key) is = ap is_some is
 has_none names (Put name key value) is = ap is_some is
 has_none names (Del name key) is = ap is_some is
 has_none names (Scan name low high) is = ap is_some is
-has_none names Save is = absurd (cc)
-has_none names (Back n) is = absurd (cc)
-has_none names Commit is = absurd (cc)
-has_none names Abort is = absurd (cc)
-has_none names Offer is = absurd (cc)
-has_none names Settle is = absurd (cc)
-has_none names Purge is = absurd (cc)
-has_none names Begin is = absurd (cc)
+has_none names _ is = absurd (cc)
 
 mirrors_same : (b : TableState) (s new : State) → records_of new ≡ records_of s → new.live ≡ s.live → Mirrors b s → Mirrors b new
 mirrors_same b s new same live m = record { table = m.table ∙ sym same; logs = λ u. m.logs u ∙ ap (λ (f : ℕ → Option Granted). log_of (unwrap_or (f u) [])) (sym live) }

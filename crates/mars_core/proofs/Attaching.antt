@@ -72,14 +72,8 @@ left_gives tells Opens failed old new left = record {
 
 -- why data was not brought to version 2, as the opening tells it
 pub upgrade_cause : (tells : Bool) (index : Index) (old : PagesView) (f : TableFault) → (let r : Result (Unit {0}) TableFault = Err f in UpgradeCause tells old r) → CoreCause tells index old.store (scan_fault f)
-upgrade_cause tells index old fault.Media cause = tt
-upgrade_cause tells index old fault.NoMemory cause = tt
 upgrade_cause tells index old (fault.Damaged page) cause = λ told. absurd (cause.1 told)
-upgrade_cause tells index old fault.Dead cause = tt
-upgrade_cause tells index old fault.SavesFull cause = tt
-upgrade_cause tells index old (fault.SlotsFull n) cause = tt
-upgrade_cause tells index old (fault.PagesFull n) cause = tt
-upgrade_cause tells index old (fault.LogFull g h n) cause = tt
+upgrade_cause tells index old _ cause = tt
 
 -- the store is then given back
 pub upgrade_gives : (tells : Bool) (Opens : List ℕ → List ℕ → Type 0) (index : Index) (old new : PagesView) → IsAlive old.store → (f : TableFault) → (let r : Result (Unit {0}) TableFault = Err f in Upgrades tells Opens index old new r)

@@ -32,16 +32,7 @@ use Rattle.mars_core.proofs.Mirroring.{IsOfTable}
 pub no_refusal : (saves : ℕ) (call : Call) → HasSaves saves call → save_refusal saves call ≡ None
 no_refusal saves Save has = ap (λ (b : Bool). if b then None else Some reply.SavesFull) (lt-ltb saves 32 has)
 no_refusal saves (Back n) has = ap (λ (b : Bool). if b then None else Some (reply.NoSave n)) ((λ i. lt-ltb 0 n has.0 i && nat_le n saves) ∙ le-leb n saves has.1)
-no_refusal saves (Get name key) has = refl
-no_refusal saves (Put name key value) has = refl
-no_refusal saves (Del name key) has = refl
-no_refusal saves (Scan name low high) has = refl
-no_refusal saves Begin has = refl
-no_refusal saves Commit has = refl
-no_refusal saves Abort has = refl
-no_refusal saves Offer has = refl
-no_refusal saves Settle has = refl
-no_refusal saves Purge has = refl
+no_refusal saves _ has = refl
 
 not_true : (b : Bool) → (b ≡ true → ⊥) → b ≡ false
 not_true true never = absurd (never refl)
@@ -55,30 +46,17 @@ is_refused saves (Back n) answer refused =
     ap (λ (b : Bool). if b then None else Some (reply.NoSave n)) (not_true (nat_lt 0 n && nat_le n saves) (λ there. (let parts = both (nat_lt 0 n) (nat_le n saves) there in refused.0 (ltb-true 0 n parts.0, leb-true n saves parts.1))))
     ∙ ap (λ (r : Reply). Some r) (sym refused.1)
 is_refused saves (Get name key) answer refused = absurd refused
-is_refused saves (Put name key value) answer refused = absurd refused
-is_refused saves (Del name key) answer refused = absurd refused
-is_refused saves (Scan name low high) answer refused = absurd refused
-is_refused saves Begin answer refused = absurd refused
-is_refused saves Commit answer refused = absurd refused
-is_refused saves Abort answer refused = absurd refused
-is_refused saves Offer answer refused = absurd refused
-is_refused saves Settle answer refused = absurd refused
-is_refused saves Purge answer refused = absurd refused
+is_refused saves _ answer refused = absurd refused
 
 -- a call of the table
 pub of_table_cause : (limits : Limits) (s : State) (t : ℕ) (call : Call) (answer : Reply) → IsOfTable call → TableCause limits s t call answer → CallCause limits s t call answer
-of_table_cause limits s t (Get name key) answer of cause = cause
-of_table_cause limits s t (Put name key value) answer of cause = cause
-of_table_cause limits s t (Del name key) answer of cause = cause
-of_table_cause limits s t (Scan name low high) answer of cause = cause
-of_table_cause limits s t Save answer of cause = cause
-of_table_cause limits s t (Back n) answer of cause = cause
 of_table_cause limits s t Begin answer of cause = absurd of
 of_table_cause limits s t Commit answer of cause = absurd of
 of_table_cause limits s t Abort answer of cause = absurd of
 of_table_cause limits s t Offer answer of cause = absurd of
 of_table_cause limits s t Settle answer of cause = absurd of
 of_table_cause limits s t Purge answer of cause = absurd of
+of_table_cause limits s t _ answer of cause = cause
 
 -- granted where nobody stands in its way
 pub granted_cause : (limits : Limits) (s : State) (t : ℕ) (call : Call) (answer : Reply) → IsFree s t call → is_refusal answer ≡ false → IsOfKind (saves_of s t) call answer → TableCause limits s t call answer
@@ -88,45 +66,19 @@ granted_cause limits s t call _ free granted kind = (free, inl kind)
 
 put_meets : (limits : Limits) (call : Call) (n : ℕ) → table_causes.IsPut call → (n ≡ limits.slots → MayMeet limits call (reply.SlotsFull n)) × (n ≡ limits.index_pages - 1 → MayMeet limits call (reply.PagesFull n))
 put_meets limits (Put name key value) n is = (λ e. e, λ e. e)
-put_meets limits (Get name key) n is = absurd is
-put_meets limits (Del name key) n is = absurd is
-put_meets limits (Scan name low high) n is = absurd is
-put_meets limits Save n is = absurd is
-put_meets limits (Back m) n is = absurd is
-put_meets limits Begin n is = absurd is
-put_meets limits Commit n is = absurd is
-put_meets limits Abort n is = absurd is
-put_meets limits Offer n is = absurd is
-put_meets limits Settle n is = absurd is
-put_meets limits Purge n is = absurd is
+put_meets limits _ n is = absurd is
 
 log_meets : (index : below.Index) (p : PagesView) (t : ℕ) (call : Call) (g h n : ℕ) → MayLack p g h n t call → MayMeet (limits_of index p.store.shape) call (reply.LogFull g h n)
 log_meets index p t (Put name key value) g h n lacks = (lacks.2.logger, lacks.0, lacks.2.full)
 log_meets index p t (Del name key) g h n lacks = (lacks.2.logger, lacks.0, lacks.2.full)
-log_meets index p t (Get name key) g h n lacks = absurd lacks
-log_meets index p t (Scan name low high) g h n lacks = absurd lacks
-log_meets index p t Save g h n lacks = absurd lacks
-log_meets index p t (Back m) g h n lacks = absurd lacks
-log_meets index p t Begin g h n lacks = absurd lacks
-log_meets index p t Commit g h n lacks = absurd lacks
-log_meets index p t Abort g h n lacks = absurd lacks
-log_meets index p t Offer g h n lacks = absurd lacks
-log_meets index p t Settle g h n lacks = absurd lacks
-log_meets index p t Purge g h n lacks = absurd lacks
+log_meets index p t _ g h n lacks = absurd lacks
 
 sought_uses : (call : Call) → IsSought call → uses_index call ≡ true
 sought_uses (Get name key) is = refl
 sought_uses (Put name key value) is = refl
 sought_uses (Del name key) is = refl
 sought_uses (Scan name low high) is = refl
-sought_uses Save is = absurd is
-sought_uses (Back n) is = absurd is
-sought_uses Begin is = absurd is
-sought_uses Commit is = absurd is
-sought_uses Abort is = absurd is
-sought_uses Offer is = absurd is
-sought_uses Settle is = absurd is
-sought_uses Purge is = absurd is
+sought_uses _ is = absurd is
 
 -- refused by the records
 pub fault_cause : (tells : Bool) (index : below.Index) (table : ℕ) (p : PagesView) (s : State) (t : ℕ) (call : Call) → IsAlive p.store → (table_causes.IsSavedOut p t call → ⊥) → IsFree s t call

@@ -84,22 +84,12 @@ last_is (a ∷ xs) (b ∷ ys) x (Some z) e none =
 pub commit_fails : (tells : Bool) (index : below.Index) (p : PagesView) (t : ℕ) → IsAlive p.store → (f : TableFault) → (let r : Result Reply TableFault = Err f in Cause tells index 0 t Commit p r) → f ≡ fault.Media
 commit_fails tells index p t alive fault.Media cause = refl
 commit_fails tells index p t alive fault.Dead cause = absurd (false≢true (sym alive ∙ cause))
-commit_fails tells index p t alive (fault.SlotsFull n) cause = absurd cause.1
-commit_fails tells index p t alive (fault.PagesFull n) cause = absurd cause.1
-commit_fails tells index p t alive (fault.LogFull g h n) cause = absurd cause.1
-commit_fails tells index p t alive fault.SavesFull cause = absurd cause.1
-commit_fails tells index p t alive (fault.Damaged page) cause = absurd cause.1
-commit_fails tells index p t alive fault.NoMemory cause = absurd cause.1
+commit_fails tells index p t alive _ cause = absurd cause.1
 
 pub abort_fails : (tells : Bool) (index : below.Index) (p : PagesView) (t : ℕ) → IsAlive p.store → (f : TableFault) → (let r : Result Reply TableFault = Err f in Cause tells index 0 t Abort p r) → f ≡ fault.Media
 abort_fails tells index p t alive fault.Media cause = refl
 abort_fails tells index p t alive fault.Dead cause = absurd (false≢true (sym alive ∙ cause))
-abort_fails tells index p t alive (fault.SlotsFull n) cause = absurd cause.1
-abort_fails tells index p t alive (fault.PagesFull n) cause = absurd cause.1
-abort_fails tells index p t alive (fault.LogFull g h n) cause = absurd cause.1
-abort_fails tells index p t alive fault.SavesFull cause = absurd cause.1
-abort_fails tells index p t alive (fault.Damaged page) cause = absurd cause.1
-abort_fails tells index p t alive fault.NoMemory cause = absurd cause.1
+abort_fails tells index p t alive _ cause = absurd cause.1
 
 module _ (tells : Bool) (Opens : Shape → List ℕ → List ℕ → Type 0) (index : below.Index) (one : (shape : Shape) (image a b : List ℕ) → Opens shape image a → Opens shape image b → a ≡ b)
     (p q : PagesView) (old_laws : StoreLaws tells Opens p.store) (new_laws : StoreLaws tells Opens q.store) (s new : State) (shows : ShowsPages index p s) (shows_new : ShowsPages index q new)

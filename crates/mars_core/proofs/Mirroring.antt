@@ -55,59 +55,40 @@ IsOfTable _ = Unit {0}
 
 of_table : (call : TableCall) → IsOfTable (call_of call)
 of_table (table_call.Get name key) = tt
-of_table (table_call.Put name key value) = tt
-of_table (table_call.Del name key) = tt
-of_table (table_call.Scan name low high) = tt
-of_table table_call.Save = tt
-of_table (table_call.Back n) = tt
+of_table _ = tt
 
 pub is_of_table : (asked : TableCall) (call : Call) → call_of asked ≡ call → IsOfTable call
 is_of_table asked call said = subst IsOfTable said (of_table asked)
 
 -- it does not change the table
 pub same_table : (s : TableState) (t : ℕ) (call : Call) → IsOfTable call → table_after t call s ≡ s.table
-same_table s t (Get name key) of = refl
-same_table s t (Put name key value) of = refl
-same_table s t (Del name key) of = refl
-same_table s t (Scan name low high) of = refl
-same_table s t Save of = refl
-same_table s t (Back n) of = refl
 same_table s t Commit of = absurd of
 same_table s t Abort of = absurd of
 same_table s t Offer of = absurd of
 same_table s t Settle of = absurd of
 same_table s t Purge of = absurd of
 same_table s t Begin of = absurd of
+same_table s t _ of = refl
 
 -- its number's log is then that of the history
 own_is : (l : Log) (call : Call) (answer : Reply) → IsOfTable call → own_after l call answer ≡ log_after l call answer
-own_is l (Get name key) answer of = refl
-own_is l (Put name key value) answer of = refl
-own_is l (Del name key) answer of = refl
-own_is l (Scan name low high) answer of = refl
-own_is l Save answer of = refl
-own_is l (Back n) answer of = refl
 own_is l Commit answer of = absurd of
 own_is l Abort answer of = absurd of
 own_is l Offer answer of = absurd of
 own_is l Settle answer of = absurd of
 own_is l Purge answer of = absurd of
 own_is l Begin answer of = absurd of
+own_is l _ answer of = refl
 
 -- and the reply is the table's
 replies_is : (s : TableState) (t : ℕ) (call : Call) (answer : Reply) → IsOfTable call → Replies s t call answer → Answers (work_of s t) call answer
-replies_is s t (Get name key) answer of replies = replies
-replies_is s t (Put name key value) answer of replies = replies
-replies_is s t (Del name key) answer of replies = replies
-replies_is s t (Scan name low high) answer of replies = replies
-replies_is s t Save answer of replies = replies
-replies_is s t (Back n) answer of replies = replies
 replies_is s t Commit answer of replies = absurd of
 replies_is s t Abort answer of replies = absurd of
 replies_is s t Offer answer of replies = absurd of
 replies_is s t Settle answer of replies = absurd of
 replies_is s t Purge answer of replies = absurd of
 replies_is s t Begin answer of replies = absurd of
+replies_is s t _ answer of replies = replies
 
 pub has_save_is : {A : Type 0} (saved : List A) (n : ℕ) → 0 < n → n ≤ length saved → has_save saved n ≡ true
 has_save_is saved n some there = (λ i. lt-ltb 0 n some i && nat_le n (length saved)) ∙ le-leb n (length saved) there

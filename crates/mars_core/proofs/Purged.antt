@@ -216,13 +216,8 @@ module _ (tells : Bool) (Opens : Shape → List ℕ → List ℕ → Type 0) (in
       tied_of : (r : Result ℕ TableFault) → Clears tells (Opens p.store.shape) index seats t (IsOfFirst seats.names (length seats.names)) p q r → IsAlive q.store → IsTied index q (state_at index q.store seats.names base history (live_in seats) (offers_in seats) doubt)
       tied_of (Ok n) clears living = tied_new n clears living
       tied_of (Err Media) clears living = absurd (false≢true (sym living ∙ (clears.dies refl).0))
-      tied_of (Err Dead) clears living = absurd clears.cause
-      tied_of (Err (SlotsFull n)) clears living = absurd clears.cause
-      tied_of (Err (PagesFull n)) clears living = absurd clears.cause
-      tied_of (Err SavesFull) clears living = absurd clears.cause
-      tied_of (Err (LogFull g h n)) clears living = absurd clears.cause
       tied_of (Err (Damaged page)) clears living = absurd (clears.cause told)
-      tied_of (Err NoMemory) clears living = absurd clears.cause
+      tied_of _ clears living = absurd clears.cause
 
     module _ (r : Result ℕ TableFault) (clears : Clears tells (Opens p.store.shape) index seats t (IsOfFirst seats.names (length seats.names)) p q r) where
       time_now : IsTrue tells → LeavesOnly (HasPrefixOf (OpensWithTables (Opens q.store.shape) index seats.names) (state_at index q.store seats.names base history (live_in seats) (offers_in seats) doubt) (length history)) p.store q.store
@@ -301,12 +296,7 @@ module _ (tells : Bool) (Opens : Shape → List ℕ → List ℕ → Type 0) (in
     moves_of (Ok n) clears = fate_moves p.store.shape.numbers s t Purge (reply.Purged n) new (fates.purged n un none refl refl (index_of index q.store.state.bytes) (still (Ok n) refl clears))
     moves_of (Err Media) clears = fate_moves p.store.shape.numbers s t Purge reply.Media new (fates.failed refl refl (index_of index q.store.state.bytes) (dying clears))
     moves_of (Err (Damaged page)) clears = fate_moves p.store.shape.numbers s t Purge (reply.Damaged page) new (fates.refused refl refl (index_of index q.store.state.bytes) (still (Err (Damaged page)) refl clears))
-    moves_of (Err Dead) clears = absurd clears.cause
-    moves_of (Err (SlotsFull n)) clears = absurd clears.cause
-    moves_of (Err (PagesFull n)) clears = absurd clears.cause
-    moves_of (Err SavesFull) clears = absurd clears.cause
-    moves_of (Err (LogFull g h n)) clears = absurd clears.cause
-    moves_of (Err NoMemory) clears = absurd clears.cause
+    moves_of _ clears = absurd clears.cause
 
     purge_step : (r : Result ℕ TableFault) → Clears tells (Opens p.store.shape) index seats t (IsOfFirst seats.names (length seats.names)) p q r → IsTrue tells → Acts (limits_of index p.store.shape) s t Purge (outcome r) new
     purge_step (Ok n) clears told =
@@ -340,46 +330,26 @@ module _ (tells : Bool) (Opens : Shape → List ℕ → List ℕ → Type 0) (in
           },
         ))
     purge_step (Err Media) clears told = step_of (limits_of index p.store.shape) None s new t Purge reply.Media alive none un (inr (refl, index_of index q.store.state.bytes, dying clears))
-    purge_step (Err Dead) clears told = absurd clears.cause
-    purge_step (Err (SlotsFull n)) clears told = absurd clears.cause
-    purge_step (Err (PagesFull n)) clears told = absurd clears.cause
-    purge_step (Err SavesFull) clears told = absurd clears.cause
-    purge_step (Err (LogFull g h n)) clears told = absurd clears.cause
     purge_step (Err (Damaged page)) clears told = absurd (clears.cause told)
-    purge_step (Err NoMemory) clears told = absurd clears.cause
+    purge_step _ clears told = absurd clears.cause
 
     pub purge_cause : (r : Result ℕ TableFault) → Clears tells (Opens p.store.shape) index seats t (IsOfFirst seats.names (length seats.names)) p q r → PurgeCause s t (outcome r)
     purge_cause (Ok n) clears = (alive, free_caller)
-    purge_cause (Err Dead) clears = absurd clears.cause
     purge_cause (Err Media) clears = (alive, free_caller)
-    purge_cause (Err (SlotsFull n)) clears = absurd clears.cause
-    purge_cause (Err (PagesFull n)) clears = absurd clears.cause
-    purge_cause (Err SavesFull) clears = absurd clears.cause
-    purge_cause (Err (LogFull g h n)) clears = absurd clears.cause
     purge_cause (Err (Damaged page)) clears = (alive, free_caller)
-    purge_cause (Err NoMemory) clears = absurd clears.cause
+    purge_cause _ clears = absurd clears.cause
 
     cleared_cause : (r : Result ℕ TableFault) → ClearCause tells r → cause.ClearCause (outcome r)
     cleared_cause (Ok n) cause = tt
     cleared_cause (Err Media) cause = tt
-    cleared_cause (Err Dead) cause = absurd cause
-    cleared_cause (Err (SlotsFull n)) cause = absurd cause
-    cleared_cause (Err (PagesFull n)) cause = absurd cause
-    cleared_cause (Err SavesFull) cause = absurd cause
-    cleared_cause (Err (LogFull g h n)) cause = absurd cause
     cleared_cause (Err (Damaged page)) cause = tt
-    cleared_cause (Err NoMemory) cause = absurd cause
+    cleared_cause _ cause = absurd cause
 
     failed_is : (r : Result ℕ TableFault) → ClearCause tells r → is_media (outcome r) ≡ is_failed r
     failed_is (Ok n) cause = refl
     failed_is (Err Media) cause = refl
-    failed_is (Err Dead) cause = absurd cause
-    failed_is (Err (SlotsFull n)) cause = absurd cause
-    failed_is (Err (PagesFull n)) cause = absurd cause
-    failed_is (Err SavesFull) cause = absurd cause
-    failed_is (Err (LogFull g h n)) cause = absurd cause
     failed_is (Err (Damaged page)) cause = refl
-    failed_is (Err NoMemory) cause = absurd cause
+    failed_is _ cause = absurd cause
 
     module _ (r : Result ℕ TableFault) (clears : Clears tells (Opens p.store.shape) index seats t (IsOfFirst seats.names (length seats.names)) p q r) where
       pub purged_steps : Steps tells t Purge (core_over Opens index p.store s) (core_over Opens index q.store new) (outcome r)

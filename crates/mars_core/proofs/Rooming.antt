@@ -92,16 +92,7 @@ module _ (index : below.Index) (table : ℕ) (p : PagesView) (s : State) (indexe
         let at = fits (seen_from (of_table name key) seen_there) in
         subst (λ (slot : ℕ). HasEntry (limits_of index p.store.shape) s t (of_table name key) slot)
         (sym (ap (λ (o : Option ℕ). unwrap_or o (slot_due p.store.state.bytes)) at.1) ∙ slot_is (of_table name key)) (has_entry t (of_table name key) at.0 at.2)
-    entry_is (Get name key) of fits = tt
-    entry_is (Scan name low high) of fits = tt
-    entry_is Save of fits = tt
-    entry_is (Back n) of fits = tt
-    entry_is Commit of fits = tt
-    entry_is Abort of fits = tt
-    entry_is Offer of fits = tt
-    entry_is Settle of fits = tt
-    entry_is Purge of fits = tt
-    entry_is Begin of fits = tt
+    entry_is _ of fits = tt
 
     -- Refusals of a full array, if no logger holds more than it has entries for.
     module _ (room : HasHeld (limits_of index p.store.shape) s) where
@@ -195,16 +186,7 @@ module _ (index : below.Index) (table : ℕ) (p : PagesView) (s : State) (indexe
       pub fits_is : (call : Call) → IsOfTable call → number_for (names_of p.store.state.bytes) call ≡ Some table → table_causes.Fits index table p t call → Fits (limits_of index p.store.shape) s t call
       fits_is (Put name key value) of number fits = subst (λ (o : Option ℕ). FitsAt (limits_of index p.store.shape) s t (of_table name key) o) (found_is (of_table name key)) (fits_at (of_table name key) number (shown.found_key (pairs_of index p.store.state.bytes) (of_table name key)) fits)
       fits_is (Del name key) of number fits = entry_is (Del name key) of fits
-      fits_is (Get name key) of number fits = tt
-      fits_is (Scan name low high) of number fits = tt
-      fits_is Save of number fits = tt
-      fits_is (Back n) of number fits = tt
-      fits_is Commit of number fits = tt
-      fits_is Abort of number fits = tt
-      fits_is Offer of number fits = tt
-      fits_is Settle of number fits = tt
-      fits_is Purge of number fits = tt
-      fits_is Begin of number fits = tt
+      fits_is _ of number fits = tt
 
       pub log_lacks : (call : Call) (g h n : ℕ) → IsOfTable call → number_for (names_of p.store.state.bytes) call ≡ Some table → table_causes.Lacks index table p g h n t call → table_causes.MayLack p g h n t call
           → Lacks (limits_of index p.store.shape) s t call (reply.LogFull g h n)
@@ -216,47 +198,19 @@ module _ (index : below.Index) (table : ℕ) (p : PagesView) (s : State) (indexe
         sym (found_is (of_table name key)) ∙ at,
         slot_full (of_table name key) slot g h n full,
       )
-      log_lacks (Get name key) g h n of number lacks short = absurd short
-      log_lacks (Scan name low high) g h n of number lacks short = absurd short
-      log_lacks Save g h n of number lacks short = absurd short
-      log_lacks (Back m) g h n of number lacks short = absurd short
-      log_lacks Commit g h n of number lacks short = absurd short
-      log_lacks Abort g h n of number lacks short = absurd short
-      log_lacks Offer g h n of number lacks short = absurd short
-      log_lacks Settle g h n of number lacks short = absurd short
-      log_lacks Purge g h n of number lacks short = absurd short
       log_lacks Begin g h n of number lacks short = absurd of
+      log_lacks _ g h n of number lacks short = absurd short
 
       pub slot_lacks : (call : Call) (n : ℕ) → IsOfTable call → table_causes.LacksSlot index p n call → n ≡ slots_of p.store.shape
           → Lacks (limits_of index p.store.shape) s t call (reply.SlotsFull n)
       slot_lacks (Put name key value) n of lacks most = subst (λ (o : Option ℕ). LacksAt (limits_of index p.store.shape) s t (of_table name key) o (reply.SlotsFull n)) (sym lacks.0 ∙ found_is (of_table name key))
           (ap (λ (ix : Index). ix.used_slots) indexed ∙ lacks.1 ∙ most, most)
-      slot_lacks (Get name key) n of lacks most = absurd lacks
-      slot_lacks (Del name key) n of lacks most = absurd lacks
-      slot_lacks (Scan name low high) n of lacks most = absurd lacks
-      slot_lacks Save n of lacks most = absurd lacks
-      slot_lacks (Back m) n of lacks most = absurd lacks
-      slot_lacks Commit n of lacks most = absurd lacks
-      slot_lacks Abort n of lacks most = absurd lacks
-      slot_lacks Offer n of lacks most = absurd lacks
-      slot_lacks Settle n of lacks most = absurd lacks
-      slot_lacks Purge n of lacks most = absurd lacks
-      slot_lacks Begin n of lacks most = absurd lacks
+      slot_lacks _ n of lacks most = absurd lacks
 
       pub page_lacks : (call : Call) (n : ℕ) → IsOfTable call → number_for (names_of p.store.state.bytes) call ≡ Some table → table_causes.LacksPage index table p t call → n ≡ (limits_of index p.store.shape).index_pages - 1
           → Lacks (limits_of index p.store.shape) s t call (reply.PagesFull n)
       page_lacks (Put name key value) n of number lacks most = subst (λ (o : Option ℕ). LacksAt (limits_of index p.store.shape) s t (of_table name key) o (reply.PagesFull n)) (sym lacks.0 ∙ found_is (of_table name key)) (slot_left lacks.1.0, most, moved (of_table name key) number (λ held left actions. LackPages (limits_of index p.store.shape) held left actions) (lack_pages _ (table_causes.actions_in index p.store.state.bytes table key) lacks.1.1))
-      page_lacks (Get name key) n of number lacks most = absurd lacks
-      page_lacks (Del name key) n of number lacks most = absurd lacks
-      page_lacks (Scan name low high) n of number lacks most = absurd lacks
-      page_lacks Save n of number lacks most = absurd lacks
-      page_lacks (Back m) n of number lacks most = absurd lacks
-      page_lacks Commit n of number lacks most = absurd lacks
-      page_lacks Abort n of number lacks most = absurd lacks
-      page_lacks Offer n of number lacks most = absurd lacks
-      page_lacks Settle n of number lacks most = absurd lacks
-      page_lacks Purge n of number lacks most = absurd lacks
-      page_lacks Begin n of number lacks most = absurd lacks
+      page_lacks _ n of number lacks most = absurd lacks
 
 -- a write that finds an entry leaves no logger with more than it has entries for
 module _ (limits : Limits) (ix : Index) (write : Write) (slot : ℕ) (at : ix.slot_of write.0 ≡ Some slot) (l : Log)

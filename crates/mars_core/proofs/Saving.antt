@@ -42,12 +42,7 @@ saves_of_call work (Get name key) of has = refl
 saves_of_call work (Put name key value) of has = refl
 saves_of_call work (Del name key) of has = refl
 saves_of_call work (Scan name low high) of has = refl
-saves_of_call work Begin of has = absurd of
-saves_of_call work Commit of has = absurd of
-saves_of_call work Abort of has = absurd of
-saves_of_call work Offer of has = absurd of
-saves_of_call work Settle of has = absurd of
-saves_of_call work Purge of has = absurd of
+saves_of_call work _ of has = absurd of
 
 -- and so a granted call
 pub saves_granted : (n m : ℕ) (table : Table) (calls : Granted) (call : Call) (answer : Reply) → IsOfTable call → n ≡ saves_in table calls → HasSaves n call → m ≡ saves_after call n → m ≡ saves_in table (calls ++ (call, answer) ∷ [])

@@ -121,16 +121,7 @@ module _ (tells : Bool) (Opens : Shape → List ℕ → List ℕ → Type 0) (in
           has_saves (state_of index p) s tied.mirrors t (tied.sound.right t) n ∙ no_saves (((state_of index p).logs t).saved) n (subst (λ (k : ℕ). (0 < n) × (n ≤ k) → ⊥) (sym (counts_is index p t)) refused.0),
           (refl, refl),
         )))
-    save_step (Get name key) answer refused = absurd refused
-    save_step (Put name key value) answer refused = absurd refused
-    save_step (Del name key) answer refused = absurd refused
-    save_step (Scan name low high) answer refused = absurd refused
-    save_step Commit answer refused = absurd refused
-    save_step Abort answer refused = absurd refused
-    save_step Offer answer refused = absurd refused
-    save_step Settle answer refused = absurd refused
-    save_step Purge answer refused = absurd refused
-    save_step Begin answer refused = absurd refused
+    save_step _ answer refused = absurd refused
 
   count_is : length (p.counts t) ≡ saves_of s t
   count_is = kept.saves alive t (records_of s)
@@ -144,30 +135,12 @@ module _ (tells : Bool) (Opens : Shape → List ℕ → List ℕ → Type 0) (in
       may_asked : (c : Call) (r : Reply) → IsSaveRefusal (length (p.counts t)) c r → may_do s t c ≡ true
       may_asked Save r refused = takes_within s t calls un is
       may_asked (Back n) r refused = takes_within s t calls un is
-      may_asked (Get name key) r refused = absurd refused
-      may_asked (Put name key value) r refused = absurd refused
-      may_asked (Del name key) r refused = absurd refused
-      may_asked (Scan name low high) r refused = absurd refused
-      may_asked Commit r refused = absurd refused
-      may_asked Abort r refused = absurd refused
-      may_asked Offer r refused = absurd refused
-      may_asked Settle r refused = absurd refused
-      may_asked Purge r refused = absurd refused
-      may_asked Begin r refused = absurd refused
+      may_asked _ r refused = absurd refused
 
       refusal : (c : Call) (r : Reply) → IsSaveRefusal (length (p.counts t)) c r → (is_refusal r ≡ true) × (is_media r ≡ false) × (is_committed r ≡ false)
       refusal Save r refused = subst (λ (x : Reply). (is_refusal x ≡ true) × (is_media x ≡ false) × (is_committed x ≡ false)) (sym refused.1) (refl, refl, refl)
       refusal (Back n) r refused = subst (λ (x : Reply). (is_refusal x ≡ true) × (is_media x ≡ false) × (is_committed x ≡ false)) (sym refused.1) (refl, refl, refl)
-      refusal (Get name key) r refused = absurd refused
-      refusal (Put name key value) r refused = absurd refused
-      refusal (Del name key) r refused = absurd refused
-      refusal (Scan name low high) r refused = absurd refused
-      refusal Commit r refused = absurd refused
-      refusal Abort r refused = absurd refused
-      refusal Offer r refused = absurd refused
-      refusal Settle r refused = absurd refused
-      refusal Purge r refused = absurd refused
-      refusal Begin r refused = absurd refused
+      refusal _ r refused = absurd refused
 
   module _ (of : IsOfTable call) (saves : HasSaves (length (p.counts t)) call) (new : State) (same : new ≡ s) where
     has : HasSaves (length ((state_of index p).logs t).saved) call
@@ -273,11 +246,7 @@ module _ (tells : Bool) (Opens : Shape → List ℕ → List ℕ → Type 0) (in
 -- a call of the table outside of a transaction
 absent_at : (limits : Limits) (s : State) (t : ℕ) (call : TableCall) → StepAt limits None s t (call_of call) NoTransaction s
 absent_at limits s t (table_call.Get name key) = (refl, refl)
-absent_at limits s t (table_call.Put name key value) = (refl, refl)
-absent_at limits s t (table_call.Del name key) = (refl, refl)
-absent_at limits s t (table_call.Scan name low high) = (refl, refl)
-absent_at limits s t table_call.Save = (refl, refl)
-absent_at limits s t (table_call.Back n) = (refl, refl)
+absent_at limits s t _ = (refl, refl)
 
 pub is_absent_at : (limits : Limits) (s : State) (t : ℕ) (asked : TableCall) (call : Call) → call_of asked ≡ call → StepAt limits None s t call NoTransaction s
 is_absent_at limits s t asked call said = subst (λ (c : Call). StepAt limits None s t c NoTransaction s) said (absent_at limits s t asked)

@@ -85,18 +85,13 @@ media_none reply.Media e = absurd (cc)
 media_none _ e = refl
 
 live_with_is : (calls : Granted) (call : Call) (answer : Reply) → IsOfTable call → live_with calls call answer ≡ Some (calls ++ (call, answer) ∷ [])
-live_with_is calls (Get name key) answer of = refl
-live_with_is calls (Put name key value) answer of = refl
-live_with_is calls (Del name key) answer of = refl
-live_with_is calls (Scan name low high) answer of = refl
-live_with_is calls Save answer of = refl
-live_with_is calls (Back n) answer of = refl
 live_with_is calls Commit answer of = absurd of
 live_with_is calls Abort answer of = absurd of
 live_with_is calls Offer answer of = absurd of
 live_with_is calls Settle answer of = absurd of
 live_with_is calls Purge answer of = absurd of
 live_with_is calls Begin answer of = absurd of
+live_with_is calls _ answer of = refl
 
 -- it leaves no offer
 offer_with_is : (call : Call) → IsOfTable call → offer_with call ≡ unoffered
@@ -152,12 +147,7 @@ asks_at limits calls s new t (Del name key) answer of there saves asks = inr (th
 asks_at limits calls s new t (Scan name low high) answer of there saves asks = inr (there, asks)
 asks_at limits calls s new t Save answer of there saves asks = inr (saves, asks)
 asks_at limits calls s new t (Back n) answer of there saves asks = inr (saves, asks)
-asks_at limits calls s new t Commit answer of there saves asks = absurd of
-asks_at limits calls s new t Abort answer of there saves asks = absurd of
-asks_at limits calls s new t Offer answer of there saves asks = absurd of
-asks_at limits calls s new t Settle answer of there saves asks = absurd of
-asks_at limits calls s new t Purge answer of there saves asks = absurd of
-asks_at limits calls s new t Begin answer of there saves asks = absurd of
+asks_at limits calls s new t _ answer of there saves asks = absurd of
 
 -- while the store is not dead, its data shows the state
 pub shows_tied : (index : below.Index) (q : PagesView) (new : State) → new.index ≡ index_of index q.store.state.bytes → IsTied index q new → ShowsAll index new
@@ -244,31 +234,13 @@ module _ (index : below.Index) (table : ℕ) (p : PagesView) (s : State) (shows 
   pub saves_at : (call : Call) → HasSaves (length ((state_of index p).logs t).saved) call → SavesAt s t call
   saves_at Save saves = subst (λ (n : ℕ). n < 32) (saves_are (state_of index p) s mirrors t right) saves
   saves_at (Back n) saves = has_saves (state_of index p) s mirrors t right n ∙ has_save_is ((state_of index p).logs t).saved n saves.0 saves.1
-  saves_at (Get name key) saves = tt
-  saves_at (Put name key value) saves = tt
-  saves_at (Del name key) saves = tt
-  saves_at (Scan name low high) saves = tt
-  saves_at Commit saves = tt
-  saves_at Abort saves = tt
-  saves_at Offer saves = tt
-  saves_at Settle saves = tt
-  saves_at Purge saves = tt
-  saves_at Begin saves = tt
+  saves_at _ saves = tt
 
   pub returns_at : (calls : Granted) → calls_of s t ≡ calls → (call : Call) → HasSaves (length ((state_of index p).logs t).saved) call → Returns (log_of calls).saved call
   returns_at calls at (Back n) saves =
       subst (λ (ls : List (List Write)). has_save ls n ≡ true) (ap (λ (l : Log). l.saved) (mirrors.logs t) ∙ ap (λ (cs : Granted). (log_of cs).saved) at) (has_save_is ((state_of index p).logs t).saved n saves.0 saves.1)
   returns_at calls at (Get name key) saves = tt
-  returns_at calls at (Put name key value) saves = tt
-  returns_at calls at (Del name key) saves = tt
-  returns_at calls at (Scan name low high) saves = tt
-  returns_at calls at Save saves = tt
-  returns_at calls at Commit saves = tt
-  returns_at calls at Abort saves = tt
-  returns_at calls at Offer saves = tt
-  returns_at calls at Settle saves = tt
-  returns_at calls at Purge saves = tt
-  returns_at calls at Begin saves = tt
+  returns_at calls at _ saves = tt
 
   -- if a call writes, it finds an entry
   pub enters_at : (call : Call) (answer : Reply) (ix : Index) → IsOfTable call → table_causes.Fits index table p t call → Replies (state_of index p) t call answer
@@ -283,13 +255,4 @@ module _ (index : below.Index) (table : ℕ) (p : PagesView) (s : State) (shows 
       go (Some value) some =
           let at = fits (ap is_some some) in
           (at.0, ap (λ (x : Index). x.slot_of (of_table name key)) (indexes ∙ shows.indexed) ∙ at.1, has_entry index table p s shows.indexed mirrors held t (of_table name key) at.0 at.2)
-  enters_at (Get name key) answer ix of fits replies indexes = tt
-  enters_at (Scan name low high) answer ix of fits replies indexes = tt
-  enters_at Save answer ix of fits replies indexes = tt
-  enters_at (Back n) answer ix of fits replies indexes = tt
-  enters_at Commit answer ix of fits replies indexes = tt
-  enters_at Abort answer ix of fits replies indexes = tt
-  enters_at Offer answer ix of fits replies indexes = tt
-  enters_at Settle answer ix of fits replies indexes = tt
-  enters_at Purge answer ix of fits replies indexes = tt
-  enters_at Begin answer ix of fits replies indexes = tt
+  enters_at _ answer ix of fits replies indexes = tt

@@ -38,12 +38,7 @@ same_number n m e = cc
 pub group_fails : (p : PagesView) → IsAlive p.store → (f : TableFault) → GroupCause p (Err f) → f ≡ fault.Media
 group_fails p alive fault.Media cause = refl
 group_fails p alive fault.Dead cause = absurd (false≢true (sym alive ∙ cause))
-group_fails p alive (fault.SlotsFull n) cause = absurd cause
-group_fails p alive (fault.PagesFull n) cause = absurd cause
-group_fails p alive (fault.LogFull g h n) cause = absurd cause
-group_fails p alive fault.SavesFull cause = absurd cause
-group_fails p alive (fault.Damaged page) cause = absurd cause
-group_fails p alive fault.NoMemory cause = absurd cause
+group_fails p alive _ cause = absurd cause
 
 module _ (tells : Bool) (Opens : Shape → List ℕ → List ℕ → Type 0) (index : below.Index) (one : (shape : Shape) (image a b : List ℕ) → Opens shape image a → Opens shape image b → a ≡ b)
     (p q : PagesView) (old_laws : StoreLaws tells Opens p.store) (new_laws : StoreLaws tells Opens q.store) (base : Table) (history : List Done) (old : Seats) (doubt : List Done) (rows : List NamedRows)
