@@ -1,21 +1,72 @@
-// The report at the end.
-ghost use Rattle.std.specs.Prelude.{◌≡◌, ◌++◌, List, ℕ, Bool, IsTrue};
+// A run, and the report at its end.
+ghost use Rattle.std.specs.Prelude.{◌≡◌, ◌++◌, List, ℕ, Bool, map, IsTrue, string_bytes};
 ghost use Rattle.mars_base.specs.Causes.{Rose};
-ghost use Rattle.texts.specs.Written.{IsWritten};
+ghost use Rattle.texts.specs.Written.{IsWritten, Wrote};
 ghost use Rattle.array_runs.specs.Fault.{status_number};
-ghost use Rattle.mars.specs.Ending.{error_line};
+ghost use Rattle.array_runs.specs.Input.{InputSays};
+ghost use Rattle.array_runs.specs.Statuses.{Counts};
+ghost use Rattle.mars_shell.specs.Asked.{WordsSay, IfReads, OutcomeFor};
+ghost use Rattle.mars.specs.Ending.{IsUnbegun, error_line};
 
-use mars_shell::{Status, fault_text};
-use outside::Sink;
+use mars_shell::{OpenGate, Status, fault_text, run};
+use outside::{Sink, Source};
+use pcm_media::Media;
+use std::sync::Wait;
+use std::thread::Threads;
 use texts::{Piece, ShortText, write_front};
 
-/// Writes a status to `errors`, as a line unless it is `Good`, and returns the number that the program ends with.
-pub fn tell<K: Sink>(status: &Status, errors: &mut K) -> u8
+/// A status that was reported, and the number that the program then ends with.
+#[derive(Drop)]
+pub struct Told {
+    status: Status,
+    number: u8,
+    pub ghost of_status: { number ≡ status_number status },
+}
+
+impl Told {
+    pub fn number(&self) -> u8
+        ensures { result ≡ self.now.number }
+    {
+        self.number
+    }
+}
+
+/// Does what the words ask for, and reports to `errors` how that ended. Returns the medium too.
+pub fn run_told<
+    R: AllocGlobal + Threads + Wait + Sync,
+    S: Source,
+    K: Sink,
+    M: Media + Drop + Send,
+    E: Sink,
+>(rt: &R, words: &[String], source: &mut S, sink: &mut K, media: M, errors: &mut E) -> (Told, M)
+    // Of the status that is told holds what the run says of its own.
+    ensures counts { Counts result.0.status (S.faults source.old) (S.faults source.new) (K.faults sink.old) (K.faults sink.new) (M.view media).faults (M.view result.1).faults }
+    ensures input { WordsSay (map string_bytes words.now) result.0.status (source.new ≡ source.old) (λ asked. IfReads asked
+        (source.new ≡ source.old) (IsTrue S.tells → InputSays result.0.status (S.left source.old) (S.left source.new))) }
+    ensures ran { WordsSay (map string_bytes words.now) result.0.status ((source.new ≡ source.old) × (sink.new ≡ sink.old) × (result.1 ≡ media)) (λ asked. Wrote K.tells (K.written sink.old) (K.written sink.new) (K.faults sink.old) (K.faults sink.new)
+        (λ cut text. (input : List ℕ) × (IsTrue S.tells → S.left source.old ≡ input) × (IsTrue M.tells → OutcomeFor asked (M.view media) result.0.status (M.view result.1) input cut text))) }
+{
+    let (status, media) = run(rt, words, source, sink, media, &OpenGate);
+    let number = tell(&status, errors);
+    (Told { status, number }, media)
+}
+
+/// Reports to `errors` why there was no run.
+pub fn tell_unbegun<E: Sink>(status: Status, errors: &mut E) -> Told
+    requires { IsUnbegun status }
+    ensures { result.status ≡ status }
+{
+    let number = tell(&status, errors);
+    Told { status, number }
+}
+
+// Writes a status to `errors`, as a line unless it is `Good`, and returns the number that the program ends with.
+fn tell<E: Sink>(status: &Status, errors: &mut E) -> u8
     ensures number { result ≡ status_number status.now }
     // The line is cut short only if the sink failed.
     ensures told { (cut : Bool) × (part : List ℕ) × IsWritten cut part (error_line status.now)
-        × (IsTrue cut → Rose (K.faults errors.old) (K.faults errors.new))
-        × (IsTrue K.tells → K.written errors.new ≡ K.written errors.old ++ part) }
+        × (IsTrue cut → Rose (E.faults errors.old) (E.faults errors.new))
+        × (IsTrue E.tells → E.written errors.new ≡ E.written errors.old ++ part) }
 {
     let line = error_line(status);
     write_front(errors, line.as_bytes());

@@ -1,8 +1,11 @@
 //! The program: it makes the real source, sink and image, and hands them to `mars_shell::run`.
 //!
 //! Read first `main.rt`. `choice.rt` says which image the words name, `kept.rt` how much of a file stays in memory, `ending.rt` what is told on
-//! standard error and with which status the program ends.
+//! standard error and with which number the program ends: that of the status of the run.
 #![tactic(auto)]
+
+ghost use Rattle.std.specs.Prelude.{IfErr};
+ghost use Rattle.mars.specs.Ending.{IsUnbegun};
 
 mod choice;
 mod ending;
@@ -10,13 +13,13 @@ mod image;
 mod kept;
 
 use crate::choice::{Image, choose};
-use crate::ending::tell;
+use crate::ending::{Told, run_told, tell_unbegun};
 use crate::image::{fresh_image, no_image};
 use crate::kept::resident;
 use mars_base::NoMemory;
-use mars_shell::{OpenGate, Status, run};
+use mars_shell::Status;
 use media_file::FileMedia;
-use outside::{StdSink, StdSource};
+use outside::{Sink, StdSink, StdSource};
 use pcm_media::{Media, MemoryMedia};
 use std::fs::File;
 use std::io::{ErrorKind, Input, Result as IoResult};
@@ -30,9 +33,8 @@ fn main(rt: HostRuntime) -> ExitCode {
     // A file that is opened takes the number of a closed stream, if there is one, and replies would be written into an image.
     // These take them first, and stay open to the end.
     let _held = [null(&rt), null(&rt), null(&rt)];
-    let status = whole(&rt);
     let mut errors = StdSink::new(rt.stderr());
-    ExitCode::from(tell(&status, &mut errors))
+    ExitCode::from(whole(&rt, &mut errors).number())
 }
 
 // Reads as empty and refuses to be written. A system without it has no such protection.
@@ -41,56 +43,77 @@ fn null<R: Files<File = File>>(rt: &R) -> IoResult<File> {
 }
 
 // The words are read before the image is touched.
-fn whole<R>(rt: &R) -> Status
+fn whole<R, E: Sink>(rt: &R, errors: &mut E) -> Told
 where
     R: AllocGlobal + Env + Files<File = File> + Input + Print + Threads + Wait + Sync,
 {
-    let args = match env::args(rt) {
-        Ok(args) => args,
-        Err(error) if error.kind() == ErrorKind::OutOfMemory => return Status::NoMemory,
-        Err(_) => return Status::Usage,
-    };
-    let Ok(line) = args.collect::<Vec<String>>(rt.alloc()) else {
-        return Status::NoMemory;
+    let line = match words_given(rt) {
+        Ok(line) => line,
+        Err(status) => return tell_unbegun(status, errors),
     };
     match choose(rt.alloc(), &line) {
-        Ok((Image::Memory, words)) => run_in_memory(rt, words, fresh_image(rt.alloc())),
-        Ok((Image::File { path, least }, words)) => run_on_file(rt, words, path, least),
-        Err(status) => status,
+        Ok((Image::Memory, words)) => run_in_memory(rt, words, fresh_image(rt.alloc()), errors),
+        Ok((Image::File { path, least }, words)) => run_on_file(rt, words, path, least, errors),
+        Err(status) => tell_unbegun(status, errors),
+    }
+}
+
+// All words of the command line.
+fn words_given<R: AllocGlobal + Env>(rt: &R) -> Result<Vec<String>, Status>
+    ensures { IfErr result IsUnbegun }
+{
+    let args = match env::args(rt) {
+        Ok(args) => args,
+        Err(error) if error.kind() == ErrorKind::OutOfMemory => return Err(Status::NoMemory),
+        Err(_) => return Err(Status::Usage),
+    };
+    match args.collect::<Vec<String>>(rt.alloc()) {
+        Ok(line) => Ok(line),
+        Err(_) => Err(Status::NoMemory),
     }
 }
 
 // A run over a file, of which each block is read once. A missing file that is not to be created is an image of no bytes.
-fn run_on_file<R>(rt: &R, words: &[String], path: &str, least: u64) -> Status
+fn run_on_file<R, E: Sink>(rt: &R, words: &[String], path: &str, least: u64, errors: &mut E) -> Told
 where
     R: AllocGlobal + Files<File = File> + Input + Print + Threads + Wait + Sync,
 {
     match FileMedia::attach(rt, path, least) {
         Ok(Some(media)) => match resident(rt.alloc(), media) {
-            Ok(media) => run_over(rt, words, media),
-            Err(_) => Status::NoMemory,
+            Ok(media) => run_over(rt, words, media, errors),
+            Err(_) => tell_unbegun(Status::NoMemory, errors),
         },
-        Ok(None) => run_in_memory(rt, words, no_image(rt.alloc())),
-        Err(_) => Status::MediaFault,
+        Ok(None) => run_in_memory(rt, words, no_image(rt.alloc()), errors),
+        Err(_) => tell_unbegun(Status::MediaFault, errors),
     }
 }
 
 // A run over an image that is lost at the end.
-fn run_in_memory<R>(rt: &R, words: &[String], image: Result<MemoryMedia, NoMemory>) -> Status
+fn run_in_memory<R, E: Sink>(
+    rt: &R,
+    words: &[String],
+    image: Result<MemoryMedia, NoMemory>,
+    errors: &mut E,
+) -> Told
 where
     R: AllocGlobal + Input + Print + Threads + Wait + Sync,
 {
     match image {
-        Ok(media) => run_over(rt, words, media),
-        Err(_) => Status::NoMemory,
+        Ok(media) => run_over(rt, words, media, errors),
+        Err(_) => tell_unbegun(Status::NoMemory, errors),
     }
 }
 
-fn run_over<R, M: Media + Drop + Send>(rt: &R, words: &[String], media: M) -> Status
+fn run_over<R, M: Media + Drop + Send, E: Sink>(
+    rt: &R,
+    words: &[String],
+    media: M,
+    errors: &mut E,
+) -> Told
 where
     R: AllocGlobal + Input + Print + Threads + Wait + Sync,
 {
     let mut source = StdSource::new(rt.reader());
     let mut sink = StdSink::new(io::writer(rt));
-    run(rt, words, &mut source, &mut sink, media, &OpenGate).0
+    run_told(rt, words, &mut source, &mut sink, media, errors).0
 }
