@@ -1,5 +1,5 @@
 -- What waits leads from what is shown to all of the list.
-use Rattle.std.proofs.Common.{◌≡◌, List, [], ◌∷◌, ◌++◌, length, drop, fold, refl, sym, ap, ◌∙◌}
+use Rattle.std.proofs.Common.{◌≡◌, ℕ, List, [], ◌∷◌, ◌++◌, length, drop, fold, refl, sym, ap, ◌∙◌}
 use Rattle.std.proofs.Math.Seq.{drop-append_seam}
 use Rattle.std.proofs.lemmas.List.{append-nil}
 use Rattle.std.proofs.lemmas.List.Sums.{fold-append}
@@ -43,15 +43,15 @@ leads_more x waiting now list next dones h book log more =
     (ap (λ (s : Snapshot). s.records) last ∙ ap (λ (t : Table). all_written t writes.items) (records_led x waiting list h) ∙ sym (more.2 (records_after x.records rest)) ∙ sym (records_after-more x.records rest dones))
 
 -- what the last change tells changes no records
-pub leads_told : (x : Snapshot) (waiting : List Change) (list : Prefix) → Leads x waiting list → Leads x (waiting ++ Tell list ∷ []) list
-leads_told x waiting list h = (h.0, h.1, ap (λ (s : Snapshot). entries s.records) (fold-more x waiting (Tell list)) ∙ h.2)
+pub leads_told : (x : Snapshot) (waiting : List Change) (list : Prefix) (count : ℕ) → Leads x waiting list → Leads x (waiting ++ Tell list count ∷ []) list
+leads_told x waiting list count h = (h.0, h.1, ap (λ (s : Snapshot). entries s.records) (fold-more x waiting (Tell list count)) ∙ h.2)
 
 -- what is shown next is right
-pub right_next : (x next : Snapshot) (waiting : List Change) (list : Prefix) → Leads x waiting list → next ≡ fold changed x (waiting ++ Tell list ∷ [])
+pub right_next : (x next : Snapshot) (waiting : List Change) (list : Prefix) (count : ℕ) → Leads x waiting list → next ≡ fold changed x (waiting ++ Tell list count ∷ [])
     → (next.list.seen.book ≡ x.list.seen.book) × ((base : Table) → x.records ≡ records_after base (list_of x) → next.records ≡ records_after base (list_of next))
-right_next x next waiting list h is =
+right_next x next waiting list count h is =
     let rest : List Batch = drop (length (list_of x)) list.seen.log in
-    let now : next ≡ changed (fold changed x waiting) (Tell list) = is ∙ fold-more x waiting (Tell list) in
+    let now : next ≡ changed (fold changed x waiting) (Tell list count) = is ∙ fold-more x waiting (Tell list count) in
     let log : list_of next ≡ list.seen.log = ap list_of now in (
       ap (λ (s : Snapshot). s.list.seen.book) now ∙ sym h.0,
       λ base right. ap (λ (s : Snapshot). s.records) now ∙ records_led x waiting list h ∙ ap (λ (t : Table). records_after t rest) right ∙ sym (records_after-append base (list_of x) rest)
@@ -62,5 +62,8 @@ right_next x next waiting list h is =
 pub leads_shown : (x : Snapshot) (list : Prefix) → x.list ≡ list → Leads x [] list
 leads_shown x list is = leads_by x [] list [] (ap (λ (f : Prefix). f.seen.book) is) (append-nil (list_of x) ∙ ap (λ (f : Prefix). f.seen.log) is) refl
 
-pub list_next : (x next : Snapshot) (waiting : List Change) (list : Prefix) → next ≡ fold changed x (waiting ++ Tell list ∷ []) → next.list ≡ list
-list_next x next waiting list is = ap (λ (s : Snapshot). s.list) (is ∙ fold-more x waiting (Tell list))
+pub list_next : (x next : Snapshot) (waiting : List Change) (list : Prefix) (count : ℕ) → next ≡ fold changed x (waiting ++ Tell list count ∷ []) → next.list ≡ list
+list_next x next waiting list count is = ap (λ (s : Snapshot). s.list) (is ∙ fold-more x waiting (Tell list count))
+
+pub count_next : (x next : Snapshot) (waiting : List Change) (list : Prefix) (count : ℕ) → next ≡ fold changed x (waiting ++ Tell list count ∷ []) → next.count ≡ count
+count_next x next waiting list count is = ap (λ (s : Snapshot). s.count) (is ∙ fold-more x waiting (Tell list count))

@@ -1,5 +1,5 @@
 -- Transactions as they were fed: each batch was fed at once.
-use Rattle.std.specs.Prelude.{List, [], ◌∷◌, ◌++◌}
+use Rattle.std.specs.Prelude.{◌≡◌, List, [], ◌∷◌, ◌++◌}
 use Rattle.history.specs.Writes.{Table}
 use Rattle.history.specs.Legal.{records}
 use Rattle.history.specs.declared.transaction.Done.{Done}
@@ -17,6 +17,10 @@ joined (batch ∷ batches) = batch ++ joined batches
 abbrev pub with_batch : List Batch → Batch → List Batch
 with_batch batches [] = batches
 with_batch batches (done ∷ dones) = batches ++ (done ∷ dones) ∷ []
+
+-- the list is the last one of these
+abbrev pub IsLast : List Batch → List (List Batch) → Type 0
+IsLast list lists = (before : List (List Batch)) × (lists ≡ before ++ list ∷ [])
 
 -- the table after all batches
 abbrev pub records_after : Table → List Batch → Table

@@ -1,10 +1,11 @@
-ghost use Rattle.std.specs.Prelude.{◌≡◌, ◌+◌, ◌++◌, ◌∷◌, ◌⊎◌, [], length, drop, IfOk, OnOk, OnErr};
+ghost use Rattle.std.specs.Prelude.{◌≡◌, ◌+◌, ◌++◌, ◌∷◌, ◌⊎◌, [], length, drop, Some, IfOk, OnOk, OnErr};
 ghost use mathlib.Core.List.{IsPrefix};
 ghost use Rattle.history.specs.Writes.{Table, all_written};
 ghost use Rattle.history.specs.Legal.{records, AreNumberedFrom};
 ghost use Rattle.std.specs.Global.{Vec};
+ghost use Rattle.left_right.specs.Sides.{view};
 ghost use Rattle.snapshot_readers.specs.Book.{word_of};
-ghost use Rattle.snapshot_readers.specs.Shown.{Leads};
+ghost use Rattle.snapshot_readers.specs.Shown.{Leads, book_known, lists_known};
 ghost use Rattle.snapshot_readers.specs.Batches.{joined, with_batch};
 ghost use Rattle.snapshot_readers.specs.Waiting.{IsWaiting};
 
@@ -33,6 +34,8 @@ pub struct Feed {
     ghost word_is: { word ≡ word_of fed.seen.book },
     ghost heard_is: { heard.seen.book ≡ fed.seen.book },
     ghost leads: { Leads writer.desk.shown.value (drop writer.behind writer.log.items) fed },
+    ghost knows: { book_known (view writer.desk.place) ≡ Some fed.seen.book },
+    ghost counted: { length (lists_known (view writer.desk.place)) ≡ writer.desk.shown.value.count },
 }
 
 /// All that was published when the receipt was given.
@@ -56,12 +59,21 @@ fn append_writes(writer: &mut Writer, dones: &[Done], alloc: Global) -> Result<(
 
 // Publishes all that is pending, which leads to the list, or nothing.
 fn publish<R: Wait>(mut writer: Writer, rt: &R, list: &Prefix) -> (Writer, Result<(), NoMemory>)
-    requires { Leads writer.desk.shown.value (drop writer.behind writer.log.items) list.now }
+    requires leads { Leads writer.desk.shown.value (drop writer.behind writer.log.items) list.now }
+    requires knows { book_known (view writer.desk.place) ≡ Some list.now.seen.book }
+    requires counted { length (lists_known (view writer.desk.place)) ≡ writer.desk.shown.value.count }
     ensures leads { Leads result.0.desk.shown.value (drop result.0.behind result.0.log.items) list.now }
+    ensures knows { book_known (view result.0.desk.place) ≡ Some list.now.seen.book }
+    ensures counted { length (lists_known (view result.0.desk.place)) ≡ result.0.desk.shown.value.count }
     ensures ok { OnOk result.1 (result.0.desk.shown.value.list ≡ list.now) }
     ensures err { OnErr result.1 (result.0.desk.shown.value ≡ writer.desk.shown.value) }
+    ensures once { OnOk result.1 (lists_known (view result.0.desk.place) ≡ lists_known (view writer.desk.place) ++ list.now.seen.log ∷ []) }
+    ensures none { OnErr result.1 (lists_known (view result.0.desk.place) ≡ lists_known (view writer.desk.place)) }
 {
-    let Ok(()) = writer.append(Change::Tell(list.again())) else {
+    let Some(count) = writer.published().count.checked_add(1) else {
+        return (writer, Err(NoMemory));
+    };
+    let Ok(()) = writer.append(Change::Tell(list.again(), count)) else {
         return (writer, Err(NoMemory));
     };
     let (writer, shown) = writer.publish_as::<Shows, R>(rt);
@@ -72,7 +84,7 @@ fn publish<R: Wait>(mut writer: Writer, rt: &R, list: &Prefix) -> (Writer, Resul
 }
 
 impl Feed {
-    ghost use Rattle.snapshot_readers.specs.Feeds.{published, fed, heard, fed_book, told, told_book, read, read_book};
+    ghost use Rattle.snapshot_readers.specs.Feeds.{published, fed, heard, fed_book, lists_published, told, told_book, read, read_book};
 
     /// How many transactions were fed, published or pending.
     pub fn fed(&self) -> u64
@@ -87,6 +99,7 @@ impl Feed {
         ensures ok { OnOk result.1 (fed result.0 ≡ with_batch (fed self) dones.now) }
         ensures err { OnErr result.1 (fed result.0 ≡ fed self) }
         ensures same { (published result.0 ≡ published self) × (heard result.0 ≡ heard self) × (fed_book result.0 ≡ fed_book self) }
+        ensures lists { lists_published result.0 ≡ lists_published self }
     {
         let Self {
             alloc,
@@ -120,6 +133,8 @@ impl Feed {
     fn show<R: Wait>(self, rt: &R) -> (Feed, Result<(), NoMemory>)
         ensures ok { OnOk result.1 (published result.0 ≡ fed self) }
         ensures err { OnErr result.1 (published result.0 ≡ published self) }
+        ensures once { OnOk result.1 (lists_published result.0 ≡ lists_published self ++ fed self ∷ []) }
+        ensures none { OnErr result.1 (lists_published result.0 ≡ lists_published self) }
         ensures same { (fed result.0 ≡ fed self) × (heard result.0 ≡ heard self) × (fed_book result.0 ≡ fed_book self) }
     {
         let Self {
@@ -146,6 +161,8 @@ impl Feed {
         ensures ok { IfOk result.1 (λ receipt. (told receipt ≡ with_batch (fed self) dones.now) × (told_book receipt ≡ fed_book self) × (fed result.0 ≡ told receipt) × (published result.0 ≡ told receipt)) }
         ensures heard { IfOk result.1 (λ receipt. IsPrefix (heard self) (told receipt)) }
         ensures err { OnErr result.1 ((published result.0 ≡ published self) × ((fed result.0 ≡ fed self) ⊎ (fed result.0 ≡ with_batch (fed self) dones.now))) }
+        ensures once { IfOk result.1 (λ receipt. lists_published result.0 ≡ lists_published self ++ told receipt ∷ []) }
+        ensures none { OnErr result.1 (lists_published result.0 ≡ lists_published self) }
         ensures same { (heard result.0 ≡ heard self) × (fed_book result.0 ≡ fed_book self) }
     {
         let (feed, taken) = self.take_in(rt, dones);
@@ -172,6 +189,8 @@ impl Feed {
         ensures ok { IfOk result (λ receipt. (told receipt ≡ with_batch (fed self.old) dones.now) × (told_book receipt ≡ fed_book self.old) × (fed self.new ≡ told receipt) × (published self.new ≡ told receipt)) }
         ensures heard { IfOk result (λ receipt. IsPrefix (heard self.old) (told receipt)) }
         ensures err { OnErr result ((published self.new ≡ published self.old) × ((fed self.new ≡ fed self.old) ⊎ (fed self.new ≡ with_batch (fed self.old) dones.now))) }
+        ensures once { IfOk result (λ receipt. lists_published self.new ≡ lists_published self.old ++ told receipt ∷ []) }
+        ensures none { OnErr result (lists_published self.new ≡ lists_published self.old) }
         ensures same { (heard self.new ≡ heard self.old) × (fed_book self.new ≡ fed_book self.old) }
     {
         replace_with(
@@ -186,6 +205,7 @@ impl Feed {
         requires { read_book reader.old ≡ fed_book self.old }
         ensures heard { IsPrefix (heard self.old) (heard self.new) × IsPrefix (read reader.old) (heard self.new) }
         ensures same { (published self.new ≡ published self.old) × (fed self.new ≡ fed self.old) × (fed_book self.new ≡ fed_book self.old) }
+        ensures lists { lists_published self.new ≡ lists_published self.old }
         ensures reader { reader.new ≡ reader.old }
     {
         self.heard = self.heard.longer(&reader.read);

@@ -1,8 +1,8 @@
-ghost use Rattle.std.specs.Prelude.{◌≡◌, [], length, IfOk, All, Some, None};
+ghost use Rattle.std.specs.Prelude.{◌≡◌, [], ◌∷◌, length, IfOk, All, Some, None};
 ghost use Rattle.left_right.specs.Sides.{view};
-ghost use Rattle.snapshot_readers.specs.Shown.{book_known, base_known};
+ghost use Rattle.snapshot_readers.specs.Shown.{book_known, base_known, lists_known};
 ghost use Rattle.history.specs.Rows.{table_of};
-ghost use Rattle.snapshot_readers.specs.Feeds.{published, fed, heard, fed_book, read, read_book, read_base, IsFresh};
+ghost use Rattle.snapshot_readers.specs.Feeds.{published, fed, heard, fed_book, lists_published, lists_read, read, read_book, read_base, IsFresh, HasReadNone};
 
 use crate::feed::{Feed, Writer};
 use crate::prefix::Prefix;
@@ -18,12 +18,13 @@ use std::sync::Wait;
 
 // What is shown at the start.
 fn first_copy(alloc: Global, base: &Tables, list: &Prefix) -> Result<Snapshot, NoMemory>
-    ensures { IfOk result (λ shown. (shown.records ≡ table_of base.now) × (shown.list ≡ list.now)) }
+    ensures { IfOk result (λ shown. (shown.records ≡ table_of base.now) × (shown.list ≡ list.now) × (shown.count ≡ 1)) }
 {
     let records = Records::of(base, alloc)?;
     Ok(Snapshot {
         records,
         list: list.again(),
+        count: 1,
     })
 }
 
@@ -47,6 +48,7 @@ fn new_reader<R: Wait>(rt: &R, writer: &mut Writer, list: &Prefix) -> Reader
     requires { book_known (view writer.old.desk.place) ≡ Some list.now.seen.book }
     ensures writer { (view writer.new.desk.place ≡ view writer.old.desk.place) × (writer.new.desk.shown ≡ writer.old.desk.shown) × (writer.new.log ≡ writer.old.log) × (writer.new.behind ≡ writer.old.behind) }
     ensures reader { (read result ≡ list.now.seen.log) × (read_book result ≡ list.now.seen.book) × (read_base result ≡ base_known (view writer.old.desk.place)) }
+    ensures lists { lists_read result ≡ lists_known (view writer.old.desk.place) }
 {
     let mut inner = new_place(rt, writer);
     inner.learn::<Takes>(writer.tell::<Both>());
@@ -66,6 +68,7 @@ pub fn open_readers<R: Wait>(
 ) -> Result<(Feed, Readers), NoMemory>
     ensures feed { IfOk result (λ made. (published made.0 ≡ []) × (fed made.0 ≡ []) × (heard made.0 ≡ [])) }
     ensures readers { IfOk result (λ made. (length made.1 ≡ readers) × All (IsFresh (fed_book made.0) (table_of base.now)) made.1) }
+    ensures lists { IfOk result (λ made. (lists_published made.0 ≡ [] ∷ []) × All HasReadNone made.1) }
 {
     let (word, list) = Prefix::open();
     let first = first_copy(alloc, base, &list)?;

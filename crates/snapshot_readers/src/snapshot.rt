@@ -8,20 +8,22 @@ use crossbeam_utils::rule::{Outcome, Protocol};
 use history::History;
 use left_right::Absorb;
 use logbook::Seen;
+use mars_base::Listed;
 use std::alloc::AllocError;
 
-/// The records after some first batches of the list, and these batches.
+/// The records after some first batches of the list, these batches, and how many lists were published up to this one.
 #[derive(Drop)]
 pub struct Snapshot {
     pub(crate) records: Records,
     pub(crate) list: Prefix,
+    pub(crate) count: u64,
 }
 
-/// What the feed does to a copy: it makes all writes of a batch, or it tells the list that the copy now stands for.
+/// What the feed does to a copy: it makes all writes of a batch, or it tells the list that the copy now stands for, and how many that makes.
 #[derive(Drop)]
 pub enum Change {
     Write(Vec<Write>),
-    Tell(Prefix),
+    Tell(Prefix, u64),
 }
 
 impl Absorb<Change> for Snapshot {
@@ -39,21 +41,23 @@ impl Absorb<Change> for Snapshot {
                 Ok(()) => Ok(()),
                 Err(_) => Err(AllocError),
             },
-            Change::Tell(list) => {
+            Change::Tell(list, count) => {
                 self.list = list.again();
+                self.count = *count;
                 Ok(())
             }
         }
     }
 }
 
-/// What a seat knows: the book of the list, and the records at its start. No value of it is made.
+/// What a seat knows: the book of the list, the records at its start, and the lists that were published. No value of it is made.
 pub struct Known {
     pub seen: Seen<History, u64, Law>,
     pub base: Records,
+    pub lists: Listed<Listed<History>>,
 }
 
-/// What is published is of the list that each seat knows, and its records are those after its list.
+/// What is published is of the list that each seat knows, its records are those after its list, and its list is the last one published.
 pub struct Standing;
 
 impl Protocol<Snapshot, Option<Known>> for Standing {
@@ -69,19 +73,18 @@ impl Protocol<Snapshot, Option<Known>> for Standing {
 pub(crate) struct Sees;
 
 impl Outcome<Snapshot, Option<Known>> for Sees {
-    ghost use Rattle.std.specs.Prelude.{◌≡◌};
-    ghost use Rattle.snapshot_readers.specs.Shown.{Tied};
+    ghost use Rattle.snapshot_readers.specs.Shown.{IsSeen};
 
-    ghost then = { λ v x y w. Tied v x × (w ≡ v) };
+    ghost then = { λ v x y w. IsSeen v x w };
 }
 
 // The writer shows more.
 pub(crate) struct Shows;
 
 impl Outcome<Snapshot, Option<Known>> for Shows {
-    ghost use Rattle.std.specs.Prelude.{◌≡◌};
+    ghost use Rattle.snapshot_readers.specs.Shown.{IsTold};
 
-    ghost then = { λ v x y w. w ≡ v };
+    ghost then = { λ v x y w. IsTold v y w };
 }
 
 // The writer comes to know what it shows.

@@ -3,20 +3,24 @@ use Rattle.std.proofs.lemmas.List.Elements.{All-push}
 use Rattle.std.specs.Prelude.{All}
 use Rattle.snapshot_readers.specs.declared.snapshot.Snapshot.{Snapshot}
 use Rattle.snapshot_readers.specs.declared.snapshot.Change.{Change}
-use Rattle.snapshot_readers.specs.Shown.{changed, base_known, list_of}
+use Rattle.snapshot_readers.specs.Shown.{changed, base_known, lists_known, list_of}
 use Rattle.history.specs.Rows.{table_of}
-use Rattle.snapshot_readers.specs.Feeds.{IsFresh}
+use Rattle.snapshot_readers.specs.Feeds.{IsFresh, HasReadNone}
 use Rattle.snapshot_readers.specs.declared.prefix.Prefix.{Prefix}
+use Rattle.snapshot_readers.specs.Batches.{Batch}
 use Rattle.snapshot_readers.proofs.Cases.{when_ok}
 use Rattle.snapshot_readers.proofs.Copies.{same_copies}
-use Rattle.snapshot_readers.proofs.Standing.{claims_same}
+use Rattle.snapshot_readers.proofs.Standing.{claims_same, first_stands}
 use Rattle.snapshot_readers.proofs.opening.open_readers.Goals as goal
 
 pub new-requires-clause-alike : goal.new-requires-clause-alike
-new-requires-clause-alike g c = same_copies c.in_ok-first.first c.in_ok-second.second (table_of c.args.base.now) c.open-word.result.1 c.in_ok-first.ensures c.in_ok-second.ensures
+new-requires-clause-alike g c = same_copies c.in_ok-first.first c.in_ok-second.second (table_of c.args.base.now) c.open-word.result.1 1 c.in_ok-first.ensures c.in_ok-second.ensures
+
+pub new-requires-clause-rule : goal.new-requires-clause-rule
+new-requires-clause-rule g c = first_stands c.in_ok-first.first c.in_ok-first.ensures.2
 
 pub publish_as-writer-requires : goal.publish_as-writer-requires
-publish_as-writer-requires g c next is = claims_same _ _ c.in_ok-writer.writer.desk.shown.value next (ap list_of c.in_ok-writer.ensures.0 ∙ ap (λ (f : Prefix). f.seen.log) c.in_ok-first.ensures.1 ∙ c.open-word.ensures.1) (is ∙ ap (λ (waiting : List Change). fold changed c.in_ok-writer.writer.desk.shown.value waiting) c.in_ok-writer.ensures.1)
+publish_as-writer-requires g c next is = claims_same _ _ c.in_ok-writer.writer.desk.shown.value next (ap list_of c.in_ok-writer.ensures.0 ∙ ap (λ (f : Prefix). f.seen.log) c.in_ok-first.ensures.1 ∙ c.open-word.ensures.1) (ap (λ (s : Snapshot). s.count) c.in_ok-writer.ensures.0 ∙ c.in_ok-first.ensures.2) (is ∙ ap (λ (waiting : List Change). fold changed c.in_ok-writer.writer.desk.shown.value waiting) c.in_ok-writer.ensures.1)
 
 pub loop-preserved : goal.loop-preserved
 loop-preserved g c =
@@ -34,6 +38,8 @@ loop-preserved g c =
       count = ap length c.in-Ok-push.ensures.ok ∙ omega (arith, was.count, length-append c.loop.opened (made ∷ []));
       fresh = subst (All (IsFresh c.open-word.result.1.seen.book (table_of c.args.base.now))) (sym c.in-Ok-push.ensures.ok)
           (All-push (IsFresh c.open-word.result.1.seen.book (table_of c.args.base.now)) c.loop.opened made was.fresh (now.reader.0 ∙ c.open-word.ensures.1, now.reader.1, now.reader.2 ∙ ap base_known (was.knows ∙ claimed) ∙ ap (λ (s : Snapshot). s.records) same ∙ c.in_ok-first.ensures.0));
+      lists = subst (All HasReadNone) (sym c.in-Ok-push.ensures.ok) (All-push HasReadNone c.loop.opened made was.lists
+          (now.lists ∙ ap lists_known (was.knows ∙ claimed) ∙ ap (λ (l : List Batch). l ∷ []) (ap list_of same ∙ ap (λ (f : Prefix). f.seen.log) c.in_ok-first.ensures.1 ∙ c.open-word.ensures.1)));
     }
 
 pub returns-clause-readers : goal.returns-clause-readers
