@@ -1,4 +1,4 @@
-use Rattle.std.proofs.Common.{◌∙◌, ⊎_elim, inl, inr, ap, refl}
+use Rattle.std.proofs.Common.{◌≡◌, ◌∙◌, ⊎_elim, inl, inr, ap, refl, ◌++◌}
 use Rattle.history.specs.declared.call.Call.TheVariants.{Commit, Abort}
 use Rattle.transactions.specs.Told.{told_done, told_commit}
 use Rattle.transactions.specs.declared.work.Stop.TheVariants.{Refused}
@@ -140,3 +140,102 @@ returns-in-Err-clause-of_core g c told =
     core_before c.args.caller old mid new c.in-Err.stop (second.goes_on.limits ∙ first.goes_on.limits)
     (core_later c.args.caller old begun mid c.in-Err.stop first.goes_on.limits first.went (c.in-Err.ensures.of_core told))
     last.went
+
+-- what is refused as it begins leaves all as it was
+pub returns-in_err-begin-clause-goes_on : goal.returns-in_err-begin-clause-goes_on
+returns-in_err-begin-clause-goes_on g c told = (c.begin.ensures.stays told).goes_on
+
+pub returns-in_err-begin-clause-went : goal.returns-in_err-begin-clause-went
+returns-in_err-begin-clause-went g c told = (c.begin.ensures.stays told).went
+
+pub returns-in_err-begin-clause-others : goal.returns-in_err-begin-clause-others
+returns-in_err-begin-clause-others g c told = (c.begin.ensures.stays told).others
+
+pub returns-in_err-begin-clause-offers : goal.returns-in_err-begin-clause-offers
+returns-in_err-begin-clause-offers g c told = (c.begin.ensures.stays told).offers
+
+pub returns-in_err-begin-clause-grows : goal.returns-in_err-begin-clause-grows
+returns-in_err-begin-clause-grows g c told = let s = c.begin.ensures.stays told in inl (λ i. s.history i ++ s.doubt i)
+
+-- nor does the work leave anything if it is given up
+pub returns-in-Err-clause-goes_on : goal.returns-in-Err-clause-goes_on
+returns-in-Err-clause-goes_on g c told =
+    let first = c.begin.ensures.stays told in
+    let second = c.make.ensures.stays told in
+    let last = c.abort-in-Err.ensures.stays told in
+    c.prefix_law.ensures.on c.args.core.now c.make.new.core c.abort-in-Err.new.core
+    (c.prefix_law.ensures.on c.args.core.now c.begin.new.core c.make.new.core first.goes_on second.goes_on) last.goes_on
+
+pub returns-in-Err-clause-refused : goal.returns-in-Err-clause-refused
+returns-in-Err-clause-refused g c told =
+    let first = c.begin.ensures.stays told in
+    let second = c.make.ensures.stays told in
+    let last = c.abort-in-Err.ensures.stays told in
+    last.history ∙ second.history ∙ first.history
+
+pub returns-in-Err-clause-others : goal.returns-in-Err-clause-others
+returns-in-Err-clause-others g c told =
+    let first = c.begin.ensures.stays told in
+    let second = c.make.ensures.stays told in
+    let last = c.abort-in-Err.ensures.stays told in
+    λ other apart. last.others other apart ∙ second.others other apart ∙ first.others other apart
+
+pub returns-in-Err-clause-offers : goal.returns-in-Err-clause-offers
+returns-in-Err-clause-offers g c told =
+    let first = c.begin.ensures.stays told in
+    let second = c.make.ensures.stays told in
+    let last = c.abort-in-Err.ensures.stays told in
+    last.offers ∙ second.offers ∙ first.offers
+
+pub returns-in-Err-clause-doubt : goal.returns-in-Err-clause-doubt
+returns-in-Err-clause-doubt g c told =
+    let first = c.begin.ensures.stays told in
+    let second = c.make.ensures.stays told in
+    let last = c.abort-in-Err.ensures.stays told in
+    inl (last.doubt ∙ second.doubt ∙ first.doubt)
+
+pub returns-in-Err-clause-grows : goal.returns-in-Err-clause-grows
+returns-in-Err-clause-grows g c told =
+    let first = c.begin.ensures.stays told in
+    let second = c.make.ensures.stays told in
+    let last = c.abort-in-Err.ensures.stays told in
+    let history = last.history ∙ second.history ∙ first.history in
+    let doubt = last.doubt ∙ second.doubt ∙ first.doubt in
+    inl (λ i. history i ++ doubt i)
+
+-- a commit that is refused, and one that is made
+pub returns-in-Err-commit-clause-goes_on : goal.returns-in-Err-commit-clause-goes_on
+returns-in-Err-commit-clause-goes_on g c told =
+    let first = c.begin.ensures.stays told in
+    let second = c.make.ensures.stays told in
+    let last = c.abort.ensures.stays told in
+    c.prefix_law.ensures.on c.args.core.now c.commit.new.core c.abort.new.core
+    (c.prefix_law.ensures.on c.args.core.now c.make.new.core c.commit.new.core
+    (c.prefix_law.ensures.on c.args.core.now c.begin.new.core c.make.new.core first.goes_on second.goes_on) (c.commit.ensures.goes_on told)) last.goes_on
+
+pub returns-in-Err-commit-clause-refused : goal.returns-in-Err-commit-clause-refused
+returns-in-Err-commit-clause-refused g c told =
+    let first = c.begin.ensures.stays told in
+    let second = c.make.ensures.stays told in
+    let last = c.abort.ensures.stays told in
+    last.history ∙ c.in-Err-commit.ensures.err told ∙ second.history ∙ first.history
+
+pub returns-in-Err-commit-clause-offers : goal.returns-in-Err-commit-clause-offers
+returns-in-Err-commit-clause-offers g c told =
+    let first = c.begin.ensures.stays told in
+    let second = c.make.ensures.stays told in
+    let last = c.abort.ensures.stays told in
+    last.offers ∙ c.commit.ensures.offers told ∙ second.offers ∙ first.offers
+
+pub returns-in-Ok-commit-clause-goes_on : goal.returns-in-Ok-commit-clause-goes_on
+returns-in-Ok-commit-clause-goes_on g c told =
+    let first = c.begin.ensures.stays told in
+    let second = c.make.ensures.stays told in
+    c.prefix_law.ensures.on c.args.core.now c.make.new.core c.commit.new.core
+    (c.prefix_law.ensures.on c.args.core.now c.begin.new.core c.make.new.core first.goes_on second.goes_on) (c.commit.ensures.goes_on told)
+
+pub returns-in-Ok-commit-clause-offers : goal.returns-in-Ok-commit-clause-offers
+returns-in-Ok-commit-clause-offers g c told =
+    let first = c.begin.ensures.stays told in
+    let second = c.make.ensures.stays told in
+    c.commit.ensures.offers told ∙ second.offers ∙ first.offers
