@@ -11,7 +11,7 @@ use Rattle.array_shape.specs.Places as array
 use Rattle.array_shape.specs.Logged.{Part, applied, AllFit}
 use Rattle.record_slots.specs.Super.{SaysSuper, part_bytes}
 use Rattle.record_slots.specs.declared.super_page.Super.{Super}
-use Rattle.record_slots.specs.Places.{page_bytes, page_count, first_slot_page, slot_at, slot_of, next_slot, next_page, free_pages, used_pages, slot_due, page_due, tables_of, IsSuper}
+use Rattle.record_slots.specs.Places.{page_bytes, page_count, slot_at, slot_of, next_slot, next_page, free_pages, used_pages, slot_due, page_due, tables_of, IsSuper}
 use Rattle.page_store.specs.Index.{IsTable, index_pages_of, Grows, Rests}
 use Rattle.page_store.specs.Pairs.{Pair, inserted}
 use Rattle.page_store.specs.Shown.{address}
@@ -27,7 +27,6 @@ use Rattle.index_pages.proofs.PageFacts.{length-page_pairs}
 use Rattle.index_pages.proofs.Puts.{AllApart, Stand, applied_long, applied_away, applied_stand}
 use Rattle.index_pages.proofs.Ranges.{Apart}
 use Rattle.index_pages.proofs.Rising.{length-inserted}
-use Rattle.index_pages.proofs.Tabled.{IsWhole, whole_counts}
 use Rattle.index_pages.proofs.Taken.{HasTaken, IsAfter, taken_none, taken_one, page_is_due, due_free, due_next, dues_differ, is_after, after_due, after_slots, after_pages, after_free, taken_writable}
 use Rattle.index_pages.proofs.Writing.{small_take, small_inserted, written_kind, written_level, written_link, written_pairs, length-written_page}
 use Rattle.btree_laws.specs.Changes.{IsHalf, IsCut, middle, with_entry, SplitsChild}
@@ -42,11 +41,12 @@ use Rattle.btree_laws.proofs.Splitting.{halves, sound_tree_splits, under_self, c
 use Rattle.btree_laws.proofs.Ways.{Way, way_of, way_under, child_some, page_for_last}
 use Rattle.btree_pages.specs.OnWay.{IsOnWay}
 use Rattle.btree_pages.specs.Writes.{IsRead, cutting_parts}
-use Rattle.btree_pages.specs.Index.{tree, tree_of, AreSoundTrees, half_for, half_pairs, actions_below}
-use Rattle.btree_pages.specs.Trees.{whole_of, table_sound}
+use Rattle.btree_pages.specs.Index.{tree, AreSoundTrees, half_for, half_pairs, actions_below}
+use Rattle.btree_pages.specs.Trees.{table_sound}
 use Rattle.btree_pages.proofs.Actions.{half_actions}
 use Rattle.btree_pages.proofs.Descending.{Child, child_step}
 use Rattle.btree_pages.proofs.Entries.{with_inserted, entry_child}
+use Rattle.btree_pages.proofs.LaidOut.{LaidOut, laid_out, page_at}
 use Rattle.btree_pages.proofs.Others.{due_apart, free_apart, tables_apart, one_changed, others_untouched}
 
 pub small_at : (n : ℕ) (ps : List Pair) → n < length ps → AreSmall ps → key_at ps n < 2 ^ 64
@@ -65,41 +65,23 @@ module _ (shape : Shape) (old : List ℕ) (half : ℕ) (long : length old ≡ da
     (sound : AreSoundTrees old) (table : IsTable old root.table root.page) (says : SaysSuper (page_bytes old 0) front) (takes : TakesPage old front taken after)
     (way : IsOnWay root old key d parent (suc level) entries) (page_is : page ≡ child_for entries key) (pairs_are : pairs ≡ page_pairs old page)
     (full : length pairs ≡ 30) (room : length entries < 30) (left : used_pages old < index_pages_of shape) where
-  size : length old ≡ 512 * (half + half)
-  size = omega (arith, long, all)
-
-  count : page_count old ≡ half + half
-  count = omega (arith, size)
-
-  first : first_slot_page old ≡ half
-  first = omega (arith, count)
-
-  whole : IsWhole 1 tree_of old
-  whole = whole_of old sound
-
-  root_sound : IsSoundTree root old
-  root_sound = table_sound old root sound table
-
-  given_most : next_page old ≤ half
-  given_most = omega (arith, whole.front.pages, first)
-
-  free_few : free_pages old + 2 ≤ next_page old
-  free_few = (whole_counts 1 tree_of old whole).free_pages_few
+  laid : LaidOut root old half
+  laid = laid_out shape old half long all root sound table
 
   took_none : HasTaken old 0 front
-  took_none = taken_none old front says whole.pages
+  took_none = taken_none old front says laid.whole.pages
 
   due : taken ≡ page_due old 0
-  due = takes.due ∙ page_is_due old 0 front whole.pages took_none
+  due = takes.due ∙ page_is_due old 0 front laid.whole.pages took_none
 
   took : HasTaken old 1 after
-  took = subst (λ (f : Super). HasTaken old 1 f) (sym takes.after_is) (taken_one old 0 front whole.pages took_none)
+  took = subst (λ (f : Super). HasTaken old 1 f) (sym takes.after_is) (taken_one old 0 front laid.whole.pages took_none)
 
   -- the page that is taken: it is a given page that is free, or the next
   taken_in : (2 ≤ taken) × (taken < half) × (taken < next_page old + (1 - free_pages old))
   taken_in = elim (cases_lt 0 (free_pages old)) [
-    | inl some ↦ let f = due_free old whole.pages 0 some in (omega (arith, due, f.1), omega (arith, due, f.2, given_most), omega (arith, due, f.2))
-    | inr none ↦ let f = due_next old whole.pages 0 (omega (arith, none)) in (omega (arith, due, f, whole.front.some_pages), omega (arith, due, f, none, left, half_is), omega (arith, due, f, none))
+    | inl some ↦ let f = due_free old laid.whole.pages 0 some in (omega (arith, due, f.1), omega (arith, due, f.2, laid.given_most), omega (arith, due, f.2))
+    | inr none ↦ let f = due_next old laid.whole.pages 0 (omega (arith, none)) in (omega (arith, due, f, laid.whole.front.some_pages), omega (arith, due, f, none, left, half_is), omega (arith, due, f, none))
   ]
 
   lower : List ℕ
@@ -143,7 +125,7 @@ module _ (shape : Shape) (old : List ℕ) (half : ℕ) (long : length old ≡ da
   len4 = length-part_bytes after after_long
 
   root_tree : IsTree root (above d (suc level)) old root.page 0 key_end
-  root_tree = subst (λ (n : ℕ). IsTree root n old root.page 0 key_end) way.level_is root_sound.2
+  root_tree = subst (λ (n : ℕ). IsTree root n old root.page 0 key_end) way.level_is laid.root_sound.2
 
   parent_way : Way root old (suc level) parent key 0 key_end
   parent_way = subst (λ (x : ℕ). Way root old (suc level) x key 0 key_end) (sym way.page_is) (way_of root d (suc level) old key root.page 0 key_end root_tree (omega arith) (omega (arith, fits)))
@@ -166,14 +148,14 @@ module _ (shape : Shape) (old : List ℕ) (half : ℕ) (long : length old ≡ da
       (way_under root d (suc level) old key root.page 0 key_end page root_tree (omega arith) (omega (arith, fits)) (subst (λ (x : ℕ). IsUnder (suc level) old page x) way.page_is here))
 
   own_parent : (1 ≤ parent) × (parent < next_page old)
-  own_parent = under_own root (level_of old root.page) old parent root.page 0 key_end root_sound.0 root_sound.2 parent_under
+  own_parent = under_own root (level_of old root.page) old parent root.page 0 key_end laid.root_sound.0 laid.root_sound.2 parent_under
 
   own_page : (1 ≤ page) × (page < next_page old)
-  own_page = under_own root (level_of old root.page) old page root.page 0 key_end root_sound.0 root_sound.2 page_under
+  own_page = under_own root (level_of old root.page) old page root.page 0 key_end laid.root_sound.0 laid.root_sound.2 page_under
 
   -- no page of the tree is taken
   fresh : (x : ℕ) → IsPageOfTree old root.page x → x ≢ taken
-  fresh x u same = due_apart old root x 0 whole.pages root_sound u (same ∙ due)
+  fresh x u same = due_apart old root x 0 laid.whole.pages laid.root_sound u (same ∙ due)
 
   level_parent : level_of old parent ≡ suc level
   level_parent = tree_level root (suc level) old parent parent_way.from parent_way.to parent_way.tree
@@ -201,7 +183,7 @@ module _ (shape : Shape) (old : List ℕ) (half : ℕ) (long : length old ≡ da
 
   fit : AllFit (length old) parts
   unfolding parts lower upper named part
-  fit = (omega (arith, len1, size, own_page, given_most), (omega (arith, len2, size, taken_in), (omega (arith, len3, size, own_parent, given_most), (omega (arith, len4, size, taken_in), tt))))
+  fit = (omega (arith, len1, laid.size, own_page, laid.given_most), (omega (arith, len2, laid.size, taken_in), (omega (arith, len3, laid.size, own_parent, laid.given_most), (omega (arith, len4, laid.size, taken_in), tt))))
 
   apart_pages : (x y n m : ℕ) → n ≡ 512 → m ≡ 512 → x ≢ y → Apart (address x 0) n (address y 0) m
   apart_pages x y n m is is' ne = elim (cases_lt x y) [ inl below ↦ inl (omega (arith, is)) | inr behind ↦ inr (omega (arith, is', ne)) ]
@@ -227,27 +209,23 @@ module _ (shape : Shape) (old : List ℕ) (half : ℕ) (long : length old ≡ da
   cut_long = applied_long parts old fit
 
   cut_count : page_count cut ≡ half + half
-  cut_count = omega (arith, cut_long, size)
+  cut_count = omega (arith, cut_long, laid.size)
 
   stand : Stand parts cut
   unfolding cut parts
   stand = applied_stand parts old fit apart
 
-  page_at : (x : ℕ) (b : List ℕ) → length b ≡ 512 → range cut (address x 0) (length b) ≡ b → page_bytes cut x ≡ b
-  unfolding page_bytes
-  page_at x b is e = ap (λ (n : ℕ). range cut n 512) (let z : 512 * x ≡ address x 0 = omega arith in z) ∙ ap (λ (n : ℕ). range cut (address x 0) n) (sym is) ∙ e
-
   lower_new : page_bytes cut page ≡ lower
   unfolding parts lower
-  lower_new = page_at page lower len1 stand.0
+  lower_new = page_at cut page lower len1 stand.0
 
   upper_new : page_bytes cut taken ≡ upper
   unfolding parts upper
-  upper_new = page_at taken upper len2 stand.1.0
+  upper_new = page_at cut taken upper len2 stand.1.0
 
   named_new : page_bytes cut parent ≡ named
   unfolding parts named
-  named_new = page_at parent named len3 stand.1.1.0
+  named_new = page_at cut parent named len3 stand.1.1.0
 
   part_new : range cut 8 280 ≡ part
   unfolding parts part
@@ -271,9 +249,9 @@ module _ (shape : Shape) (old : List ℕ) (half : ℕ) (long : length old ≡ da
   unfolding slot_of cut
   cut_slots j =
       let place : slot_at cut j ≡ 512 * half + 64 * j = omega (arith, cut_count) in
-      let place' : slot_at old j ≡ 512 * half + 64 * j = omega (arith, count) in
+      let place' : slot_at old j ≡ 512 * half + 64 * j = omega (arith, laid.count) in
       ap (λ (x : ℕ). range cut x 64) place
-      ∙ away (512 * half + 64 * j) 64 (inr (omega (arith, len1, own_page, given_most))) (inr (omega (arith, len2, taken_in))) (inr (omega (arith, len3, own_parent, given_most))) (inr (omega (arith, len4, taken_in)))
+      ∙ away (512 * half + 64 * j) 64 (inr (omega (arith, len1, own_page, laid.given_most))) (inr (omega (arith, len2, taken_in))) (inr (omega (arith, len3, own_parent, laid.given_most))) (inr (omega (arith, len4, taken_in)))
       ∙ ap (λ (x : ℕ). range old x 64) (sym place')
 
   -- what the super page says then
@@ -281,7 +259,7 @@ module _ (shape : Shape) (old : List ℕ) (half : ℕ) (long : length old ≡ da
   after_next = took.page_next
 
   after_most : after.next_page ≤ half
-  after_most = elim (cases_lt 0 (free_pages old)) [ inl some ↦ omega (arith, after_next, some, given_most) | inr none ↦ omega (arith, after_next, none, left, half_is) ]
+  after_most = elim (cases_lt 0 (free_pages old)) [ inl some ↦ omega (arith, after_next, some, laid.given_most) | inr none ↦ omega (arith, after_next, none, left, half_is) ]
 
   same_version : after.version ≡ front.version
   same_version = took.version_is ∙ sym says.version
@@ -290,26 +268,26 @@ module _ (shape : Shape) (old : List ℕ) (half : ℕ) (long : length old ≡ da
   same_form = took.form_is ∙ sym says.form
 
   slots_few : next_slot old ≤ 8 * half
-  slots_few = omega (arith, whole.front.slots, count)
+  slots_few = omega (arith, laid.whole.front.slots, laid.count)
 
   says_now : SaysSuper (page_bytes cut 0) after
   unfolding part
   says_now =
       super_written old cut front after zero_new part_new says same_version same_form
-      (taken_writable old 1 after whole.slots whole.pages took after_long (omega (arith, slots_few, few)) whole.front.some_pages (omega (arith, given_most, few)))
+      (taken_writable old 1 after laid.whole.slots laid.whole.pages took after_long (omega (arith, slots_few, few)) laid.whole.front.some_pages (omega (arith, laid.given_most, few)))
 
   front_now : IsSuper 1 cut × (tables_of cut ≡ tables_of old)
   front_now = super_kept 1 old cut front after half cut_count says says_now same_version same_form (took.entries_are ∙ sym says.entries)
-      (omega (arith, took.slot_next, slots_few)) (omega (arith, says.next_page, after_next)) after_most whole.front
+      (omega (arith, took.slot_next, slots_few)) (omega (arith, says.next_page, after_next)) after_most laid.whole.front
 
   lists_now : IsAfter old cut 1
   unfolding cut
-  lists_now = is_after old cut 1 after whole.slots whole.pages took says_now
+  lists_now = is_after old cut 1 after laid.whole.slots laid.whole.pages took says_now
       (λ i from less.
-      let f = due_free old whole.pages i less in
-      cut_others (page_due old i) (omega (arith, f.1)) (λ e. free_apart old root (page_due old i) root_sound (subst (λ (x : ℕ). IsPageOfTree old root.page x) (sym e) parent_under) f.3)
-      (λ e. free_apart old root (page_due old i) root_sound (subst (λ (x : ℕ). IsPageOfTree old root.page x) (sym e) page_under) f.3)
-      (λ e. dues_differ old whole.pages 0 i (omega (arith, from)) (sym due ∙ sym e)))
+      let f = due_free old laid.whole.pages i less in
+      cut_others (page_due old i) (omega (arith, f.1)) (λ e. free_apart old root (page_due old i) laid.root_sound (subst (λ (x : ℕ). IsPageOfTree old root.page x) (sym e) parent_under) f.3)
+      (λ e. free_apart old root (page_due old i) laid.root_sound (subst (λ (x : ℕ). IsPageOfTree old root.page x) (sym e) page_under) f.3)
+      (λ e. dues_differ old laid.whole.pages 0 i (omega (arith, from)) (sym due ∙ sym e)))
       (λ j free. cut_slots j)
 
   keeps : Keeps old cut
@@ -344,7 +322,7 @@ module _ (shape : Shape) (old : List ℕ) (half : ℕ) (long : length old ≡ da
   -- the other pages of the tree
   tree_others : (x : ℕ) → IsPageOfTree old root.page x → x ≢ parent → x ≢ page → page_bytes cut x ≡ page_bytes old x
   tree_others x u no_parent no_page =
-      let own = under_own root (level_of old root.page) old x root.page 0 key_end root_sound.0 root_sound.2 u in
+      let own = under_own root (level_of old root.page) old x root.page 0 key_end laid.root_sound.0 laid.root_sound.2 u in
       cut_others x own.0 no_parent no_page (fresh x u)
 
   under_page : (x : ℕ) → IsUnder level old x page → IsPageOfTree old root.page x
@@ -398,10 +376,10 @@ module _ (shape : Shape) (old : List ℕ) (half : ℕ) (long : length old ≡ da
 
   -- the tree is sound and has the same pairs, and all its pages
   cut_tree : IsSoundTree root cut × (pairs_of_tree cut root.page ≡ pairs_of_tree old root.page) × (level_of cut root.page ≡ level_of old root.page)
-  cut_tree = sound_tree_splits root old cut d level key taken root_sound keeps (omega (arith, fits)) way.level_is splits_there others_there
+  cut_tree = sound_tree_splits root old cut d level key taken laid.root_sound keeps (omega (arith, fits)) way.level_is splits_there others_there
 
   stays : StaysSplit root old cut d key taken
-  stays = tree_stays_split root old cut d level key taken root_sound keeps (omega (arith, fits)) way.level_is splits_there others_there
+  stays = tree_stays_split root old cut d level key taken laid.root_sound keeps (omega (arith, fits)) way.level_is splits_there others_there
 
   -- the pages of other trees are as they were
   tables_others : (two : Root) → IsTable old two.table two.page → two.page ≢ root.page → (x : ℕ) → IsPageOfTree old two.page x → page_bytes cut x ≡ page_bytes old x
@@ -411,7 +389,7 @@ module _ (shape : Shape) (old : List ℕ) (half : ℕ) (long : length old ≡ da
       cut_others x own.0
       (λ e. tables_apart old two root x sound is table differ u (subst (λ (y : ℕ). IsPageOfTree old root.page y) (sym e) parent_under))
       (λ e. tables_apart old two root x sound is table differ u (subst (λ (y : ℕ). IsPageOfTree old root.page y) (sym e) page_under))
-      (λ e. due_apart old two x 0 whole.pages t u (e ∙ due))
+      (λ e. due_apart old two x 0 laid.whole.pages t u (e ∙ due))
 
   pub cut_sound : AreSoundTrees (applied (cutting_parts after page level pairs taken parent entries) old)
   unfolding cut
@@ -450,7 +428,7 @@ module _ (shape : Shape) (old : List ℕ) (half : ℕ) (long : length old ≡ da
       next_is : (x : ℕ) → next_page old ≤ x → x < next_page cut → taken ≡ x
       next_is x from to =
           let none : free_pages old ≤ 0 = omega (arith, lists_now.pages_next, from, to) in
-          let f = due_next old whole.pages 0 none in
+          let f = due_next old laid.whole.pages 0 none in
           omega (arith, due, f, lists_now.pages_next, from, to)
 
   pub cut_after : IsAfter old (applied (cutting_parts after page level pairs taken parent entries) old) 1
@@ -472,7 +450,7 @@ module _ (shape : Shape) (old : List ℕ) (half : ℕ) (long : length old ≡ da
   -- one page less is left
   pub cut_used : used_pages (applied (cutting_parts after page level pairs taken parent entries) old) ≡ used_pages old + 1
   unfolding cut
-  cut_used = after_pages old cut 1 lists_now (omega (arith, free_few))
+  cut_used = after_pages old cut 1 lists_now (omega (arith, laid.free_few))
 
   -- the root keeps its level
   pub cut_level : level_of (applied (cutting_parts after page level pairs taken parent entries) old) root.page ≡ level_of old root.page

@@ -10,7 +10,7 @@ use Rattle.array_shape.specs.Places as array
 use Rattle.array_shape.specs.Logged.{Part, applied, AllFit}
 use Rattle.record_slots.specs.Super.{SaysSuper, part_bytes}
 use Rattle.record_slots.specs.declared.super_page.Super.{Super}
-use Rattle.record_slots.specs.Places.{page_bytes, page_count, first_slot_page, slot_at, slot_of, next_slot, next_page, free_pages, used_pages, slot_due, page_due, tables_of, IsSuper}
+use Rattle.record_slots.specs.Places.{page_bytes, page_count, slot_at, slot_of, next_slot, next_page, free_pages, used_pages, slot_due, page_due, tables_of, IsSuper}
 use Rattle.page_store.specs.Index.{IsTable, index_pages_of, Grows, Rests}
 use Rattle.page_store.specs.Pairs.{Pair}
 use Rattle.page_store.specs.Shown.{address}
@@ -24,7 +24,6 @@ use Rattle.index_pages.proofs.Fronts.{super_written, super_kept, version_kept}
 use Rattle.index_pages.proofs.Carrying.{carries_on}
 use Rattle.index_pages.proofs.Puts.{AllApart, Stand, applied_long, applied_away, applied_stand}
 use Rattle.index_pages.proofs.Ranges.{Apart}
-use Rattle.index_pages.proofs.Tabled.{IsWhole, whole_counts}
 use Rattle.index_pages.proofs.Taken.{HasTaken, IsAfter, taken_none, taken_one, page_is_due, due_free, due_next, dues_differ, is_after, after_due, after_slots, after_pages, after_free, taken_writable}
 use Rattle.index_pages.proofs.Writing.{small_take, written_kind, written_level, written_link, written_pairs, length-written_page}
 use Rattle.btree_laws.specs.Changes.{IsHalf, IsCut, middle, SplitsRoot}
@@ -36,9 +35,10 @@ use Rattle.btree_laws.specs.declared.root.Root.{Root}
 use Rattle.btree_laws.proofs.Belonging.{StaysGrown, tree_stays_grown}
 use Rattle.btree_laws.proofs.Splitting.{sound_tree_grows, under_self}
 use Rattle.btree_pages.specs.Writes.{IsRead, growing_parts}
-use Rattle.btree_pages.specs.Index.{tree, tree_of, AreSoundTrees, half_for, half_pairs, actions_below}
-use Rattle.btree_pages.specs.Trees.{whole_of, table_sound}
+use Rattle.btree_pages.specs.Index.{tree, AreSoundTrees, half_for, half_pairs, actions_below}
+use Rattle.btree_pages.specs.Trees.{table_sound}
 use Rattle.btree_pages.proofs.Actions.{half_actions}
+use Rattle.btree_pages.proofs.LaidOut.{LaidOut, laid_out, page_at}
 use Rattle.btree_pages.proofs.Others.{due_apart, free_apart, tables_apart, one_changed, others_untouched}
 use Rattle.btree_pages.proofs.CutData.{small_at, tree_kind}
 
@@ -47,48 +47,30 @@ module _ (shape : Shape) (old : List ℕ) (half : ℕ) (long : length old ≡ da
     (read : IsRead shape root.page level pairs) (sound : AreSoundTrees old) (table : IsTable old root.table root.page) (says : SaysSuper (page_bytes old 0) front)
     (one : TakesPage old front left mid) (two : TakesPage old mid right after)
     (level_is : level_of old root.page ≡ level) (pairs_are : pairs ≡ page_pairs old root.page) (full : length pairs ≡ 30) (less : level < 7) (enough : used_pages old + 1 < index_pages_of shape) where
-  size : length old ≡ 512 * (half + half)
-  size = omega (arith, long, all)
-
-  count : page_count old ≡ half + half
-  count = omega (arith, size)
-
-  first : first_slot_page old ≡ half
-  first = omega (arith, count)
-
-  whole : IsWhole 1 tree_of old
-  whole = whole_of old sound
-
-  root_sound : IsSoundTree root old
-  root_sound = table_sound old root sound table
-
-  given_most : next_page old ≤ half
-  given_most = omega (arith, whole.front.pages, first)
-
-  free_few : free_pages old + 2 ≤ next_page old
-  free_few = (whole_counts 1 tree_of old whole).free_pages_few
+  laid : LaidOut root old half
+  laid = laid_out shape old half long all root sound table
 
   took_none : HasTaken old 0 front
-  took_none = taken_none old front says whole.pages
+  took_none = taken_none old front says laid.whole.pages
 
   left_due : left ≡ page_due old 0
-  left_due = one.due ∙ page_is_due old 0 front whole.pages took_none
+  left_due = one.due ∙ page_is_due old 0 front laid.whole.pages took_none
 
   took_one : HasTaken old 1 mid
-  took_one = subst (λ (f : Super). HasTaken old 1 f) (sym one.after_is) (taken_one old 0 front whole.pages took_none)
+  took_one = subst (λ (f : Super). HasTaken old 1 f) (sym one.after_is) (taken_one old 0 front laid.whole.pages took_none)
 
   right_due : right ≡ page_due old 1
-  right_due = two.due ∙ page_is_due old 1 mid whole.pages took_one
+  right_due = two.due ∙ page_is_due old 1 mid laid.whole.pages took_one
 
   took : HasTaken old 2 after
-  took = subst (λ (f : Super). HasTaken old 2 f) (sym two.after_is) (taken_one old 1 mid whole.pages took_one)
+  took = subst (λ (f : Super). HasTaken old 2 f) (sym two.after_is) (taken_one old 1 mid laid.whole.pages took_one)
 
   -- a page that is taken: it is a given page that is free, or one of the next
   due_in : (i : ℕ) → i < 2 → (2 ≤ page_due old i) × (page_due old i < half) × (page_due old i < next_page old + (2 - free_pages old))
   due_in i lt = elim (cases_lt i (free_pages old)) [
-    | inl some ↦ let f = due_free old whole.pages i some in (f.1, omega (arith, f.2, given_most), omega (arith, f.2))
-    | inr none ↦ let f = due_next old whole.pages i (omega (arith, none)) in
-        (omega (arith, f, whole.front.some_pages), omega (arith, f, none, enough, half_is, lt, free_few), omega (arith, f, none, lt))
+    | inl some ↦ let f = due_free old laid.whole.pages i some in (f.1, omega (arith, f.2, laid.given_most), omega (arith, f.2))
+    | inr none ↦ let f = due_next old laid.whole.pages i (omega (arith, none)) in
+        (omega (arith, f, laid.whole.front.some_pages), omega (arith, f, none, enough, half_is, lt, laid.free_few), omega (arith, f, none, lt))
   ]
 
   left_in : (2 ≤ left) × (left < half) × (left < next_page old + (2 - free_pages old))
@@ -98,7 +80,7 @@ module _ (shape : Shape) (old : List ℕ) (half : ℕ) (long : length old ≡ da
   right_in = let h = due_in 1 (omega arith) in (omega (arith, right_due, h.0), omega (arith, right_due, h.1), omega (arith, right_due, h.2))
 
   differ : left ≢ right
-  differ same = dues_differ old whole.pages 0 1 (omega arith) (sym left_due ∙ same ∙ right_due)
+  differ same = dues_differ old laid.whole.pages 0 1 (omega arith) (sym left_due ∙ same ∙ right_due)
 
   lower : List ℕ
   lower = written_page level 0 (take 15 pairs)
@@ -141,20 +123,20 @@ module _ (shape : Shape) (old : List ℕ) (half : ℕ) (long : length old ≡ da
   len4 = length-part_bytes after after_long
 
   root_tree : IsTree root level old root.page 0 key_end
-  root_tree = subst (λ (n : ℕ). IsTree root n old root.page 0 key_end) level_is root_sound.2
+  root_tree = subst (λ (n : ℕ). IsTree root n old root.page 0 key_end) level_is laid.root_sound.2
 
   root_under : IsPageOfTree old root.page root.page
   root_under = under_self (level_of old root.page) old root.page
 
   root_in : (1 ≤ root.page) × (root.page < next_page old)
-  root_in = root_sound.0
+  root_in = laid.root_sound.0
 
   -- no page of the tree is taken
   not_left : (x : ℕ) → IsPageOfTree old root.page x → x ≢ left
-  not_left x u same = due_apart old root x 0 whole.pages root_sound u (same ∙ left_due)
+  not_left x u same = due_apart old root x 0 laid.whole.pages laid.root_sound u (same ∙ left_due)
 
   not_right : (x : ℕ) → IsPageOfTree old root.page x → x ≢ right
-  not_right x u same = due_apart old root x 1 whole.pages root_sound u (same ∙ right_due)
+  not_right x u same = due_apart old root x 1 laid.whole.pages laid.root_sound u (same ∙ right_due)
 
   parts : List Part
   parts = growing_parts after left right root.page level pairs
@@ -164,7 +146,7 @@ module _ (shape : Shape) (old : List ℕ) (half : ℕ) (long : length old ≡ da
 
   fit : AllFit (length old) parts
   unfolding parts lower upper named part
-  fit = (omega (arith, len1, size, left_in), (omega (arith, len2, size, right_in), (omega (arith, len3, size, root_in, given_most), (omega (arith, len4, size, right_in), tt))))
+  fit = (omega (arith, len1, laid.size, left_in), (omega (arith, len2, laid.size, right_in), (omega (arith, len3, laid.size, root_in, laid.given_most), (omega (arith, len4, laid.size, right_in), tt))))
 
   apart_pages : (x y n m : ℕ) → n ≡ 512 → m ≡ 512 → x ≢ y → Apart (address x 0) n (address y 0) m
   apart_pages x y n m is is' ne = elim (cases_lt x y) [ inl below ↦ inl (omega (arith, is)) | inr behind ↦ inr (omega (arith, is', ne)) ]
@@ -187,27 +169,23 @@ module _ (shape : Shape) (old : List ℕ) (half : ℕ) (long : length old ≡ da
   grown_long = applied_long parts old fit
 
   grown_count : page_count grown ≡ half + half
-  grown_count = omega (arith, grown_long, size)
+  grown_count = omega (arith, grown_long, laid.size)
 
   stand : Stand parts grown
   unfolding grown parts
   stand = applied_stand parts old fit apart
 
-  page_at : (x : ℕ) (b : List ℕ) → length b ≡ 512 → range grown (address x 0) (length b) ≡ b → page_bytes grown x ≡ b
-  unfolding page_bytes
-  page_at x b is e = ap (λ (n : ℕ). range grown n 512) (let z : 512 * x ≡ address x 0 = omega arith in z) ∙ ap (λ (n : ℕ). range grown (address x 0) n) (sym is) ∙ e
-
   lower_new : page_bytes grown left ≡ lower
   unfolding parts lower
-  lower_new = page_at left lower len1 stand.0
+  lower_new = page_at grown left lower len1 stand.0
 
   upper_new : page_bytes grown right ≡ upper
   unfolding parts upper
-  upper_new = page_at right upper len2 stand.1.0
+  upper_new = page_at grown right upper len2 stand.1.0
 
   named_new : page_bytes grown root.page ≡ named
   unfolding parts named
-  named_new = page_at root.page named len3 stand.1.1.0
+  named_new = page_at grown root.page named len3 stand.1.1.0
 
   part_new : range grown 8 280 ≡ part
   unfolding parts part
@@ -230,15 +208,15 @@ module _ (shape : Shape) (old : List ℕ) (half : ℕ) (long : length old ≡ da
   unfolding slot_of
   slots_same j =
       let place : slot_at grown j ≡ 512 * half + 64 * j = omega (arith, grown_count) in
-      let place' : slot_at old j ≡ 512 * half + 64 * j = omega (arith, count) in
+      let place' : slot_at old j ≡ 512 * half + 64 * j = omega (arith, laid.count) in
       ap (λ (x : ℕ). range grown x 64) place
-      ∙ away (512 * half + 64 * j) 64 (inr (omega (arith, len1, left_in))) (inr (omega (arith, len2, right_in))) (inr (omega (arith, len3, root_in, given_most))) (inr (omega (arith, len4, right_in)))
+      ∙ away (512 * half + 64 * j) 64 (inr (omega (arith, len1, left_in))) (inr (omega (arith, len2, right_in))) (inr (omega (arith, len3, root_in, laid.given_most))) (inr (omega (arith, len4, right_in)))
       ∙ ap (λ (x : ℕ). range old x 64) (sym place')
 
   after_most : after.next_page ≤ half
   after_most = elim (cases_lt 1 (free_pages old)) [
-    | inl some ↦ omega (arith, took.page_next, some, given_most)
-    | inr none ↦ omega (arith, took.page_next, none, enough, half_is, free_few, given_most)
+    | inl some ↦ omega (arith, took.page_next, some, laid.given_most)
+    | inr none ↦ omega (arith, took.page_next, none, enough, half_is, laid.free_few, laid.given_most)
   ]
 
   same_version : after.version ≡ front.version
@@ -248,25 +226,25 @@ module _ (shape : Shape) (old : List ℕ) (half : ℕ) (long : length old ≡ da
   same_form = took.form_is ∙ sym says.form
 
   slots_few : next_slot old ≤ 8 * half
-  slots_few = omega (arith, whole.front.slots, count)
+  slots_few = omega (arith, laid.whole.front.slots, laid.count)
 
   says_now : SaysSuper (page_bytes grown 0) after
   unfolding part
   says_now =
       super_written old grown front after zero_new part_new says same_version same_form
-      (taken_writable old 2 after whole.slots whole.pages took after_long (omega (arith, slots_few, few)) whole.front.some_pages (omega (arith, given_most, few)))
+      (taken_writable old 2 after laid.whole.slots laid.whole.pages took after_long (omega (arith, slots_few, few)) laid.whole.front.some_pages (omega (arith, laid.given_most, few)))
 
   front_now : IsSuper 1 grown × (tables_of grown ≡ tables_of old)
   front_now = super_kept 1 old grown front after half grown_count says says_now same_version same_form (took.entries_are ∙ sym says.entries)
-      (omega (arith, took.slot_next, slots_few)) (omega (arith, says.next_page, took.page_next)) after_most whole.front
+      (omega (arith, took.slot_next, slots_few)) (omega (arith, says.next_page, took.page_next)) after_most laid.whole.front
 
   lists_now : IsAfter old grown 2
-  lists_now = is_after old grown 2 after whole.slots whole.pages took says_now
+  lists_now = is_after old grown 2 after laid.whole.slots laid.whole.pages took says_now
       (λ i from less.
-      let f = due_free old whole.pages i less in
-      others (page_due old i) (omega (arith, f.1)) (λ e. free_apart old root (page_due old i) root_sound (subst (λ (x : ℕ). IsPageOfTree old root.page x) (sym e) root_under) f.3)
-      (λ e. dues_differ old whole.pages 0 i (omega (arith, from)) (sym left_due ∙ sym e))
-      (λ e. dues_differ old whole.pages 1 i (omega (arith, from)) (sym right_due ∙ sym e)))
+      let f = due_free old laid.whole.pages i less in
+      others (page_due old i) (omega (arith, f.1)) (λ e. free_apart old root (page_due old i) laid.root_sound (subst (λ (x : ℕ). IsPageOfTree old root.page x) (sym e) root_under) f.3)
+      (λ e. dues_differ old laid.whole.pages 0 i (omega (arith, from)) (sym left_due ∙ sym e))
+      (λ e. dues_differ old laid.whole.pages 1 i (omega (arith, from)) (sym right_due ∙ sym e)))
       (λ j free. slots_same j)
 
   keeps : Keeps old grown
@@ -327,14 +305,14 @@ module _ (shape : Shape) (old : List ℕ) (half : ℕ) (long : length old ≡ da
 
   tree_others : (x : ℕ) → IsPageOfTree old root.page x → x ≢ root.page → page_bytes grown x ≡ page_bytes old x
   tree_others x u ne =
-      let own = under_own root (level_of old root.page) old x root.page 0 key_end root_sound.0 root_sound.2 u in
+      let own = under_own root (level_of old root.page) old x root.page 0 key_end laid.root_sound.0 laid.root_sound.2 u in
       others x own.0 ne (not_left x u) (not_right x u)
 
   grown_tree : IsSoundTree root grown × (pairs_of_tree grown root.page ≡ pairs_of_tree old root.page)
-  grown_tree = sound_tree_grows root old grown left right root_sound keeps (omega (arith, level_is, less)) splits tree_others
+  grown_tree = sound_tree_grows root old grown left right laid.root_sound keeps (omega (arith, level_is, less)) splits tree_others
 
   stays : StaysGrown root old grown left right
-  stays = tree_stays_grown root old grown left right root_sound splits tree_others
+  stays = tree_stays_grown root old grown left right laid.root_sound splits tree_others
 
   -- the pages of other trees are as they were
   tables_others : (two : Root) → IsTable old two.table two.page → two.page ≢ root.page → (x : ℕ) → IsPageOfTree old two.page x → page_bytes grown x ≡ page_bytes old x
@@ -343,8 +321,8 @@ module _ (shape : Shape) (old : List ℕ) (half : ℕ) (long : length old ≡ da
       let own = under_own two (level_of old two.page) old x two.page 0 key_end t.0 t.2 u in
       others x own.0
       (λ e. tables_apart old two root x sound is table ne u (subst (λ (y : ℕ). IsPageOfTree old root.page y) (sym e) root_under))
-      (λ e. due_apart old two x 0 whole.pages t u (e ∙ left_due))
-      (λ e. due_apart old two x 1 whole.pages t u (e ∙ right_due))
+      (λ e. due_apart old two x 0 laid.whole.pages t u (e ∙ left_due))
+      (λ e. due_apart old two x 1 laid.whole.pages t u (e ∙ right_due))
 
   -- the root is one level up
   pub grown_level : level_of (applied (growing_parts after left right root.page level pairs) old) root.page ≡ suc level
@@ -373,7 +351,7 @@ module _ (shape : Shape) (old : List ℕ) (half : ℕ) (long : length old ≡ da
       free_pages_fall = omega (arith, lists_now.pages_free);
       named = λ x from to.
           let i : ℕ = x - next_page old + free_pages old in
-          let f = due_next old whole.pages (x - next_page old + free_pages old) (omega arith) in
+          let f = due_next old laid.whole.pages (x - next_page old + free_pages old) (omega arith) in
           due_named (x - next_page old + free_pages old) (omega (arith, lists_now.pages_next, from, to)) x (omega (arith, f, from));
       taken = λ x free. elim (after_free old grown 2 lists_now x free) [
         | inl still ↦ inl still
@@ -405,7 +383,7 @@ module _ (shape : Shape) (old : List ℕ) (half : ℕ) (long : length old ≡ da
   -- two pages less are left
   pub grown_used : used_pages (applied (growing_parts after left right root.page level pairs) old) ≡ used_pages old + 2
   unfolding grown
-  grown_used = after_pages old grown 2 lists_now (omega (arith, free_few))
+  grown_used = after_pages old grown 2 lists_now (omega (arith, laid.free_few))
 
   -- the half that has the key is the root's child for it, and has what is left to do
   pub grown_half : half_for (page_pairs old root.page) left right key ≡ page_for 1 (applied (growing_parts after left right root.page level pairs) old) root.page key

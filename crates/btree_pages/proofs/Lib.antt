@@ -6,6 +6,7 @@ pub mod Cutting
 pub mod Actions
 pub mod Entries
 pub mod Others
+mod LaidOut
 pub mod CutData
 pub mod AddData
 pub mod GrowData

@@ -40,16 +40,14 @@ tables_apart bytes one two x sound named named' differ u v =
     root_is : one.table ≡ two.table → one.page ≡ two.page
     root_is same = (let e : Some one.page ≡ Some two.page = sym named ∙ subst (λ (t : ℕ). IsTable bytes t two.page) (sym same) named' in cc)
 
--- One tree has changed: the data is sound with it, and the trees of all other tables are untouched.
+-- One tree has changed, and the trees of all other tables rest in their pages: the data is sound with it, and these are untouched.
 module _ (old new : List ℕ) (root : Root) (sound : AreSoundTrees old) (named : IsTable old root.table root.page) (front : IsSuper 1 new) (slots : FreeSlots new) (pages : FreePages new)
-    (tables : tables_of new ≡ tables_of old) (keeps : Keeps old new) (changed : IsSoundTree root new)
+    (tables : tables_of new ≡ tables_of old) (changed : IsSoundTree root new)
+    (rests : (other : Root) → IsTable old other.table other.page → other.page ≢ root.page
+    → IsSoundTree other new × (pairs_of_tree new other.page ≡ pairs_of_tree old other.page) × (level_of new other.page ≡ level_of old other.page))
     (kept : (other : Root) → IsTable old other.table other.page → other.page ≢ root.page → (x : ℕ) → IsPageOfTree old other.page x → page_bytes new x ≡ page_bytes old x) where
-  other_rests : (other : Root) → IsTable old other.table other.page → other.page ≢ root.page
-      → IsSoundTree other new × (pairs_of_tree new other.page ≡ pairs_of_tree old other.page) × (level_of new other.page ≡ level_of old other.page)
-  other_rests other is differ = sound_tree_rests other old new (table_sound old other sound is) keeps (kept other is differ)
-
-  pub one_changed : AreSoundTrees new
-  one_changed = whole_passes 1 tree_of new (record {
+  pub all_sound : AreSoundTrees new
+  all_sound = whole_passes 1 tree_of new (record {
     front = front;
     slots = slots;
     pages = pages;
@@ -59,13 +57,13 @@ module _ (old new : List ℕ) (root : Root) (sound : AreSoundTrees old) (named :
           | inl same ↦
               let one : table ≡ root.table = roots_apart 1 old table root.table root.page (whole_of old sound).front (subst (λ (p : ℕ). IsTable old table p) same was) named in
               subst (λ (p : ℕ). tree_of new p table None) (sym same) (subst (λ (t : ℕ). tree_of new root.page t None) (sym one) (sound_passes root new changed))
-          | inr differ ↦ sound_passes (record { page = page; table = table }) new (other_rests (record { page = page; table = table }) was differ).0
+          | inr differ ↦ sound_passes (record { page = page; table = table }) new (rests (record { page = page; table = table }) was differ).0
         ];
   })
 
-  pub others_untouched : (table other : ℕ) → IsTable old table other → other ≢ root.page → IsUntouched tree other old new
-  others_untouched table other is differ =
-      let r = other_rests (record { page = other; table = table }) is differ in
+  pub rest_untouched : (table other : ℕ) → IsTable old table other → other ≢ root.page → IsUntouched tree other old new
+  rest_untouched table other is differ =
+      let r = rests (record { page = other; table = table }) is differ in
       let t = table_sound old (record { page = other; table = table }) sound is in
       record {
         pairs = r.1;
@@ -75,3 +73,17 @@ module _ (old new : List ℕ) (root : Root) (sound : AreSoundTrees old) (named :
           kept (record { page = other; table = table }) is differ x u,
         );
       }
+
+-- They rest in their pages where all that they have given out is kept.
+module _ (old new : List ℕ) (root : Root) (sound : AreSoundTrees old) (named : IsTable old root.table root.page) (front : IsSuper 1 new) (slots : FreeSlots new) (pages : FreePages new)
+    (tables : tables_of new ≡ tables_of old) (keeps : Keeps old new) (changed : IsSoundTree root new)
+    (kept : (other : Root) → IsTable old other.table other.page → other.page ≢ root.page → (x : ℕ) → IsPageOfTree old other.page x → page_bytes new x ≡ page_bytes old x) where
+  other_rests : (other : Root) → IsTable old other.table other.page → other.page ≢ root.page
+      → IsSoundTree other new × (pairs_of_tree new other.page ≡ pairs_of_tree old other.page) × (level_of new other.page ≡ level_of old other.page)
+  other_rests other is differ = sound_tree_rests other old new (table_sound old other sound is) keeps (kept other is differ)
+
+  pub one_changed : AreSoundTrees new
+  one_changed = all_sound old new root sound named front slots pages tables changed other_rests kept
+
+  pub others_untouched : (table other : ℕ) → IsTable old table other → other ≢ root.page → IsUntouched tree other old new
+  others_untouched = rest_untouched old new root sound named front slots pages tables changed other_rests kept

@@ -13,23 +13,22 @@ use Rattle.page_store.specs.Removes.{FreesSlot, FreesPage, KeepsFreePages, Shrin
 use Rattle.index_pages.specs.Keys.{key_end}
 use Rattle.index_pages.specs.Page.{count_said, level_of}
 use Rattle.index_pages.proofs.Carrying.{carries_on}
-use Rattle.index_pages.proofs.Joining.{named_kept}
 use Rattle.index_pages.proofs.Rising.{found-above}
-use Rattle.index_pages.proofs.Tabled.{whole_passes, whole_counts, roots_apart}
+use Rattle.index_pages.proofs.Tabled.{whole_counts}
 use Rattle.index_pages.proofs.Taken.{FreeSlots, FreePages}
-use Rattle.btree_laws.proofs.Belonging.{tree_stays_same}
 use Rattle.index_pages.proofs.Freeing.{found_given}
 use Rattle.btree_laws.proofs.Moving.{sound_tree_moved}
 use Rattle.btree_laws.proofs.Staying.{StaysLast, last_seen, last_is, last_kept, leaf_page, parent_page}
 use Rattle.btree_laws.specs.Descent.{leaf_for}
 use Rattle.btree_laws.specs.Removals.{Lacks, parent_for, stays_last}
 use Rattle.btree_laws.specs.Resting.{sound_tree_given}
-use Rattle.btree_laws.specs.Sound.{IsSoundTree, sound_passes}
+use Rattle.btree_laws.specs.Sound.{IsSoundTree}
 use Rattle.btree_laws.specs.Tree.{pairs_of_tree, IsPageOfTree}
 use Rattle.btree_laws.specs.TreeFacts.{sound_tree_rises}
 use Rattle.btree_laws.specs.declared.root.Root.{Root}
-use Rattle.btree_pages.specs.Index.{tree, tree_of, tree_removal, AreSoundTrees}
-use Rattle.btree_pages.specs.Trees.{whole_of, table_sound}
+use Rattle.btree_pages.specs.Index.{tree, tree_removal, AreSoundTrees}
+use Rattle.btree_pages.specs.Trees.{table_sound}
+use Rattle.btree_pages.proofs.Others.{all_sound, rest_untouched}
 
 -- a slot is one of a single table
 one_table : (said : Option Slot) (a b j k : ℕ) → IsOfKey a j said → IsOfKey b k said → a ≡ b
@@ -98,32 +97,10 @@ module _ (old new : List ℕ) (root : Root) (key slot : ℕ) (sound : AreSoundTr
       root_is same = (let e : Some other.page ≡ Some root.page = sym there ∙ subst (λ (t : ℕ). IsTable old t root.page) (sym same) named in cc)
 
   sound_now : AreSoundTrees new
-  sound_now = whole_passes 1 tree_of new (record {
-    front = front;
-    slots = slots;
-    pages = pages;
-    tables = λ table page there.
-        let was : IsTable old table page = named_kept old new tables table page there in
-        elim (cases_eq page root.page) [
-          | inl same ↦
-              let one : table ≡ root.table = roots_apart 1 old table root.table root.page (whole_of old sound).front (subst (λ (p : ℕ). IsTable old table p) same was) named in
-              subst (λ (p : ℕ). tree_of new p table None) (sym same) (subst (λ (t : ℕ). tree_of new root.page t None) (sym one) (sound_passes root new lacks.sound))
-          | inr differ ↦ sound_passes (record { page = page; table = table }) new (other_moved (record { page = page; table = table }) was differ).0
-        ];
-  })
+  sound_now = all_sound old new root sound named front slots pages tables lacks.sound other_moved kept
 
   untouched : (table other : ℕ) → IsTable old table other → other ≢ root.page → IsUntouched tree other old new
-  untouched table other there differ =
-      let r = other_moved (record { page = other; table = table }) there differ in
-      let t = table_sound old (record { page = other; table = table }) sound there in
-      record {
-        pairs = r.1;
-        level = r.2;
-        pages = λ x u. (
-          tree_stays_same (record { page = other; table = table }) old new x t (kept (record { page = other; table = table }) there differ) r.2 u,
-          kept (record { page = other; table = table }) there differ x u,
-        );
-      }
+  untouched = rest_untouched old new root sound named front slots pages tables lacks.sound other_moved kept
 
   -- what stays in the tree of another table
   last_elsewhere : (other : Root) → IsTable old other.table other.page → other.page ≢ root.page → (one : ℕ) → one < key_end → StaysLast old other.page one → StaysLast new other.page one
