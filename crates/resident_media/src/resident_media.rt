@@ -15,7 +15,7 @@ use pcm_media::Media;
 use std::alloc::{AllocFailed, Global};
 use std::marker::Model;
 
-/// A medium over a medium that nobody else writes, of whose first bytes it keeps those in memory that were read, by blocks of 4,096. A read within
+/// A medium over a medium that nobody else writes, of whose first bytes it keeps those in memory that were read, by blocks of 16,384. A read within
 /// known blocks makes no call below, and any other makes one, for all unknown blocks that it touches. A write is handed on, and then put into
 /// what is kept: the blocks that it covers whole are known then. Where it fails, the blocks that it touches are unknown again. Room is reserved
 /// for all, and none of it is touched before a block needs it: so a short run does not pay for a large medium.
