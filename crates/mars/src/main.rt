@@ -13,11 +13,12 @@ use crate::choice::{Image, choose};
 use crate::ending::tell;
 use crate::image::{fresh_image, no_image};
 use crate::kept::resident;
+use blank_media::BlankMedia;
 use mars_base::NoMemory;
 use mars_shell::{OpenGate, Status, run};
 use media_file::FileMedia;
 use outside::{StdSink, StdSource};
-use pcm_media::{Media, MemoryMedia};
+use pcm_media::Media;
 use std::fs::File;
 use std::io::{ErrorKind, Input, Result as IoResult};
 use std::process::ExitCode;
@@ -76,7 +77,7 @@ where
 }
 
 // A run over an image that is lost at the end.
-fn run_in_memory<R>(rt: &R, words: &[String], image: Result<MemoryMedia, NoMemory>) -> Status
+fn run_in_memory<R>(rt: &R, words: &[String], image: Result<BlankMedia, NoMemory>) -> Status
 where
     R: AllocGlobal + Input + Print + Threads + Wait + Sync,
 {
