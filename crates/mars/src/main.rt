@@ -16,11 +16,12 @@ use crate::choice::{Image, choose};
 use crate::ending::{Told, run_told, tell_unbegun};
 use crate::image::{fresh_image, no_image};
 use crate::kept::resident;
+use blank_media::BlankMedia;
 use mars_base::NoMemory;
 use mars_shell::Status;
 use media_file::FileMedia;
 use outside::{Sink, StdSink, StdSource};
-use pcm_media::{Media, MemoryMedia};
+use pcm_media::Media;
 use std::fs::File;
 use std::io::{ErrorKind, Input, Result as IoResult};
 use std::process::ExitCode;
@@ -92,7 +93,7 @@ where
 fn run_in_memory<R, E: Sink>(
     rt: &R,
     words: &[String],
-    image: Result<MemoryMedia, NoMemory>,
+    image: Result<BlankMedia, NoMemory>,
     errors: &mut E,
 ) -> Told
 where
