@@ -9,7 +9,6 @@ use base.Logic.{emp}
 use base.Fml.{Fml, ftrue, fsep}
 use prog.Model.{Model}
 use prog.Wp.{Closed}
-use base.Logic.{emp}
 use contract.Monad.{fact}
 use contract.Running.{Running, tables}
 use types.Logic.{Logic}
