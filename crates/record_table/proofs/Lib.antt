@@ -1,4 +1,3 @@
-mod Walks
 pub mod Tables
 pub mod Joint
 pub mod Sharing

@@ -14,7 +14,7 @@ use denote.Signature.{plain, types_at}
 use denote.Steps.{nothing}
 use denote.Triple.Entry.{alive}
 use denote.Triple.Walked.{says, Stays, stay_dropped, walk_of, ends_at, Goes-dropped}
-use Rattle.record_table.proofs.Walks.{none, none_made}
+use Rattle.ghost_walks.proofs.Walks.{none, none_made}
 use Rattle.record_slots.specs.contracts.slot.Slot as Slots
 use Rattle.record_table.specs.contracts.hearings.Hearings as Heards
 use Rattle.record_table.specs.contracts.hearings.Hearings.then as f
