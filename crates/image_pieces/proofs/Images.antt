@@ -5,7 +5,7 @@ use Rattle.std.proofs.lemmas.Nat.{div-add-mod', div_below, mod_below}
 use Rattle.mars_base.specs.Bytes.{range}
 use Rattle.pcm_media.proofs.Ranges.{length-range, get_or-range}
 use Rattle.array_shape.specs.declared.shape.Shape.{Shape}
-use Rattle.array_shape.specs.Places.{data_at, data_len, media_len, page_count, place_of, region_at, region_len, row_at}
+use Rattle.array_shape.specs.Places.{data_at, media_len, page_count, place_of, region_len, row_at}
 use Rattle.row_bytes.specs.Header.{header_bytes}
 use Rattle.array_image.specs.Image.{data_of}
 use Rattle.array_image.specs.Joined.{joined}

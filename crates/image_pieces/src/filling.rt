@@ -73,13 +73,9 @@ fn fill_pages<P: PageSource>(
     requires most { count ≤ 128 }
     ensures { take (512 * count) out.new ≡ joined (page_of shape.now (P.pages source.now) logger) page count }
 {
-    let loggers = u64::from(shape.loggers);
     for j in 0..count {
         let mut bytes = [0; 512];
-        source.page(
-            u64::from(page + j) * loggers + u64::from(logger),
-            &mut bytes,
-        );
+        source.page(number_of(shape, logger, page + j), &mut bytes);
         let at = 512 * j as usize;
         out[at..at + 512].copy_from_slice(&bytes);
     }

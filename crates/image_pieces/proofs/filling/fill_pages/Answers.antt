@@ -1,6 +1,4 @@
-use Rattle.std.proofs.Common.{◌≡◌, ℕ, List, ◌+◌, ◌-◌, ◌*◌, ◌≤◌, ◌++◌, length, take, drop, ap, ◌∙◌, arith}
-use Rattle.array_image.specs.Joined.{joined}
-use Rattle.array_image.proofs.Joined.{joined_more}
+use Rattle.std.proofs.Common.{◌≡◌, ℕ, List, ◌+◌, ◌-◌, ◌*◌, ◌≤◌, length, ap, ◌∙◌, arith}
 use Rattle.image_pieces.specs.Image.{page_of}
 use Rattle.image_pieces.proofs.Putting.{piece_long, pieces_more}
 use Rattle.image_pieces.proofs.filling.fill_pages.Goals as goal

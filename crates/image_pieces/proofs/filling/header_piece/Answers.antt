@@ -1,4 +1,4 @@
-use Rattle.std.proofs.Common.{◌≡◌, length, ap, ◌∙◌}
+use Rattle.std.proofs.Common.{length, ap, ◌∙◌}
 use Rattle.std.proofs.lemmas.List.{take_at}
 use Rattle.image_pieces.proofs.Images.{length-header_bytes}
 use Rattle.image_pieces.proofs.filling.header_piece.Goals as goal

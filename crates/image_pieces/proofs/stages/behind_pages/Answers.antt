@@ -1,4 +1,4 @@
-use Rattle.std.proofs.Common.{◌≡◌, ◌-◌, ℕ, List, ◌+◌, ◌++◌, sym, ap, arith}
+use Rattle.std.proofs.Common.{◌≡◌, ◌-◌, ℕ, ◌+◌, ◌++◌, ap, arith}
 use Rattle.array_image.specs.Joined.{joined}
 use Rattle.image_pieces.specs.Image.{page_of, region_of}
 use Rattle.image_pieces.proofs.stages.behind_pages.Goals as goal

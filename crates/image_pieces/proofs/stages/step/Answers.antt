@@ -1,9 +1,8 @@
-use Rattle.std.proofs.Common.{◌≡◌, ℕ, List, ◌+◌, ◌-◌, ◌*◌, ◌<◌, ◌≤◌, ◌×◌, [], ◌++◌, length, replicate, sym, ap, subst, ◌∙◌, append_assoc, arith}
+use Rattle.std.proofs.Common.{◌≡◌, ℕ, List, ◌+◌, ◌-◌, ◌<◌, ◌≤◌, ◌++◌, length, replicate, sym, ap, subst, ◌∙◌, append_assoc, arith}
 use Rattle.std.proofs.lemmas.List.{length-replicate}
-use Rattle.array_shape.specs.Places.{region_at}
 use Rattle.array_image.specs.Joined.{joined}
 use Rattle.image_pieces.specs.Image.{IsStage, front_len, image_of, left_of, page_of, region_of, rest_of}
-use Rattle.image_pieces.specs.Pieces.{IsNext, IsPlaced, bytes_of}
+use Rattle.image_pieces.specs.Pieces.{IsNext, bytes_of}
 use Rattle.image_pieces.specs.declared.piece.Piece.{Piece}
 use Rattle.image_pieces.specs.declared.piece.Piece.TheVariants.{Zeros}
 use Rattle.image_pieces.specs.declared.stages.Stage.{Stage}

@@ -1,4 +1,4 @@
-use Rattle.std.proofs.Common.{◌≡◌, sym, ◌∙◌}
+use Rattle.std.proofs.Common.{sym, ◌∙◌}
 use Rattle.image_pieces.proofs.Images.{ends}
 use Rattle.image_pieces.proofs.image.ArrayImage.len.Goals as goal
 
