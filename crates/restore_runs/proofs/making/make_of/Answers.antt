@@ -9,8 +9,7 @@ use Rattle.restore_runs.proofs.making.make_of.Goals as goal
 pub returns-in-Ok-image_of : goal.returns-in-Ok-image_of
 returns-in-Ok-image_of c =
     let index : c.pages_needed.result ≡ length (index_for c.args.asked.now.fill c.args.tables) = c.pages_needed.ensures ∙ (λ i. length (index_for (c.from-fill.ensures i) (c.as_slice-2.ensures i))) in
-    let count : c.in_ok-records.records ≡ length (records_in c.args.tables) = c.in_ok-records.ensures ∙ ap (λ (tables : List NamedRows). length (records_in tables)) c.as_slice.ensures in
-    (
+    let count : c.in_ok-records.records ≡ length (records_in c.args.tables) = c.in_ok-records.ensures ∙ ap (λ (tables : List NamedRows). length (records_in tables)) c.as_slice.ensures in (
       record {
         half = c.half_for-half.result;
         half_is = subst (λ (p : ℕ × ℕ). IsHalf p.0 p.1 c.half_for-half.result) (λ i. (index i, count i)) c.half_for-half.ensures;
