@@ -1,12 +1,15 @@
 // An image comes to its path whole.
 use crate::refusal::Refusal;
+use image_pieces::{ArrayImage, PIECE_LEN, Piece};
 use media_file::FileMedia;
 use restore_runs::holds_array;
 use std::fs;
 use std::fs::File;
-use std::io::{Result as IoResult, Write};
+use std::io::Result as IoResult;
+use std::os::unix::fs::FileExt;
 use std::path::{Path, PathBuf};
 use std::rt::Files;
+use table_builder::DataImage;
 
 /// Where an image is to stand.
 #[derive(Drop)]
@@ -48,7 +51,12 @@ where
 
 /// Writes the image beside its place and then moves it there, with a sync of the file and of the folder. What fails leaves the place as it was,
 /// and nothing beside it.
-pub fn put_image<R>(rt: &R, place: &Place<'_>, process: u32, bytes: &[u8]) -> IoResult<()>
+pub fn put_image<R>(
+    rt: &R,
+    place: &Place<'_>,
+    process: u32,
+    image: &mut ArrayImage<DataImage>,
+) -> IoResult<()>
 where
     R: AllocGlobal + Files<File = File>,
 {
@@ -56,15 +64,22 @@ where
     let text = path.as_str();
     let beside = format!(in rt.alloc(); "{text}.{process}.new")?;
     let file = File::create_new(rt, beside.as_str())?;
-    let done = fill(file, bytes).and_then(|()| settle(rt, beside.as_str(), place));
+    let done = fill(&file, image).and_then(|()| settle(rt, beside.as_str(), place));
     if done.is_err() {
         let _ = fs::remove_file(rt, beside.as_str());
     }
     done
 }
 
-fn fill(mut file: File, bytes: &[u8]) -> IoResult<()> {
-    file.write_all(bytes)?;
+// What is zero of an image stays a hole of its new file, which reads as zeros.
+fn fill(file: &File, image: &mut ArrayImage<DataImage>) -> IoResult<()> {
+    file.set_len(image.len())?;
+    let mut out = [0; PIECE_LEN];
+    while let Some(piece) = image.next(&mut out) {
+        if let Piece::Bytes { at, len } = piece {
+            file.write_all_at(&out[..len], at)?;
+        }
+    }
     file.sync_all()
 }
 

@@ -56,8 +56,8 @@ where
     let asked = read_restore_words(rt.alloc(), words)?;
     let place = test_place(rt, asked.image, asked.replace)?;
     let mut source = StdSource::new(rt.reader());
-    let made = make_image(rt.alloc(), &asked.numbers, &mut source)?;
-    put_image(rt, &place, process, made.media.bytes())?;
+    let mut made = make_image(rt.alloc(), &asked.numbers, &mut source)?;
+    put_image(rt, &place, process, &mut made.image)?;
     Ok(made.records)
 }
 

@@ -3,8 +3,8 @@ use Rattle.std.proofs.Common.{◌≡◌, ℕ, ◌^◌, ◌<◌, Bool, true, fals
 use Rattle.std.specs.Prelude.{if◌then◌else◌, IsPermutation, Some}
 use Rattle.std.specs.FinMap.{get, entries}
 use Rattle.std.specs.List.{Contains}
-use Rattle.pcm_media.specs.Images.{Content, MayLeave}
-use Rattle.blank_media.specs.Changes.{content_of}
+use Rattle.pcm_media.specs.Images.{MayLeave}
+use Rattle.pcm_media.specs.Replay.{at_rest}
 use Rattle.pcm_media.specs.View.{View}
 use Rattle.pcm_media.proofs.Left.{left_as_read}
 use Rattle.array_shape.specs.declared.shape.Shape.{Shape}
@@ -13,6 +13,7 @@ use Rattle.array_image.specs.Image.{data_of}
 use Rattle.row_bytes.proofs.OneShape.{one_shape}
 use Rattle.eaw_device.specs.Made.{LeavesAsRead}
 use Rattle.eaw_device.specs.Opens.{header_of, Opens}
+use Rattle.eaw_device.proofs.NewArrays.{settled_as_read}
 use Rattle.record_slots.specs.Places.{page_bytes}
 use Rattle.record_slots.specs.Super.{form_said}
 use Rattle.history.specs.Key.{main_name, of_table}
@@ -125,10 +126,8 @@ module _ (old new : View) (text : List ℕ) (cut : Bool) (dumps : TellsWhole old
       }
 
     pub made : (asked : RestoreNumbers) (array : Made) → Makes asked text (Ok array)
-        → (shape : Shape) × IsRestoredFrom dumped old shape (content_of array.media).bytes × LeavesAsRead (content_of array.media)
-    made asked array (tables, dump, from) =
-        let content : Content = content_of array.media in
-        (from.0.shape, restored tables dump from.0.shape content.bytes (record { opens = from.0.opens content.bytes (left_as_read content); data_is = from.0.data_is }), from.0.sure)
+        → (shape : Shape) × IsRestoredFrom dumped old shape array.image.left × LeavesAsRead (at_rest array.image.left)
+    made asked array (tables, dump, from) = (from.0.shape, restored tables dump from.0.shape array.image.left from.0.restored, settled_as_read (at_rest array.image.left) refl)
 
 -- ---- an array that was restored
 

@@ -1,7 +1,7 @@
 // What a restore of a dump holds.
 ghost use Rattle.std.specs.Prelude.{ℕ, ◌≡◌, List, Bool, Ok, Err};
 ghost use Rattle.pcm_media.specs.Images.{MayLeave};
-ghost use Rattle.blank_media.specs.Changes.{content_of};
+ghost use Rattle.pcm_media.specs.Replay.{at_rest};
 ghost use Rattle.array_shape.specs.declared.shape.Shape.{Shape};
 ghost use Rattle.eaw_device.specs.Made.{LeavesAsRead};
 ghost use Rattle.eaw_device.specs.Opens.{Opens};
@@ -34,7 +34,7 @@ use pcm_media::Media;
 pub fn what_restores_hold<M: Media>()
     ensures made { (old new : M) (text : List ℕ) (cut : Bool) → TellsWhole (M.view old) (M.view new) cut text → (dumped : Shape) → HoldsRecords dumped (M.view old)
         → (asked : RestoreNumbers) (made : Made) → Makes asked text (Ok made)
-        → (shape : Shape) × IsRestoredFrom dumped (M.view old) shape (content_of made.media).bytes × LeavesAsRead (content_of made.media) }
+        → (shape : Shape) × IsRestoredFrom dumped (M.view old) shape made.image.left × LeavesAsRead (at_rest made.image.left) }
     ensures restored { (old new : M) (text : List ℕ) (cut : Bool) → TellsWhole (M.view old) (M.view new) cut text → (dumped : Shape) → HoldsRecords dumped (M.view old)
         → (tables : List NamedRows) → IsDumpOf text tables → (shape : Shape) (image : List ℕ) → IsRestored shape tables image
         → IsRestoredFrom dumped (M.view old) shape image }

@@ -1,7 +1,6 @@
 -- The header of an array is not refused.
-use Rattle.std.proofs.Common.{◌≡◌, ℕ, ◌≤◌, List, ap, ◌∙◌, arith}
+use Rattle.std.proofs.Common.{◌≡◌, ℕ, List, ap, ◌∙◌, arith}
 use Rattle.array_shape.specs.declared.shape.Shape.{Shape}
-use Rattle.array_shape.specs.declared.bad_shape.BadShape.{BadShape}
 use Rattle.array_shape.specs.declared.bad_shape.ShapeNumber.{ShapeNumber}
 use Rattle.array_shape.specs.declared.bad_shape.ShapeNumber.TheVariants.{Loggers, Numbers, Entries, Pages, MediaLength}
 use Rattle.array_shape.specs.Places.{media_len}

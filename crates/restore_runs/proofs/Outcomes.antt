@@ -6,15 +6,8 @@ use Rattle.script_run.specs.Input.{input_limit}
 use Rattle.script_run.specs.declared.input.InputFault.{InputFault}
 use Rattle.script_run.specs.declared.input.InputFault.TheVariants as input
 use Rattle.dump_text.specs.Dump.{IsDumpOf}
-use Rattle.array_shape.specs.declared.shape.Shape.{Shape}
-use Rattle.page_store.specs.Index.{index_pages_of}
-use Rattle.table_builder.specs.Causes.{BuildCause}
-use Rattle.restoring.specs.Restored.{RestoreCause}
-use Rattle.restoring.specs.declared.tables.RestoreFault.{RestoreFault}
-use Rattle.restoring.specs.declared.tables.RestoreFault.TheVariants as restoring
-use Rattle.restore_runs.specs.Sizing.{IsShapeFor}
-use Rattle.restore_runs.specs.Making.{IsHalfFor, Makes, MakesFrom}
-use Rattle.restore_runs.specs.Stops.{input_stop, restore_stop}
+use Rattle.restore_runs.specs.Making.{Makes, MakesFrom}
+use Rattle.restore_runs.specs.Stops.{input_stop}
 use Rattle.restore_runs.specs.declared.making.Made.{Made}
 use Rattle.restore_runs.specs.declared.stop.Stop.{Stop}
 use Rattle.restore_runs.specs.declared.stop.Stop.TheVariants.{TooLong, ReadFault, NoMemory, Dump, Shape as ShapeStop, Tables}
@@ -44,10 +37,3 @@ pub read_failed : (fault : InputFault) → input_stop fault ≡ ReadFault → fa
 read_failed input.TooLong is = absurd (let no : ⊥ = cc is in no)
 read_failed input.Failed is = refl
 read_failed input.NoMemory is = absurd (let no : ⊥ = cc is in no)
-
--- tables that were not restored
-pub not_made : (asked : RestoreNumbers) (tables : List NamedRows) (half : ℕ) (shape : Shape) (fill size : ℕ) (fault : RestoreFault) (stop : Stop) → IsHalfFor asked tables half → IsShapeFor asked half shape → fill ≡ asked.fill
-    → RestoreCause shape fill tables size fault → stop ≡ restore_stop fault → MakesFrom asked tables (Err stop)
-not_made asked tables half shape fill size (restoring.Tables fault) stop half_is shape_is same cause is =
-    subst (λ (s : Stop). MakesFrom asked tables (Err s)) (sym is) (half, half_is, shape, shape_is, subst (λ (f : ℕ). BuildCause f (index_pages_of shape) tables fault) same cause)
-not_made asked tables half shape fill size (restoring.Format fault) stop half_is shape_is same cause is = subst (λ (s : Stop). MakesFrom asked tables (Err s)) (sym is) tt

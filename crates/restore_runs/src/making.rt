@@ -1,35 +1,35 @@
-// An array is made in memory of what a source says.
+// An array is made of what a source says.
 ghost use Rattle.std.specs.Prelude.{◌≡◌, ◌≤◌, ◌^◌, ◌<◌, List, ℕ, length, IsTrue, IfOk, IsErrOf};
 ghost use Rattle.array_shape.specs.declared.shape.Shape.{Shape};
 ghost use Rattle.dump_text.specs.Dump.{AreTables};
 ghost use Rattle.restore_runs.specs.Making.{BeginsAsArray, Makes, MakesFrom};
 
 use crate::sizing::{half_for, shape_for};
-use crate::stop::{Stop, input_stop, restore_stop};
+use crate::stop::{Stop, input_stop};
 use array_shape::HEADER_LEN;
-use blank_media::BlankMedia;
 use command_words::RestoreNumbers;
 use dump_text::read_dump;
 use history::Tables;
 use history_text::count_records;
+use image_pieces::ArrayImage;
 use mars_base::Failed;
 use outside::Source;
 use pcm_media::Media;
-use restoring::restore;
+use restoring::image_of;
 use row_bytes::read_array_header;
 use script_run::read_input;
 use std::alloc::Global;
-use table_builder::pages_needed;
+use table_builder::{DataImage, pages_needed};
 
-/// An array in memory.
+/// An array, to be taken piece by piece.
 #[derive(Drop)]
 pub struct Made {
-    pub media: BlankMedia,
+    pub image: ArrayImage<DataImage>,
     /// How many records it has.
     pub records: u64,
 }
 
-/// An array with the tables of the dump that a source gives, in memory.
+/// An array with the tables of the dump that a source gives.
 pub fn make_image<S: Source>(
     alloc: Global,
     asked: &RestoreNumbers,
@@ -56,7 +56,7 @@ fn make_of_text(alloc: Global, asked: &RestoreNumbers, text: &[u8]) -> Result<Ma
     }
 }
 
-// An array with these tables, in memory.
+// An array with these tables.
 fn make_of(alloc: Global, asked: &RestoreNumbers, tables: Tables) -> Result<Made, Stop>
     requires { AreTables tables }
     ensures { MakesFrom asked.now tables result }
@@ -68,10 +68,9 @@ fn make_of(alloc: Global, asked: &RestoreNumbers, tables: Tables) -> Result<Made
         Ok(shape) => shape,
         Err(bad) => return Err(Stop::Shape(bad)),
     };
-    let mut media = BlankMedia::new(alloc, shape.media_len())?;
-    match restore(alloc, &mut media, &shape, fill, tables) {
-        Ok(()) => Ok(Made { media, records }),
-        Err(fault) => Err(restore_stop(fault)),
+    match image_of(alloc, &shape, fill, tables) {
+        Ok(image) => Ok(Made { image, records }),
+        Err(fault) => Err(Stop::Tables(fault)),
     }
 }
 

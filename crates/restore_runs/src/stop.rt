@@ -1,11 +1,10 @@
 // Why nothing is restored.
 ghost use Rattle.std.specs.Prelude.{◌≡◌};
-ghost use Rattle.restore_runs.specs.Stops.{input_stop, restore_stop};
+ghost use Rattle.restore_runs.specs.Stops.{input_stop};
 
 use array_shape::BadShape;
 use dump_text::DumpFault;
 use mars_base::NoMemory;
-use restoring::RestoreFault;
 use script_run::InputFault;
 use table_builder::BuildFault;
 use thiserror::Error;
@@ -64,16 +63,5 @@ pub fn input_stop(fault: InputFault) -> Stop
         InputFault::TooLong => Stop::TooLong,
         InputFault::Failed => Stop::ReadFault,
         InputFault::NoMemory => Stop::NoMemory,
-    }
-}
-
-/// The stop of a restore in memory.
-pub fn restore_stop(fault: RestoreFault) -> Stop
-    ensures { result ≡ restore_stop fault }
-{
-    match fault {
-        RestoreFault::Tables(fault) => Stop::Tables(fault),
-        // A medium in memory that has the length of its array fails only at its last moment, which no restore comes to.
-        RestoreFault::Format(_) => Stop::NoMemory,
     }
 }
