@@ -12,7 +12,8 @@ use Rattle.mars_manager.specs.Pass.{PassView, names_in, names_of, told_of}
 use Rattle.mars_manager.specs.declared.view.Met.{Met}
 use Rattle.mars_manager.specs.Locks.{steps_of, IsAgain, IsBusyBy}
 use Rattle.mars_manager.specs.Asked.{IsStepOf, Meets}
-use Rattle.caller_work.specs.Standing.{IsSame, Adds}
+use Rattle.caller_work.specs.declared.gate.Place.{Place}
+use Rattle.caller_work.specs.Standing.{IsSame, Adds, Tells}
 use Rattle.caller_work.specs.Asked.{IsToldOf}
 use Rattle.caller_work.proofs.Asking.{told_none, told_one, told_both}
 
@@ -60,3 +61,38 @@ module _ {C : Type 0} where
 
   pub adds_as : (was now : PassView C) (One Other : Granted → Type 0) → ((xs : Granted) → One xs → Other xs) → Adds was now One → Adds was now Other
   adds_as was now One Other so adds = record { same = adds.same; more = adds.more; told = adds.told; steps = adds.steps; met = adds.met; tells = adds.tells; holds = so adds.more adds.holds }
+
+  -- nothing was told to anybody
+  pub tells_none : (pass : PassView C) (before : List Place) (Holds : Granted → List Place → Type 0) → Holds [] [] → Tells pass pass before before Holds
+  tells_none pass before Holds holds = record { places = []; told = sym (append-nil before); adds = adds_none pass (λ more. Holds more []) holds }
+
+  -- no gate was told
+  pub tells_quiet : (was now : PassView C) (before : List Place) (Holds : Granted → List Place → Type 0) → Adds was now (λ more. Holds more []) → Tells was now before before Holds
+  tells_quiet was now before Holds adds = record { places = []; told = sym (append-nil before); adds = adds }
+
+  -- a gate was told one place
+  pub tells_place : (was now : PassView C) (before after : List Place) (place : Place) (Holds : Granted → List Place → Type 0) → after ≡ before ++ place ∷ [] → Adds was now (λ more. Holds more (place ∷ []))
+      → Tells was now before after Holds
+  tells_place was now before after place Holds told adds = record { places = place ∷ []; told = told; adds = adds }
+
+  -- one list after another
+  pub tells_on : (was mid now : PassView C) (before between after : List Place) (First Second Both : Granted → List Place → Type 0) → Tells was mid before between First → Tells mid now between after Second
+      → ((xs ys : Granted) (ps qs : List Place) → First xs ps → Second ys qs → Both (xs ++ ys) (ps ++ qs)) → Tells was now before after Both
+  tells_on was mid now before between after First Second Both one other both = record {
+    places = one.places ++ other.places;
+    told = other.told ∙ ap (λ (l : List Place). l ++ other.places) one.told ∙ append_assoc before one.places other.places;
+    adds = adds_on was mid now (λ more. First more one.places) (λ more. Second more other.places) (λ more. Both more (one.places ++ other.places)) one.adds other.adds
+        (λ xs ys first second. both xs ys one.places other.places first second);
+  }
+
+  pub tells_as : (was now : PassView C) (before after : List Place) (One Other : Granted → List Place → Type 0) → ((xs : Granted) (ps : List Place) → One xs ps → Other xs ps) → Tells was now before after One → Tells was now before after Other
+  tells_as was now before after One Other so tells = record { places = tells.places; told = tells.told; adds = adds_as was now (λ more. One more tells.places) (λ more. Other more tells.places) (λ xs one. so xs tells.places one) tells.adds }
+
+  -- a gate is told one place more at the end
+  pub tells_then : (was now : PassView C) (before between after : List Place) (place : Place) (One Other : Granted → List Place → Type 0) → after ≡ between ++ place ∷ [] → ((xs : Granted) (ps : List Place) → One xs ps → Other xs (ps ++ place ∷ []))
+      → Tells was now before between One → Tells was now before after Other
+  tells_then was now before between after place One Other is so tells = record {
+    places = tells.places ++ place ∷ [];
+    told = is ∙ ap (λ (l : List Place). l ++ place ∷ []) tells.told ∙ append_assoc before tells.places (place ∷ []);
+    adds = adds_as was now (λ more. One more tells.places) (λ more. Other more (tells.places ++ place ∷ [])) (λ xs one. so xs tells.places one) tells.adds;
+  }

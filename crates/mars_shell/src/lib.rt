@@ -35,7 +35,7 @@ mod whole;
 
 pub use array_runs::{Refusal, Status, fault_text};
 pub use caller_plans::Fate;
-pub use caller_work::{Gate, OpenGate, Place, Stop, Worker, caller_work};
+pub use caller_work::{Gate, OpenGate, Place, PlaceNotes, Stop, Worker, caller_work};
 pub use images::what_images_hold;
 pub use laws::{runs_compose, what_callers_are_told};
 pub use media_room::room;

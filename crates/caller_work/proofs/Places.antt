@@ -1,0 +1,107 @@
+-- What a worker tells its gate, call by call.
+use Rattle.std.proofs.Common.{◌≡◌, ◌+◌, ℕ, suc, append_assoc, List, [], ◌∷◌, ◌++◌, length, inl, inr, true, false, arith, refl, sym, ap, ◌∙◌, subst}
+use Rattle.std.proofs.lemmas.List.{append-nil}
+use Rattle.std.specs.Prelude.{Bool, not, if◌then◌else◌}
+use Rattle.history.specs.Table.{Granted}
+use Rattle.history.specs.declared.call.Call.{Call}
+use Rattle.history.specs.declared.call.Reply.{Reply}
+use Rattle.history.specs.declared.call.Reply.TheVariants as says
+use Rattle.std.proofs.lemmas.Bool.{true≢false}
+use Rattle.mars_manager.specs.Locks.{steps_of}
+use Rattle.caller_steps.specs.Fate.{is_refusal, is_busy}
+use Rattle.caller_plans.specs.declared.plan.Plan.{Plan}
+use Rattle.caller_plans.specs.declared.plan.PlanEnd.{PlanEnd}
+use Rattle.caller_plans.specs.declared.plan.PlanEnd.TheVariants as end
+use Rattle.caller_work.specs.declared.gate.Place.{Place}
+use Rattle.caller_work.specs.declared.gate.Place.TheVariants.{Began, Answered, Ended}
+use Rattle.caller_work.specs.Standing.{AreGranted, IsRefused}
+use Rattle.caller_work.specs.Telling.{HasGranted, answers, end_places, call_places, try_places, AreTold, AreToldOf}
+use Rattle.caller_work.proofs.TriesLemmas.{pick_true, pick_false}
+
+free_step : (reply : Reply) → is_refusal reply ≡ false → is_busy reply ≡ false
+free_step (says.Busy holder) free = absurd (true≢false free)
+free_step reply free = refl
+
+pick_none : (b : Bool) (one : Granted) → b ≡ false → (if not b then one else []) ≡ one
+pick_none true one e = absurd (true≢false e)
+pick_none false one e = refl
+
+-- a call that was just granted
+pub granted_last : (before : Granted) (call : Call) (reply : Reply) (now : Granted) → now ≡ before ++ steps_of ((call, reply) ∷ []) → is_refusal reply ≡ false → HasGranted call now
+granted_last before call reply now is free =
+    let one : Granted = (call, reply) ∷ [] in
+    (before, reply, is ∙ ap (λ (l : Granted). before ++ l) (pick_none (is_busy reply) one (free_step reply free)), free)
+
+module _ (caller nth : ℕ) where
+  -- one more answer
+  pub answers_more : (call : ℕ) (told : Granted) (entry : Call × Reply) → answers caller nth call (told ++ entry ∷ []) ≡ answers caller nth call told ++ Answered caller nth (call + length told) ∷ []
+  answers_more call [] entry = let e : call ≡ call + 0 = omega arith in ap (λ (n : ℕ). Answered caller nth n ∷ []) e
+  answers_more call (first ∷ told) entry =
+      let e : call + 1 + length told ≡ call + length (first ∷ told) = omega arith in
+      ap (λ (l : List Place). Answered caller nth call ∷ l) (answers_more (call + 1) told entry ∙ ap (λ (n : ℕ). answers caller nth (call + 1) told ++ Answered caller nth n ∷ []) e)
+
+  -- all calls of a plan were granted, and then comes its end
+  pub places_granted : (calls : List Call) (ends : PlanEnd) (asked last : Granted) (call : ℕ) → AreGranted calls asked
+      → call_places caller nth call calls ends (asked ++ last) ≡ answers caller nth call asked ++ end_places caller nth ends last
+  places_granted [] ends asked last call is = subst (λ (l : Granted). call_places caller nth call [] ends (l ++ last) ≡ answers caller nth call l ++ end_places caller nth ends last) (sym is) refl
+  places_granted (c ∷ calls) ends asked last call (reply, rest, is, free, others) =
+      subst (λ (l : Granted). call_places caller nth call (c ∷ calls) ends (l ++ last) ≡ answers caller nth call l ++ end_places caller nth ends last) (sym is)
+      (ap (λ (l : List Place). Answered caller nth call ∷ l) (sym (pick_false (is_refusal reply) [] (call_places caller nth (call + 1) calls ends (rest ++ last)) free)
+      ∙ places_granted calls ends rest last (call + 1) others))
+
+  -- one of them was refused
+  pub places_refused : (calls : List Call) (ends : PlanEnd) (refusal : Reply) (asked last : Granted) (call : ℕ) → IsRefused calls refusal asked
+      → call_places caller nth call calls ends (asked ++ last) ≡ answers caller nth call asked
+  places_refused [] ends refusal asked last call none = absurd none
+  places_refused (c ∷ calls) ends refusal asked last call (reply, rest, is, inl (free, others)) =
+      subst (λ (l : Granted). call_places caller nth call (c ∷ calls) ends (l ++ last) ≡ answers caller nth call l) (sym is)
+      (ap (λ (l : List Place). Answered caller nth call ∷ l) (sym (pick_false (is_refusal reply) [] (call_places caller nth (call + 1) calls ends (rest ++ last)) free)
+      ∙ places_refused calls ends refusal rest last (call + 1) others))
+  places_refused (c ∷ calls) ends refusal asked last call (reply, rest, is, inr (refused, none, same)) =
+      subst (λ (l : Granted). call_places caller nth call (c ∷ calls) ends (l ++ last) ≡ answers caller nth call l) (sym is)
+      (ap (λ (l : List Place). Answered caller nth call ∷ l) (sym (pick_true (is_refusal reply) [] (call_places caller nth (call + 1) calls ends (rest ++ last)) refused)
+      ∙ ap (λ (l : Granted). answers caller nth (call + 1) l) (sym none)))
+
+  -- a try whose begin was refused, and one whose begin was granted
+  pub try_refused : (plan : Plan) (call : Call) (reply : Reply) (told : Granted) → is_refusal reply ≡ true → [] ≡ try_places caller nth plan ((call, reply) ∷ told)
+  try_refused plan call reply told refused = pick_true (is_refusal reply) [] (Began caller nth ∷ call_places caller nth 1 plan.calls plan.end told) refused
+
+  pub try_begun : (plan : Plan) (call : Call) (reply : Reply) (told : Granted) (places : List Place) → is_refusal reply ≡ false → places ≡ call_places caller nth 1 plan.calls plan.end told
+      → Began caller nth ∷ places ≡ try_places caller nth plan ((call, reply) ∷ told)
+  try_begun plan call reply told places free is = ap (λ (l : List Place). Began caller nth ∷ l) is ∙ pick_false (is_refusal reply) [] (Began caller nth ∷ call_places caller nth 1 plan.calls plan.end told) free
+
+  -- nothing is told at another end
+  pub end_none : (ends : PlanEnd) (told : Granted) → (ends ≡ end.Offer → ⊥) → [] ≡ end_places caller nth ends told
+  end_none end.Offer told other = absurd (other refl)
+  end_none end.Commit told other = refl
+  end_none end.Abort told other = refl
+  end_none end.Unended told other = refl
+
+  -- one more try
+  pub told_once_more : (plan : Plan) (n : ℕ) (front last : Granted) (ps qs : List Place) → AreTold caller nth plan n front ps → qs ≡ try_places caller nth plan last → AreTold caller nth plan (suc n) (front ++ last) (ps ++ qs)
+  told_once_more plan n front last ps qs before is = (front, last, ps, refl, ap (λ (l : List Place). ps ++ l) is, before)
+
+-- a plan has ended, and others follow
+pub told_more : (one caller nth : ℕ) (plan : Plan) (plans all : List Plan) (tries n : ℕ) (front back : Granted) (first qs others : List Place) → one ≡ caller → all ≡ plan ∷ plans → qs ≡ first ++ Ended one nth ∷ []
+    → AreTold one nth plan tries front first → AreToldOf caller (nth + 1) plans n back others → AreToldOf caller nth all (suc n) (front ++ back) (qs ++ others)
+told_more one caller nth plan plans all tries n front back first qs others same is ended told behind = (
+  plan,
+  plans,
+  is,
+  tries,
+  front,
+  back,
+  first,
+  others,
+  refl,
+  ap (λ (l : List Place). l ++ others) ended ∙ append_assoc first (Ended one nth ∷ []) others ∙ ap (λ (k : ℕ). first ++ Ended k nth ∷ others) same,
+  subst (λ (k : ℕ). AreTold k nth plan tries front first) same told,
+  behind,
+)
+
+-- the last one has ended
+pub told_last : (one caller nth : ℕ) (plan : Plan) (plans all : List Plan) (tries : ℕ) (front : Granted) (first qs : List Place) → one ≡ caller → all ≡ plan ∷ plans → qs ≡ first ++ Ended one nth ∷ []
+    → AreTold one nth plan tries front first → AreToldOf caller nth all 1 front qs
+told_last one caller nth plan plans all tries front first qs same is ended told =
+    subst (λ (x : Granted × List Place). AreToldOf caller nth all 1 x.0 x.1) (λ k. (append-nil front k, append-nil qs k))
+    (told_more one caller nth plan plans all tries 0 front [] first qs [] same is ended told (refl, refl))

@@ -1,0 +1,56 @@
+-- What a worker tells its gate.
+use Rattle.std.specs.Prelude.{ℕ, zero, suc, ◌≡◌, ◌+◌, if◌then◌else◌, IsFalse, List, [], ◌∷◌, ◌++◌}
+use Rattle.history.specs.Table.{Granted}
+use Rattle.history.specs.declared.call.Call.{Call}
+use Rattle.history.specs.declared.call.Call.TheVariants.{Begin, Offer}
+use Rattle.history.specs.declared.call.Reply.{Reply}
+use Rattle.caller_steps.specs.Fate.{is_refusal}
+use Rattle.caller_plans.specs.declared.plan.Plan.{Plan}
+use Rattle.caller_plans.specs.declared.plan.PlanEnd.{PlanEnd}
+use Rattle.caller_plans.specs.declared.plan.PlanEnd.TheVariants as end
+use Rattle.caller_work.specs.declared.gate.Place.{Place}
+use Rattle.caller_work.specs.declared.gate.Place.TheVariants.{Began, Answered, Offered, Ended}
+
+-- the last call that a caller was told of is this one, and it was granted
+abbrev pub HasGranted : Call → Granted → Type 0
+HasGranted call told = (before : Granted) × (reply : Reply) × (told ≡ before ++ (call, reply) ∷ []) × IsFalse (is_refusal reply)
+
+-- by this, a worker stands where its caller's transaction has just begun, or was just offered; else nothing is asked
+abbrev pub StandsAt : Place → Granted → Type 0
+StandsAt (Began caller nth) told = HasGranted Begin told
+StandsAt (Offered caller nth) told = HasGranted Offer told
+StandsAt _ told = Unit {0}
+
+-- each of these calls was answered, counted from one on
+abbrev pub answers : (caller nth call : ℕ) → Granted → List Place
+answers caller nth call [] = []
+answers caller nth call (entry ∷ told) = Answered caller nth call ∷ answers caller nth (call + 1) told
+
+-- what is told at the end of a plan: an offer that is not refused
+abbrev pub end_places : (caller nth : ℕ) → PlanEnd → Granted → List Place
+end_places caller nth end.Offer ((call, reply) ∷ told) = if is_refusal reply then [] else Offered caller nth ∷ []
+end_places caller nth ends told = []
+
+-- what is told of a plan's calls, counted from one on, up to the first that is refused, and of its end
+abbrev pub call_places : (caller nth call : ℕ) → List Call → PlanEnd → Granted → List Place
+call_places caller nth call [] ends told = end_places caller nth ends told
+call_places caller nth call (asked ∷ calls) ends [] = []
+call_places caller nth call (asked ∷ calls) ends ((made, reply) ∷ told) =
+    Answered caller nth call ∷ (if is_refusal reply then [] else call_places caller nth (call + 1) calls ends told)
+
+-- what is told of one try of a plan: nothing before its begin is granted
+abbrev pub try_places : (caller nth : ℕ) → Plan → Granted → List Place
+try_places caller nth plan [] = []
+try_places caller nth plan ((call, reply) ∷ told) = if is_refusal reply then [] else Began caller nth ∷ call_places caller nth 1 plan.calls plan.end told
+
+-- these places were told of so many tries of a plan, one after another
+abbrev pub AreTold : (caller nth : ℕ) → Plan → ℕ → Granted → List Place → Type 0
+AreTold caller nth plan zero told places = (told ≡ []) × (places ≡ [])
+AreTold caller nth plan (suc n) told places = (front : Granted) × (last : Granted) × (earlier : List Place) × (told ≡ front ++ last)
+    × (places ≡ earlier ++ try_places caller nth plan last) × AreTold caller nth plan n front earlier
+
+-- They were told of the first so many of these plans, each with its number: all of its tries, and then that it ended.
+abbrev pub AreToldOf : (caller nth : ℕ) → List Plan → ℕ → Granted → List Place → Type 0
+AreToldOf caller nth plans zero told places = (told ≡ []) × (places ≡ [])
+AreToldOf caller nth plans (suc n) told places = (plan : Plan) × (behind : List Plan) × (plans ≡ plan ∷ behind) × (tries : ℕ) × (front : Granted) × (back : Granted) × (first : List Place) × (others : List Place)
+    × (told ≡ front ++ back) × (places ≡ first ++ Ended caller nth ∷ others) × AreTold caller nth plan tries front first × AreToldOf caller (nth + 1) behind n back others
