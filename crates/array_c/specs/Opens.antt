@@ -21,9 +21,9 @@ pub record IsOpened (depth : ℕ) (bytes : List ℕ) (array : OpenArray) : Type 
   pub limit : array.store.late.queue.depth ≡ depth
   pub none_waits : deferred_of array.store.late ≡ 0
 
--- the bytes are not opened by this fault. The count of faults is free: that memory ran out in a write is a fault of this medium.
+-- The bytes are not opened by this fault. It is no fault of the medium, which is in memory: where memory ran out in a write, the status says that.
 abbrev pub HasFault : List ℕ → AttachFault → Type 0
-HasFault bytes fault = (faults : ℕ) × AttachCause true (view_of (fresh bytes)) faults fault
+HasFault bytes fault = AttachCause true (view_of (fresh bytes)) 0 fault
 
 -- why nothing is opened: the depth is too large, there was no memory, or the bytes are not to be opened
 abbrev pub IsUnopened : ℕ → List ℕ → ℤ → Type 0

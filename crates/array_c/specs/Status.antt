@@ -17,12 +17,12 @@ abbrev pub status_in : {T : Type 0} → Result T EawFault → ℤ
 status_in (Ok answer) = pos 0
 status_in (Err fault) = status_of fault
 
--- the status of an opening that failed
+-- the status of an opening that failed: where its medium did, memory ran out
 abbrev pub status_of_opening : AttachFault → ℤ
 status_of_opening opening.NotMars = pos 6
 status_of_opening (opening.BadShape bad) = pos 7
 status_of_opening (opening.BadRow logger row) = pos 8
-status_of_opening opening.Media = pos 3
+status_of_opening opening.Media = pos 5
 status_of_opening opening.NoMemory = pos 5
 
 -- there is no memory
@@ -32,6 +32,10 @@ no_memory = pos 5
 -- the array has no such number, or the number has no log
 abbrev pub unknown : ℤ
 unknown = pos 1
+
+-- there is no array of this shape, or it has another length
+abbrev pub bad_shape : ℤ
+bad_shape = pos 7
 
 -- more commits than 64 were to wait
 abbrev pub bad_depth : ℤ

@@ -1,14 +1,14 @@
 // Arrays in memory: how they are made, and how they are opened.
-ghost use Rattle.std.specs.Prelude.{◌≡◌, ◌≢◌, pos, IfOk, IfErr, OnOk, OnErr};
+ghost use Rattle.std.specs.Prelude.{◌≡◌, length, IfOk, IfErr, OnOk, OnErr};
 ghost use Rattle.pcm_media.specs.Replay.{at_rest};
 ghost use Rattle.eaw_device.specs.Made.{IsMade};
-ghost use Rattle.array_c.specs.Formats.{zeros};
+ghost use Rattle.array_c.specs.Formats.{zeros, IsUnmade};
 ghost use Rattle.array_c.specs.Opens.{IsOpened, IsUnopened};
 
 use crate::open_array::{OpenArray, TapedArray};
-use crate::status::{BAD_DEPTH, BAD_SHAPE, MEDIA, NO_MEMORY, opening_status};
+use crate::status::{BAD_DEPTH, BAD_SHAPE, NO_MEMORY, opening_status};
 use array_shape::Shape;
-use eaw_device::{FormatFault, PageSource, make};
+use eaw_device::{PageSource, make};
 use std::alloc::Global;
 use tape_media::TapeMedia;
 
@@ -32,16 +32,18 @@ impl PageSource for ZeroPages {
 pub fn make_zero(alloc: Global, bytes: &mut [u8], shape: &Shape) -> Result<(), i32>
     ensures made { OnOk result (IsMade shape.now zeros (at_rest bytes.new)) }
     ensures same { OnErr result (bytes.new ≡ bytes.old) }
-    ensures refused { IfErr result (λ status. status ≢ pos 0) }
+    ensures cause { IfErr result (IsUnmade shape.now (length bytes.old)) }
 {
+    if bytes.len() as u64 != shape.media_len() {
+        return Err(BAD_SHAPE);
+    }
     let Ok(mut media) = TapeMedia::new(alloc, bytes) else {
         return Err(NO_MEMORY);
     };
-    match make(&mut media, shape, &ZeroPages) {
-        Ok(()) => {}
-        Err(FormatFault::BadShape(_)) => return Err(BAD_SHAPE),
-        Err(FormatFault::Media) => return Err(MEDIA),
-    }
+    // Its length is right, and it is in memory: so that is what can run out.
+    let Ok(()) = make(&mut media, shape, &ZeroPages) else {
+        return Err(NO_MEMORY);
+    };
     bytes.copy_from_slice(media.bytes());
     Ok(())
 }

@@ -66,7 +66,7 @@ pub fn status_in(answer: &Result<(), EawFault>) -> i32
     }
 }
 
-/// The status of an opening that failed.
+/// The status of an opening that failed. Its medium is in memory, and had nothing to do: where it failed, memory ran out in a write.
 pub fn opening_status(fault: &AttachFault) -> i32
     ensures { result ≡ status_of_opening fault.now }
 {
@@ -74,7 +74,6 @@ pub fn opening_status(fault: &AttachFault) -> i32
         AttachFault::NotMars => NOT_MARS,
         AttachFault::BadShape(_) => BAD_SHAPE,
         AttachFault::BadRow { .. } => BAD_ROW,
-        AttachFault::Media => MEDIA,
-        AttachFault::NoMemory => NO_MEMORY,
+        AttachFault::Media | AttachFault::NoMemory => NO_MEMORY,
     }
 }

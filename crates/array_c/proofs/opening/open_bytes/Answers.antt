@@ -1,19 +1,19 @@
-use Rattle.std.proofs.Common.{inr, true, subst}
+use Rattle.std.proofs.Common.{true, sym, subst}
 use Rattle.tape_media.specs.Tape.{Tape, view_of}
 use Rattle.eaw_device.specs.Opens.{Attached, FindsData, KeepsData, AttachCause}
 use Rattle.array_c.specs.declared.open_array.OpenArray.{OpenArray}
 use Rattle.array_c.specs.Shown.{store_in}
-use Rattle.array_c.proofs.Outcomes.{fault_told}
+use Rattle.array_c.specs.Opens.{IsUnopened}
+use Rattle.array_c.proofs.Outcomes.{fault_told, why_unopened}
 use Rattle.array_c.proofs.opening.open_bytes.Goals as goal
 
 pub returns-in-Err-clause-cause : goal.returns-in-Err-clause-cause
 returns-in-Err-clause-cause c =
     let fault = c.in-Err.fault in
-    inr (inr (
-      fault,
-      rw c.opening_status.ensures (fault_told fault),
-      (c.in-Err.field-0-1.faults, subst (λ (tape : Tape). AttachCause true (view_of tape) c.in-Err.field-0-1.faults fault) c.in-Ok.ensures c.in-Err.ensures.cause),
-    ))
+    let faults = c.in-Err.field-0-1.faults in
+    let cause = subst (λ (tape : Tape). AttachCause true (view_of tape) faults fault) c.in-Ok.ensures c.in-Err.ensures.cause in
+    let why = why_unopened c.args.depth faults c.args.bytes.now fault cause in
+    rw c.opening_status.ensures (subst (IsUnopened c.args.depth c.args.bytes.now) (sym (fault_told fault)) why)
 
 pub returns-in-Ok-new-clause-opened : goal.returns-in-Ok-new-clause-opened
 returns-in-Ok-new-clause-opened c =
