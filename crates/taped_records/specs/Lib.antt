@@ -7,3 +7,5 @@ pub mod Opens
 pub mod Formats
 pub mod Long
 pub mod Cursor
+pub mod Making
+pub mod Remaking

@@ -1,8 +1,8 @@
 //! Records in transactions on an array in memory, whose tape of what is still to be done on the device the caller takes down. It computes, and
 //! makes no call of the system but for memory.
 //!
-//! Read first `records.rt`, then `calls.rt`, `seeking.rt`, `long_bytes.rt` and `reading.rt`, what an open array is asked, and `specs/Calls`, which says what a
-//! call does. Each answer is a number of `status.rt`, and what is told goes where the caller has room for it: so a library for other languages
+//! Read first `records.rt`, then `calls.rt`, `seeking.rt`, `long_bytes.rt`, `making.rt` and `reading.rt`, what an open array is asked, and `specs/Calls`, which
+//! says what a call does. Each answer is a number of `status.rt`, and what is told goes where the caller has room for it: so a library for other languages
 //! has only to keep the array (`mars_c`).
 #![tactic(auto)]
 
@@ -12,6 +12,7 @@ mod cursor;
 mod long_bytes;
 mod long_core;
 mod long_told;
+mod making;
 mod meanings;
 mod opening;
 mod putting;
@@ -22,6 +23,7 @@ mod seeking;
 mod sound;
 mod status;
 
+pub use making::{Made, Unmade, unmade_status};
 pub use meanings::text_of;
 pub use opening::{array_size, format_bytes};
 pub use putting::put_out;
