@@ -124,11 +124,11 @@ module _ (old : TapedRecords) (media : View) (down : IsPutDown old.core.records.
   holding names image o = record { bytes = o.bytes; opened = inl o.opened; sound = o.sound; named = o.named; shows = o.shows }
 
   module _ (name : List ℕ) (after : StoreView) (made : Result ℕ MakeFault) (makes : MakesTable true (Opens found.shape) tree name found after made) (defers : Bool) (last : View) (behind : IsBehind true defers after last)
-    (counts : (image : List ℕ) → MayLeave last.content image → last.left_since last.moment image) where
+      (counts : (image : List ℕ) → MayLeave last.content image → last.left_since last.moment image) where
     -- what is left now opens with tables of these names
     module _ (names : List (List ℕ)) (opens : (image : List ℕ) → after.left_since after.moment image → OpensNamed (Opens shape) tree image names (records_in old))
-      (is_one : (image : List ℕ) → OpensHolding shape names (records_in old) image → OpensMeanwhile name old image) (new : TapedRecords) (begins : OfData true last (λ (s : Shape) (b : List ℕ). Begins tree s b (core_in new)))
-      (time : KeepsRecords true last (core_in new).moment (core_in new).left_since) where
+        (is_one : (image : List ℕ) → OpensHolding shape names (records_in old) image → OpensMeanwhile name old image) (new : TapedRecords) (begins : OfData true last (λ (s : Shape) (b : List ℕ). Begins tree s b (core_in new)))
+        (time : KeepsRecords true last (core_in new).moment (core_in new).left_since) where
       named_now : (image : List ℕ) → MayLeave last.content image → OpensNamed (Opens shape) tree image names (records_in old)
       named_now image left = opens image (subst (λ (t : ℕ). after.left_since t image) behind.moment (behind.left last.moment image (counts image left)))
 
@@ -159,17 +159,17 @@ module _ (old : TapedRecords) (media : View) (down : IsPutDown old.core.records.
             leaves = λ t image le left.
                 ⊎_elim
                 (λ was. ⊎_elim
-                    (λ before. ⊎_elim (λ here. inl (down.left t image here)) (λ like. inr (inl (as_it_was image like))) (first.only t image (omega (arith, le, down.moment)) before))
-                    (λ one. inr (⊎_elim (λ same. inl (holding (tables_in old) image (as_named image same))) (λ more. inr (holding (tables_in old ++ name ∷ []) image (with_name name image more))) one))
-                    (making.only t image (omega (arith, le, down.moment, first.later)) (behind.left t image was)))
+                (λ before. ⊎_elim (λ here. inl (down.left t image here)) (λ like. inr (inl (as_it_was image like))) (first.only t image (omega (arith, le, down.moment)) before))
+                (λ one. inr (⊎_elim (λ same. inl (holding (tables_in old) image (as_named image same))) (λ more. inr (holding (tables_in old ++ name ∷ []) image (with_name name image more))) one))
+                (making.only t image (omega (arith, le, down.moment, first.later)) (behind.left t image was)))
                 (λ later. inr (is_one image (as_left image later)))
                 (opening.only t image (omega (arith, le, down.moment, first.later, making.later, behind.moment)) left);
           }
 
 -- the table was made
 module _ (old : TapedRecords) (media : View) (down : IsPutDown old.core.records.store.shape (core_in old) media) (found : StoreView) (finds : FindsData true media found) (keeps : KeepsData true media found.moment found.left_since) (name : List ℕ)
-  (after : StoreView) (defers : Bool) (last : View) (behind : IsBehind true defers after last) (counts : (image : List ℕ) → MayLeave last.content image → last.left_since last.moment image) (new : TapedRecords)
-  (begins : OfData true last (λ (s : Shape) (b : List ℕ). Begins tree s b (core_in new))) (time : KeepsRecords true last (core_in new).moment (core_in new).left_since) (callers : new.callers ≡ old.callers) (rows : new.rows ≡ old.rows) (may : MayMake name old) where
+    (after : StoreView) (defers : Bool) (last : View) (behind : IsBehind true defers after last) (counts : (image : List ℕ) → MayLeave last.content image → last.left_since last.moment image) (new : TapedRecords)
+    (begins : OfData true last (λ (s : Shape) (b : List ℕ). Begins tree s b (core_in new))) (time : KeepsRecords true last (core_in new).moment (core_in new).left_since) (callers : new.callers ≡ old.callers) (rows : new.rows ≡ old.rows) (may : MayMake name old) where
   pub has_table : (number : ℕ) → MakesTable true (Opens found.shape) tree name found after (Ok number) → taped.MakesTable name number old new
   has_table number makes =
       let opens = λ (image : List ℕ) (left : after.left_since after.moment image). with_name old media down found finds keeps name image (makes.now refl image left) in

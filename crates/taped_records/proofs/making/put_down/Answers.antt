@@ -15,6 +15,6 @@ returns-clause-down c =
     let alive = sym c.is_dead.ensures ∙ c.if-is_dead.false in
     let behind = c.into_media.ensures.behind in
     let opens : (image : List ℕ) → MayLeave (view_of media).content image → Opens s.shape image view.state.bytes =
-        λ image left. device.only_now true (view_of s.media) s.shape s.logs.items s.late s.is_dead image s.sound refl alive
-            (only_now s.media image (subst (λ (t : ℕ). LeftSince s.media t image) behind.moment (behind.left media.moment image (counts_now media media.moment image left)))) in
+    λ image left. device.only_now true (view_of s.media) s.shape s.logs.items s.late s.is_dead image s.sound refl alive
+    (only_now s.media image (subst (λ (t : ℕ). LeftSince s.media t image) behind.moment (behind.left media.moment image (counts_now media media.moment image left)))) in
     rw (← c.into_core.ensures) (rw (← c.into_store-store.ensures.store) (is_down view _ (view_of media) _ c.into_store-store.ensures.over alive behind opens))
