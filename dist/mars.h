@@ -162,6 +162,7 @@ void mars_text(int32_t status, uint8_t *room, size_t room_size, uint64_t *len);
 #include <fcntl.h>
 #include <stdlib.h>
 #include <sys/file.h>
+#include <sys/mman.h>
 #include <sys/stat.h>
 #include <unistd.h>
 
@@ -198,25 +199,54 @@ static inline int mars_sync_fd(int fd) {
     return done;
 }
 
-/* Does the next piece, which is this one. */
-static inline int mars_do_piece(mars_file *f, int32_t kind, uint64_t at, uint64_t len) {
-    uint8_t room[4096];
-    if (kind == MARS_BARRIER) return mars_sync_fd(f->fd);
-    for (uint64_t skip = 0; skip < len; skip += sizeof room) {
+/* Writes that lie side by side, which one call makes. They were taken down as done: a device may still lose a write before the next barrier, and the
+ * run is made before that. */
+typedef struct mars_run {
+    uint64_t at;
+    size_t len;
+    uint8_t bytes[4096];
+} mars_run;
+
+static inline int mars_end_run(int fd, mars_run *run) {
+    size_t len = run->len;
+    run->len = 0;
+    return mars_write_all(fd, run->bytes, len, run->at);
+}
+
+/* Does the next piece, a write: into the run, unless it lies elsewhere. */
+static inline int mars_do_write(mars_file *f, mars_run *run, uint64_t at, uint64_t len) {
+    for (uint64_t skip = 0; skip < len;) {
+        bool is_next = at + skip == run->at + run->len && run->len < sizeof run->bytes;
+        if (!is_next && mars_end_run(f->fd, run)) return -1;
+        if (!is_next) run->at = at + skip;
+        size_t room = sizeof run->bytes - run->len;
         uint64_t left = 0;
-        mars_piece_bytes(&f->m, skip, room, sizeof room, &left);
-        if (mars_write_all(f->fd, room, left < sizeof room ? (size_t)left : sizeof room, at + skip)) return -1;
+        mars_piece_bytes(&f->m, skip, run->bytes + run->len, room, &left);
+        size_t taken = left < room ? (size_t)left : room;
+        run->len += taken;
+        skip += taken;
     }
     return 0;
+}
+
+/* Does the next piece, which is this one. Where there is none, it ends the run. */
+static inline int mars_do_piece(mars_file *f, mars_run *run, int32_t kind, uint64_t at, uint64_t len) {
+    if (kind == MARS_WRITE) return mars_do_write(f, run, at, len);
+    if (mars_end_run(f->fd, run)) return -1;
+    return kind == MARS_BARRIER ? mars_sync_fd(f->fd) : 0;
 }
 
 /* Makes durable what was committed. After a failure nothing is tried again, since the system may have thrown away what it could not write: close, and
  * open anew. */
 static inline int32_t mars_sync(mars_file *f) {
+    mars_run run;
     uint64_t at = 0, len = 0;
-    int32_t kind;
-    while (!f->has_failed && (kind = mars_piece(&f->m, &at, &len)) != MARS_NOTHING) {
-        if (mars_do_piece(f, kind, at, len) == 0) {
+    int32_t kind = MARS_WRITE;
+    run.at = 0;
+    run.len = 0;
+    while (!f->has_failed && kind != MARS_NOTHING) {
+        kind = mars_piece(&f->m, &at, &len);
+        if (mars_do_piece(f, &run, kind, at, len) == 0) {
             mars_piece_done(&f->m);
         } else {
             int why = errno;
@@ -225,7 +255,8 @@ static inline int32_t mars_sync(mars_file *f) {
             errno = why;
         }
     }
-    return f->has_failed ? MARS_FILE : MARS_OK;
+    if (f->has_failed) return MARS_FILE;
+    return f->m.is_open ? MARS_OK : MARS_IS_CLOSED;
 }
 
 /* Makes a fresh array in a new file. If it is refused, there is no new file. The name is durable once its folder is synced, which is yours. */
@@ -246,15 +277,31 @@ static inline int32_t mars_make_file(const char *path, uint8_t loggers, uint8_t 
     return status;
 }
 
+/* The pages of the file themselves, so that an opening copies them once, straight into the library. They are all read here, where a fault is told:
+ * NULL, and then they are read as any file is. */
+static inline void *mars_map_all(int fd, size_t size) {
+#ifdef MADV_POPULATE_READ
+    void *bytes = size ? mmap(NULL, size, PROT_READ, MAP_PRIVATE, fd, 0) : MAP_FAILED;
+    if (bytes == MAP_FAILED) return NULL;
+    if (madvise(bytes, size, MADV_POPULATE_READ) == 0) return bytes;
+    munmap(bytes, size);
+#else
+    (void)fd, (void)size;
+#endif
+    return NULL;
+}
+
 static inline int32_t mars_read_file(mars_file *f, uint8_t callers) {
     struct stat is;
     if (flock(f->fd, LOCK_EX | LOCK_NB) || fstat(f->fd, &is)) return MARS_FILE;
     size_t size = (size_t)is.st_size;
-    uint8_t *bytes = (uint8_t *)malloc(size ? size : 1);
+    void *map = mars_map_all(f->fd, size);
+    uint8_t *bytes = map ? (uint8_t *)map : (uint8_t *)malloc(size ? size : 1);
     if (!bytes) return MARS_NO_MEMORY;
-    int32_t status = mars_read_all(f->fd, bytes, size) ? MARS_FILE : mars_open(&f->m, bytes, size, callers);
+    int32_t status = !map && mars_read_all(f->fd, bytes, size) ? MARS_FILE : mars_open(&f->m, bytes, size, callers);
     int why = errno;
-    free(bytes);
+    if (map) munmap(map, size);
+    else free(bytes);
     errno = why;
     return status;
 }
