@@ -133,6 +133,10 @@ int32_t mars_del_bytes(mars *m, uint8_t caller, const uint8_t *table, size_t tab
 /* How many there are, by one look-up. If there are none, len stays as it was. */
 int32_t mars_bytes_length(mars *m, uint8_t caller, const uint8_t *table, size_t table_len, uint64_t key, uint64_t *len);
 
+/* Makes a table of this name, without records, and tells its number. No caller has a transaction, else MARS_IN_USE; settle what was offered too, since a
+ * number that was not told is lost. The records begin anew, so that transactions are counted from 1 again. Take the tape down before it: after
+ * MARS_MEDIA and MARS_DEAD the mars is closed, and after MARS_NO_MEMORY it may be; a closed mars has no tape. */
+int32_t mars_make(mars *m, const uint8_t *table, size_t table_len, uint8_t *number);
 /* The name of a table by its number, from 0 on ("main" is 0); MARS_NO_TABLE if there is none. It is told as a value is by mars_get. */
 int32_t mars_table(mars *m, uint8_t number, uint8_t *room, size_t room_size, uint64_t *len);
 
