@@ -412,6 +412,14 @@ class Array:
             _check(status)
             names.append(room.raw[: size.value].decode("ascii"))
 
+    def make(self, table: str) -> int:
+        """Makes a table, without records, and returns its number. No caller has a transaction: they are counted from 1 again."""
+        name, number = _name(table), ctypes.c_uint8()
+        self.sync()
+        _check(_call().mars_make(self._mars, name, len(name), number))
+        self.sync()
+        return number.value
+
     def purge(self, caller: int = 0) -> int:
         """Takes the keys that have no record out of the index, and returns how many. The caller has no transaction."""
         keys = ctypes.c_uint64()
@@ -668,6 +676,7 @@ _CALLS: Dict[str, List[Any]] = {
     "settle": [_MARS, _U8, _OUT],
     "purge": [_MARS, _U8, _OUT],
     "table": [_MARS, _U8, _TEXT, _SIZE, _OUT],
+    "make": [_MARS, _TEXT, _SIZE, ctypes.POINTER(_U8)],
     "put_bytes": [*_AT_KEY, _TEXT, _SIZE],
     "get_bytes": [*_AT_KEY, _TEXT, _SIZE, _OUT],
     "del_bytes": _AT_KEY,

@@ -136,6 +136,13 @@ class Records(unittest.TestCase):
             work.back(save)
             self.assertEqual((save, work.get(1)), (1, b"a"))
 
+    def test_tables(self):
+        self.assertEqual(self.array.make("log"), 1)
+        self.assertEqual(self.array.tables(), ["main", "log"])
+        with self.array.transaction() as work:
+            work.put(1, b"a", "log")
+        self.assertEqual((self.rows(), self.rows(table="log")), ([], [(1, b"a")]))
+
     def test_a_group_is_committed_at_once(self):
         first, second = self.array.transaction(0), self.array.transaction(1)
         first.put(1, b"a")
@@ -221,6 +228,7 @@ class Statuses(unittest.TestCase):
             self.refused(mars.Status.BAD_NAME, work.get, 1, "é")
             self.refused(mars.Status.BAD_VALUE, work.put, 1, b"")
             self.refused(mars.Status.NO_SAVE, work.back, 1)
+            self.refused(mars.Status.IN_USE, array.make, "other")
             self.refused(mars.Status.ALREADY, array.purge)
             for _ in range(32):
                 work.save()
@@ -231,6 +239,11 @@ class Statuses(unittest.TestCase):
             self.refused(mars.Status.NO_TRANSACTION, other.get, 1)
             other.settle()
             self.refused(mars.Status.NO_TRANSACTION, other.settle)
+            self.refused(mars.Status.BAD_NAME, array.make, "Other")
+            self.refused(mars.Status.NAME_TAKEN, array.make, "main")
+            for letter in "abcdefg":
+                array.make(letter)
+            self.refused(mars.Status.TABLES_FULL, array.make, "h")
         self.refused(mars.Status.IS_CLOSED, array.transaction)
 
     def test_of_long_bytes(self):
@@ -245,6 +258,7 @@ class Statuses(unittest.TestCase):
 
     def test_of_a_full_array(self):
         with fresh(pages=4, callers=1, entries=8) as array:
+            self.refused(mars.Status.PAGES_FULL, array.make, "other")
             work = array.transaction()
             self.refused(mars.Status.LOG_FULL, lambda: [work.put(key, b"a") for key in itertools.count()])
             work.abort()

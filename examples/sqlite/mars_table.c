@@ -8,9 +8,9 @@
  *     insert into account values (5, 'abc');
  *     select * from account where key between 1 and 9;
  *
- * The first argument is a file; `create` makes it if there is none. The second is a table of the array, `main` if it is not given; others are made
- * by `mars FILE make NAME`. A value has 1 to 54 visible bytes. A key is a whole number from 0 on; keys from 2^63 on, which SQLite cannot say, are
- * not shown. `drop` leaves the records in the array.
+ * The first argument is a file; `create` makes it if there is none. The second is a table of the array, `main` if it is not given; `create` makes
+ * that too, outside of a transaction. A value has 1 to 54 visible bytes. A key is a whole number from 0 on; keys from 2^63 on, which SQLite cannot
+ * say, are not shown. `drop` leaves the records in the array.
  *
  * SQLite's transactions are those of MARS, and its savepoints are saves. All virtual tables that a connection has in one file share one array and
  * one transaction, so they change together. What is in other files, SQLite's own included, may be committed or not if power is lost between two.
@@ -76,11 +76,13 @@ typedef struct Cursor {
 static int code_of(int32_t status) {
     switch (status) {
     case MARS_OK: return SQLITE_OK;
-    case MARS_BUSY: return SQLITE_BUSY;
+    case MARS_BUSY:
+    case MARS_IN_USE: return SQLITE_BUSY;
     case MARS_SAVES_FULL:
     case MARS_LOG_FULL:
     case MARS_SLOTS_FULL:
-    case MARS_PAGES_FULL: return SQLITE_FULL;
+    case MARS_PAGES_FULL:
+    case MARS_TABLES_FULL: return SQLITE_FULL;
     case MARS_MEDIA:
     case MARS_DEAD:
     case MARS_FILE: return SQLITE_IOERR;
@@ -260,11 +262,16 @@ static bool has_table(mars *m, const uint8_t *name, size_t name_len) {
     return false;
 }
 
-static int32_t take_table(Table *t, const char *name) {
+static int32_t take_table(Table *t, const char *name, bool is_new) {
+    mars_file *file = &t->array->file;
+    uint8_t number;
     t->name_len = strlen(name);
     if (t->name_len > MOST_NAME) return MARS_BAD_NAME;
     memcpy(t->name, name, t->name_len);
-    return has_table(&t->array->file.m, t->name, t->name_len) ? MARS_OK : MARS_NO_TABLE;
+    if (has_table(&file->m, t->name, t->name_len)) return MARS_OK;
+    if (!is_new) return MARS_NO_TABLE;
+    int32_t status = mars_make(&file->m, t->name, t->name_len, &number);
+    return status == MARS_OK ? mars_sync(file) : status;
 }
 
 /* An argument without its quotes, for sqlite3_free. */
@@ -279,7 +286,7 @@ static char *unquoted(const char *word) {
 static int32_t take(Connection *c, int count, const char *const *words, bool is_new, Table *t) {
     char *path = unquoted(words[0]), *name = unquoted(count > 1 ? words[1] : "main");
     int32_t status = path && name ? take_array(c, path, is_new, &t->array) : MARS_NO_MEMORY;
-    if (status == MARS_OK) status = take_table(t, name);
+    if (status == MARS_OK) status = take_table(t, name, is_new);
     int why = errno;
     if (status != MARS_OK && t->array) give_array(c, t->array);
     sqlite3_free(path);

@@ -1,5 +1,4 @@
--- A tour of MARS tables in SQLite, of an array in bank.image that has the table payment. tour.out is what it shows, and tour.errors what it is
--- refused; tests/bindings compares them.
+-- A tour of MARS tables in SQLite. tour.out is what it shows, and tour.errors what it is refused; tests/bindings compares them.
 .load ./mars_table
 create virtual table account using mars('bank.image');
 create virtual table payment using mars('bank.image', 'payment');
@@ -90,7 +89,7 @@ insert into account with recursive n(i) as (select 1000 union all select i + 1 f
 select count(*) from account where key >= 1000;
 commit;
 
--- What is dropped here stays in the array. Where there is no file, an array is made.
+-- A table is in the array once it is made, outside of a transaction; what is dropped here stays there.
 drop table account;
 create virtual table again using mars("bank.image");
 select * from again;
@@ -98,7 +97,13 @@ create virtual table bad using mars('no/such/folder');
 create virtual table bad using mars('tour.sql');
 create virtual table bad using mars();
 create virtual table bad using mars('bank.image', 'Bad');
-create virtual table bad using mars('bank.image', 'none');
+begin;
+insert into payment values (400, 'kept');
+create virtual table bad using mars('bank.image', 'other');
+commit;
+create virtual table other using mars('bank.image', 'other');
+insert into other select * from payment;
+select * from other;
 create virtual table bad using mars('bank.image', 'main', 'more');
 create virtual table fresh using mars('fresh.image');
 insert into fresh values (1, 'one');

@@ -1,8 +1,10 @@
-/* both FILE write: records of two tables, `main` and `log`. both FILE read: each record, as `mars FILE dump` tells it. */
+/* both FILE write: records of two tables, `main` and `log`, which is made. both FILE read: each record, as `mars FILE dump` tells it. */
 #include "check.h"
 
 static void write_records(mars_file *f) {
     uint64_t n;
+    uint8_t number;
+    OK(mars_make(&f->m, TEXT("log"), &number));
     for (uint64_t c = 0; c < 40; c++) {
         OK(mars_begin(&f->m, 0));
         for (uint64_t i = 0; i < 8; i++) OK(put_number(&f->m, 0, c * 1000 + i * i, c * i));

@@ -1,7 +1,7 @@
 #!/usr/bin/env python3
 """Draws statements of SQL, and makes them on a MARS table and on one of SQLite: both have to show the same.
 
-    statements.py EXTENSION PROGRAM FOLDER [SEED [SCRIPTS]]
+    statements.py EXTENSION FOLDER [SEED [SCRIPTS]]
 
 Transactions, savepoints, conflicts and failures are among them. FOLDER is for the arrays. A script is made by the shell of SQLite in two runs, and
 the records are compared once more after it.
@@ -103,19 +103,10 @@ def parted(found, wanted):
 def words():
     parser = argparse.ArgumentParser(description=__doc__, formatter_class=argparse.RawDescriptionHelpFormatter)
     parser.add_argument("extension", type=Path)
-    parser.add_argument("program", type=Path)
     parser.add_argument("folder", type=Path)
     parser.add_argument("seed", type=int, nargs="?", default=1)
     parser.add_argument("scripts", type=int, nargs="?", default=40)
     return parser.parse_args()
-
-
-def fresh(program, image):
-    """An array with two tables."""
-    if image.exists():
-        image.unlink()
-    for words in (["format", "--loggers", "8", "--entries", "64"], ["make", "u"]):
-        subprocess.run([program, image, *words], check=True, stdout=subprocess.DEVNULL)
 
 
 def tables(way):
@@ -128,7 +119,8 @@ def main():
     own = tables(lambda name: f"create table {name}(key integer primary key, value text not null check ({CHECK}));")
     for number in range(said.seed, said.seed + said.scripts):
         text = Script(number).text(120)
-        fresh(said.program.resolve(), image)
+        if image.exists():
+            image.unlink()
         mars = tables(lambda name: f"create virtual table {name} using mars('{image.name}', '{'main' if name == 't' else name}');")
         found, wanted = shown(f".load {extension}\n{mars}", text, said.folder), shown(own, text, said.folder)
         if found != wanted:

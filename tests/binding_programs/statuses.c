@@ -123,13 +123,51 @@ static void groups(mars *m) {
 }
 
 static void tables(mars *m) {
-    uint8_t room[16];
-    uint64_t len;
+    uint8_t room[16], number = 99;
+    uint64_t len, key;
+    char name[] = "table";
     OK(mars_table(m, 0, room, 16, &len));
     HOLDS(len == 4 && memcmp(room, "main", 4) == 0);
-    OK(mars_table(m, 0, room, 3, &len));
-    IS(len, 4);
     IS(mars_table(m, 1, room, 16, &len), MARS_NO_TABLE);
+    IS(mars_make(m, TEXT("no good"), &number), MARS_BAD_NAME);
+    IS(mars_make(m, MAIN, &number), MARS_NAME_TAKEN);
+    OK(mars_begin(m, 3));
+    IS(mars_make(m, TEXT("other"), &number), MARS_IN_USE);
+    OK(mars_abort(m, 3));
+    IS(number, 99);
+    for (uint8_t n = 1; n < 8; n++) {
+        name[4] = (char)('a' + n);
+        OK(mars_make(m, TEXT(name), &number));
+        IS(number, n);
+    }
+    IS(mars_make(m, TEXT("other"), &number), MARS_TABLES_FULL);
+    OK(mars_table(m, 7, room, 3, &len));
+    HOLDS(len == 5 && memcmp(room, "tab", 3) == 0);
+    OK(mars_begin(m, 3));
+    OK(mars_put(m, 3, TEXT("tablb"), 9, TEXT("b")));
+    IS(mars_next(m, 3, TEXT("tablc"), 0, UINT64_MAX, &key, room, 16, &len), MARS_ABSENT);
+    OK(mars_next(m, 3, TEXT("tablb"), 0, UINT64_MAX, &key, room, 16, &len));
+    IS(key, 9);
+    OK(mars_commit(m, 3, &len));
+    IS(len, 1);
+}
+
+/* An array whose index has one page, which is the root of its table; and one whose device failed. */
+static void no_tables(void) {
+    uint64_t size;
+    uint8_t number, *bytes = fresh(&size, 1, 1, 8, 4);
+    mars m = MARS_CLOSED;
+    OK(mars_open(&m, bytes, size, 1));
+    IS(mars_make(&m, TEXT("other"), &number), MARS_PAGES_FULL);
+    IS(mars_make(&m, MAIN, &number), MARS_NAME_TAKEN);
+    mars_close(&m);
+    free(bytes);
+    bytes = fresh(&size, 1, 1, 8, 64);
+    OK(mars_open(&m, bytes, size, 1));
+    OK(mars_piece_failed(&m));
+    IS(mars_make(&m, TEXT("other"), &number), MARS_MEDIA);
+    IS(mars_make(&m, TEXT("other"), &number), MARS_IS_CLOSED);
+    free(bytes);
 }
 
 static void full(mars *m) {
@@ -189,7 +227,7 @@ static void spoilt(uint8_t *bytes, size_t size) {
 
 static void closed(void) {
     mars m = MARS_CLOSED;
-    uint8_t room[8];
+    uint8_t room[8], number;
     uint64_t n, key;
     IS(mars_begin(&m, 0), MARS_IS_CLOSED);
     IS(mars_get(&m, 0, MAIN, 1, room, 8, &n), MARS_IS_CLOSED);
@@ -206,6 +244,7 @@ static void closed(void) {
     IS(mars_settle(&m, 0, &n), MARS_IS_CLOSED);
     IS(mars_purge(&m, 0, &n), MARS_IS_CLOSED);
     IS(mars_table(&m, 0, room, 8, &n), MARS_IS_CLOSED);
+    IS(mars_make(&m, TEXT("other"), &number), MARS_IS_CLOSED);
     IS(mars_put_bytes(&m, 0, MAIN, 1, room, 0), MARS_IS_CLOSED);
     IS(mars_get_bytes(&m, 0, MAIN, 1, room, 8, &n), MARS_IS_CLOSED);
     IS(mars_del_bytes(&m, 0, MAIN, 1), MARS_IS_CLOSED);
@@ -267,6 +306,7 @@ int main(void) {
     mars m = MARS_CLOSED;
     openings(bytes, size);
     spoilt(bytes, size);
+    no_tables();
     closed();
     texts();
     OK(mars_open(&m, bytes, size, 8));

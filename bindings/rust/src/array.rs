@@ -115,6 +115,16 @@ impl<D: Device> Array<D> {
         Ok(Some(String::from_utf8_lossy(&room[..len as usize]).into_owned()))
     }
 
+    /// Makes a table, without records, and gives its number. No caller has a transaction: they are counted from 1 again.
+    pub fn make(&self, table: &str) -> Result<u8> {
+        let mut number = 0;
+        self.sync()?;
+        // SAFETY: the text has as many bytes as is said, and `number` may be written.
+        check(unsafe { raw::mars_make(self.mars(), table.as_ptr(), table.len(), &mut number) })?;
+        self.sync()?;
+        Ok(number)
+    }
+
     /// Takes the keys that have no record out of the index, and gives how many. The caller has no transaction.
     pub fn purge(&self, caller: u8) -> Result<u64> {
         let mut keys = 0;

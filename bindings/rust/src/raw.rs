@@ -34,6 +34,7 @@ extern "C" {
     pub fn mars_settle(m: *mut Mars, caller: u8, number: *mut u64) -> i32;
     pub fn mars_purge(m: *mut Mars, caller: u8, keys: *mut u64) -> i32;
     pub fn mars_table(m: *mut Mars, number: u8, room: *mut u8, room_size: usize, len: *mut u64) -> i32;
+    pub fn mars_make(m: *mut Mars, table: *const u8, table_len: usize, number: *mut u8) -> i32;
     pub fn mars_put_bytes(m: *mut Mars, caller: u8, table: *const u8, table_len: usize, key: u64, bytes: *const u8, size: usize) -> i32;
     pub fn mars_get_bytes(m: *mut Mars, caller: u8, table: *const u8, table_len: usize, key: u64, room: *mut u8, room_size: usize,
                           len: *mut u64) -> i32;

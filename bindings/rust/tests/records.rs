@@ -5,8 +5,8 @@ mod shared;
 use mars::{Array, Device, Shape, MAIN};
 use shared::fresh;
 
-fn keys<D: Device>(array: &Array<D>) -> Vec<u64> {
-    array.begin(0).unwrap().rows(MAIN, ..).unwrap().iter().map(|row| row.0).collect()
+fn keys<D: Device>(array: &Array<D>, table: &str) -> Vec<u64> {
+    array.begin(0).unwrap().rows(table, ..).unwrap().iter().map(|row| row.0).collect()
 }
 
 #[test]
@@ -26,7 +26,7 @@ fn a_transaction_is_there_once_it_is_committed() -> mars::Result<()> {
     work.put(MAIN, 7, b"dropped")?;
     drop(work);
     array.begin(0)?.abort();
-    assert_eq!(keys(&array), [5]);
+    assert_eq!(keys(&array, MAIN), [5]);
     Ok(())
 }
 
@@ -39,7 +39,7 @@ fn it_is_durable_once_it_is_synced() -> mars::Result<()> {
     assert!(array.done_up_to() < array.moment());
     array.sync()?;
     assert_eq!(array.done_up_to(), array.moment());
-    assert_eq!(keys(&Array::open(array.into_device(), 8)?), [5]);
+    assert_eq!(keys(&Array::open(array.into_device(), 8)?, MAIN), [5]);
     Ok(())
 }
 
@@ -96,14 +96,16 @@ fn saves() -> mars::Result<()> {
 }
 
 #[test]
-fn a_purge_makes_room() -> mars::Result<()> {
+fn tables_and_a_purge() -> mars::Result<()> {
     let array = fresh(Shape::default());
-    assert_eq!(array.tables()?, [MAIN]);
+    assert_eq!(array.make("log")?, 1);
+    assert_eq!(array.tables()?, [MAIN, "log"]);
     let mut work = array.begin(0)?;
-    work.put(MAIN, 1, b"a")?;
+    work.put("log", 1, b"a")?;
     work.commit()?;
+    assert_eq!((keys(&array, MAIN), keys(&array, "log")), (vec![], vec![1]));
     let mut work = array.begin(0)?;
-    work.delete(MAIN, 1)?;
+    work.delete("log", 1)?;
     work.commit()?;
     assert_eq!((array.purge(0)?, array.purge(0)?), (1, 0));
     Ok(())
@@ -120,7 +122,7 @@ fn a_group_is_committed_at_once() -> mars::Result<()> {
     assert_eq!(second.settle()?, 2);
     assert_eq!(first.settle()?, 1);
     drop(third);
-    assert_eq!(keys(&array), [1, 2, 3]);
+    assert_eq!(keys(&array, MAIN), [1, 2, 3]);
     Ok(())
 }
 

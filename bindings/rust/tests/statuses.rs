@@ -26,6 +26,7 @@ fn each_has_a_text() {
 #[test]
 fn of_calls() -> Result<()> {
     let array = fresh(Shape::default());
+    array.make("log")?;
     let (mut work, other) = (array.begin(0)?, array.begin(1)?);
     work.put(MAIN, 1, b"a")?;
     refused(array.begin(0), Status::Already);
@@ -35,6 +36,7 @@ fn of_calls() -> Result<()> {
     refused(work.get("Other", 1), Status::BadName);
     refused(work.put(MAIN, 1, b""), Status::BadValue);
     refused(work.rows("other", ..), Status::NoTable);
+    refused(array.make("other"), Status::InUse);
     refused(array.purge(0), Status::Already);
     let saves: Vec<_> = (0..32).map(|_| work.save().unwrap()).collect();
     refused(work.save(), Status::SavesFull);
@@ -42,6 +44,12 @@ fn of_calls() -> Result<()> {
     refused(work.back(saves[1]), Status::NoSave);
     work.abort();
     other.abort();
+    refused(array.make("Other"), Status::BadName);
+    refused(array.make("log"), Status::NameTaken);
+    for name in ["a", "b", "c", "d", "e", "f"] {
+        array.make(name)?;
+    }
+    refused(array.make("g"), Status::TablesFull);
     Ok(())
 }
 
@@ -61,6 +69,7 @@ fn of_long_bytes() -> Result<()> {
 #[test]
 fn of_a_full_array() -> Result<()> {
     let array = fresh(Shape { callers: 1, entries: 8, pages: 4, ..Shape::default() });
+    refused(array.make("other"), Status::PagesFull);
     let mut work = array.begin(0)?;
     refused((0..).try_for_each(|key| work.put(MAIN, key, b"a")), Status::LogFull);
     work.abort();
