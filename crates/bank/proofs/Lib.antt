@@ -1,3 +1,4 @@
 pub mod Sums
 pub mod Moving
 pub mod Paying
+pub mod Refusing

@@ -1,6 +1,6 @@
 -- What the calls of a payment come to, if each of them was granted.
-use Rattle.std.proofs.Common.{◌≡◌, ℕ, ◌+◌, ◌-◌, ◌^◌, ◌<◌, ◌≤◌, List, [], ◌∷◌, ◌++◌, Option, Some, unwrap_or, refl, sym, ◌∙◌, ap, Result, Ok, Err}
-use Rattle.std.specs.Prelude.{decimal, IfOk}
+use Rattle.std.proofs.Common.{◌≡◌, ℕ, ◌+◌, ◌-◌, ◌^◌, ◌<◌, ◌≤◌, List, [], ◌∷◌, ◌++◌, Option, Some, unwrap_or, refl, sym, ◌∙◌, ap}
+use Rattle.std.specs.Prelude.{decimal}
 use Rattle.std.specs.FinMap.{insert}
 use Rattle.history.specs.Key.{main_name, of_main}
 use Rattle.history.specs.Table.{Granted, left_by}
@@ -16,11 +16,7 @@ use Rattle.transactions.specs.Makes.{Holds}
 use Rattle.transactions.proofs.Reading.{read_is}
 use Rattle.bank.specs.Accounts.{Transfers}
 
-pub if_ok : {T E : Type 0} (P Q : T → Type 0) (result : Result T E) → ((answer : T) → P answer → Q answer) → IfOk result P → IfOk result Q
-if_ok P Q (Ok answer) f p = f answer p
-if_ok P Q (Err fault) f p = tt
-
-one_more : (caller : ℕ) (old new : CoreView) (calls : Granted) (call : Call) (reply : Reply) → old.state.live caller ≡ Some calls → Adds caller call reply old new → new.state.live caller ≡ Some (calls ++ (call, reply) ∷ [])
+pub one_more : (caller : ℕ) (old new : CoreView) (calls : Granted) (call : Call) (reply : Reply) → old.state.live caller ≡ Some calls → Adds caller call reply old new → new.state.live caller ≡ Some (calls ++ (call, reply) ∷ [])
 one_more caller old new calls call reply live adds = adds ∙ ap (λ (o : Option Granted). Some (unwrap_or o [] ++ (call, reply) ∷ [])) live
 
 pub paid_over : (caller from to amount paying paid less more : ℕ) (old first second third last : CoreView) → old.state.live caller ≡ Some [] → Stays caller old first → Stays caller old second

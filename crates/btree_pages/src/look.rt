@@ -34,7 +34,7 @@ use page_store::{LeafPage, NextPairs, PageFault, Pages, Sought};
 pub const WAY_MAX: u32 = LEVEL_MAX as u32 + 1;
 
 /// A page on the way to a key, and how many may be read from it on, as far as the leaf of the key.
-#[derive(Clone, Copy, Debug)]
+#[derive(Clone, Copy)]
 pub struct Start {
     pub page: u32,
     pub key: u64,
@@ -42,7 +42,7 @@ pub struct Start {
 }
 
 /// A leaf on the way to a key.
-#[derive(Clone, Copy, Debug)]
+#[derive(Clone, Copy)]
 pub struct Leaf {
     pub page: u32,
     pub count: u16,

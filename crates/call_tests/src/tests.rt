@@ -11,6 +11,7 @@ mod mirrors;
 mod opening;
 mod queues;
 mod reply_texts;
+mod resident;
 mod retries;
 mod samples;
 mod two_media;

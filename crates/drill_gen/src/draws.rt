@@ -3,7 +3,7 @@ ghost use Rattle.std.specs.Prelude.{◌≡◌, ◌<◌, ◌^◌, ◌+◌, ◌*�
 ghost use Rattle.drill_gen.specs.Draws.{draw};
 
 /// Continues from a number of 31 bits.
-#[derive(Clone, Copy, Debug)]
+#[derive(Clone, Copy)]
 pub struct Draws {
     pub x: u64,
 }

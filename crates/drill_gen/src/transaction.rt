@@ -21,7 +21,7 @@ const KEYS: u64 = 256;
 const ENDS: u64 = 8;
 
 /// Two puts and how the transaction ends.
-#[derive(Clone, Copy, Debug)]
+#[derive(Clone, Copy)]
 pub struct Transaction {
     pub first: Call,
     pub second: Call,

@@ -10,7 +10,7 @@ use array_shape::Shape;
 use eaw_device::PageSource;
 
 // What comes next of an image.
-#[derive(Clone, Copy, Debug, PartialEq, Eq)]
+#[derive(Clone, Copy)]
 pub enum Stage {
     Header,
     // The region of this logger. Behind the last there is none.

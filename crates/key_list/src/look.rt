@@ -51,7 +51,7 @@ pub fn read_page<S: EawStore>(
 }
 
 // A page of the chain on the way to a key, and how many pairs it has.
-#[derive(Clone, Copy, Debug)]
+#[derive(Clone, Copy)]
 struct Reached {
     page: u32,
     count: u16,
@@ -177,7 +177,7 @@ pub fn find<S: EawStore>(
 }
 
 // A page of the chain, and what its head says.
-#[derive(Clone, Copy, Debug)]
+#[derive(Clone, Copy)]
 pub struct KeyPage {
     pub page: u32,
     pub head: Head,

@@ -7,7 +7,7 @@ use mars_shell::{Status, room};
 use std::alloc::Global;
 
 /// The image of a run.
-#[derive(Clone, Copy, Debug, PartialEq, Eq)]
+#[derive(Clone, Copy)]
 pub enum Image<'a> {
     /// A fresh array in memory, which is lost at the end.
     Memory,

@@ -1,7 +1,7 @@
 // What a caller has offered.
 
 /// What a caller has offered and not settled.
-#[derive(Clone, Copy, Debug, PartialEq, Eq)]
+#[derive(Clone, Copy, PartialEq, Eq)]
 pub enum Offer {
     Nothing,
     /// Its live transaction, which takes no more calls.

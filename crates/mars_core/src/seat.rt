@@ -17,7 +17,7 @@ pub enum Seat<C> {
 }
 
 /// How a group ends: it is committed, or nobody knows whether it is, since the medium failed.
-#[derive(Clone, Copy, Debug, PartialEq, Eq)]
+#[derive(Clone, Copy)]
 pub enum Ending {
     Committed,
     Doubtful,

@@ -7,7 +7,7 @@ use history::{Call, Reply};
 use script_run::Stop;
 
 /// How many commits and aborts were done, how many calls found their keys locked, and how many found the array full.
-#[derive(Clone, Copy, Debug, PartialEq, Eq)]
+#[derive(Clone, Copy)]
 pub struct Tally {
     pub committed: u64,
     pub aborted: u64,

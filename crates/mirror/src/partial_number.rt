@@ -3,7 +3,7 @@ ghost use Rattle.std.specs.Prelude.{◌≡◌, ◌+◌, ◌-◌, ◌*◌, ◌≤
 ghost use Rattle.mirror.specs.Partial.{IsPartial};
 
 /// A number that comes byte by byte, the lowest first.
-#[derive(Clone, Copy, Debug)]
+#[derive(Clone, Copy)]
 pub(crate) struct PartialNumber {
     /// How many bytes are still to come.
     pub left: u8,

@@ -14,7 +14,7 @@ use array_shape::{LOGGERS_MAX, PAGE_LEN, Shape};
 pub(crate) const MARK: [u8; 4] = *b"MFR1";
 
 /// What the next byte of a frame belongs to.
-#[derive(Clone, Copy, Debug)]
+#[derive(Clone, Copy)]
 pub(crate) enum Place {
     Mark {
         taken: u8,

@@ -2,7 +2,7 @@
 ghost use Rattle.std.specs.Prelude.{◌≡◌, length};
 
 /// The groups of a frame that are still to come.
-#[derive(Clone, Copy, Debug)]
+#[derive(Clone, Copy)]
 pub(crate) struct Groups {
     pub count: u16,
     /// The least number that the next may have.
@@ -10,7 +10,7 @@ pub(crate) struct Groups {
 }
 
 /// The parts of a group that are still to come.
-#[derive(Clone, Copy, Debug)]
+#[derive(Clone, Copy)]
 pub(crate) struct Parts {
     pub count: u16,
     /// How many parts of the group each logger has.

@@ -7,7 +7,7 @@ use std::io;
 use std::io::ErrorKind;
 
 /// What comes of one call of a reader or a writer.
-#[derive(Clone, Copy, Debug, PartialEq, Eq)]
+#[derive(Clone, Copy)]
 pub(crate) enum Turn {
     /// It moved so many bytes.
     Done(usize),

@@ -2,7 +2,7 @@
 use std::mem::size_of;
 
 /// A call of a medium.
-#[derive(Clone, Copy, Debug, PartialEq, Eq)]
+#[derive(Clone, Copy)]
 pub enum Call {
     /// Some bytes were to be read.
     Read,
@@ -12,14 +12,14 @@ pub enum Call {
 }
 
 /// Where a write was to go.
-#[derive(Clone, Copy, Debug)]
+#[derive(Clone, Copy)]
 pub struct Place {
     pub at: u64,
     pub len: u64,
 }
 
 /// What came behind the calls of a mark that were done.
-#[derive(Clone, Copy, Debug)]
+#[derive(Clone, Copy)]
 pub enum End {
     /// The calls of the next mark.
     Open,
@@ -31,7 +31,7 @@ pub enum End {
 }
 
 /// Reads that were done, then writes that were, and what came behind them.
-#[derive(Clone, Copy, Debug)]
+#[derive(Clone, Copy)]
 pub struct Mark {
     pub reads: u8,
     pub writes: u8,

@@ -18,7 +18,7 @@ use record_slots::{Names, Super, has_tables, read_super, table_root};
 const PAGE_LEN: usize = 512;
 
 /// The roots of the indexes of tables, by the numbers of these.
-#[derive(Clone, Copy, Debug)]
+#[derive(Clone, Copy)]
 pub struct Roots {
     pub at: [u32; 8],
 }

@@ -34,7 +34,7 @@ pub struct Next {
 }
 
 /// Keys of a table, from one to another, and the root of its index.
-#[derive(Clone, Copy, Debug)]
+#[derive(Clone, Copy)]
 struct Span {
     table: u8,
     root: u32,

@@ -1,7 +1,7 @@
-//! A medium in memory below: what is read, moments, a write that fails, and what lies beyond the limit.
-use crate::ResidentMedia;
+// Reads from memory, over a medium in memory: what is read, moments, a write that fails, and what lies beyond the limit.
 use anyhow::{Result, bail, ensure};
 use pcm_media::{FusedMedia, Media, MemoryMedia};
+use resident_media::ResidentMedia;
 
 // Writes one byte at a place.
 fn put<M: Media>(media: &mut M, at: u64, byte: u8) -> Result<()> {
