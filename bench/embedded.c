@@ -1,9 +1,11 @@
-/* Work over mars.h on a file, for bench/embedded to time beside the same lines of `mars FILE run`.
+/* Work over mars.h on a file, or for `-` on an array in memory, for bench/embedded to time beside the same lines of `mars FILE run`, and for
+   bench/figures, which asks for its memory.
 
        embedded FILE put COUNT EACH   puts the keys 0 to COUNT - 1, so many in a transaction, each of which is synced
        embedded FILE get COUNT EACH   gets keys below COUNT in no order, COUNT times, so many in a transaction
        embedded FILE rows COUNT       reads the rows of keys up to COUNT
-       embedded FILE turns COUNT      makes COUNT transactions of one put of 1,000 keys, and tells the memory in KB after 10,000 and after all */
+       embedded FILE turns COUNT      makes COUNT transactions of one put of 1,000 keys, and tells the memory in KB at the opening, after 10,000
+                                      and after all */
 
 #include "mars.h"
 #include <inttypes.h>
@@ -23,6 +25,29 @@ static void must(int32_t status, const char *what)
     exit(1);
 }
 
+/* An array in memory is on no device: what is taken down is done. */
+static void sync_all(mars_file *f)
+{
+    uint64_t at, len;
+    if (f->fd >= 0)
+        must(mars_sync(f), "sync");
+    else
+        while (mars_piece(&f->m, &at, &len) != MARS_NOTHING)
+            mars_piece_done(&f->m);
+}
+
+static void open_memory(mars_file *f)
+{
+    mars_file closed = {MARS_CLOSED, -1, false};
+    uint64_t size = mars_size(4, 1, 16, 64);
+    uint8_t *bytes = calloc(1, (size_t)size);
+    must(bytes ? mars_format(bytes, (size_t)size, 4, 1, 16, 64) : MARS_NO_MEMORY, "format");
+    *f = closed;
+    must(mars_open(&f->m, bytes, (size_t)size, 1), "open");
+    free(bytes);
+    sync_all(f);
+}
+
 static void put(mars_file *f, uint64_t key, uint64_t number)
 {
     char value[32];
@@ -34,7 +59,7 @@ static void commit(mars_file *f)
 {
     uint64_t number;
     must(mars_commit(&f->m, 0, &number), "commit");
-    must(mars_sync(f), "sync");
+    sync_all(f);
 }
 
 static void puts_of(mars_file *f, uint64_t count, uint64_t each)
@@ -86,12 +111,14 @@ static long memory(const char *name)
 
 static void turns_of(mars_file *f, uint64_t count)
 {
-    for (uint64_t n = 0; n < count; n++) {
+    for (uint64_t n = 0;; n++) {
+        if (n == 0 || n == 10000 || n == count)
+            printf("%" PRIu64 " transactions: %ld KB, at most %ld KB\n", n, memory("VmRSS:"), memory("VmHWM:"));
+        if (n == count)
+            return;
         must(mars_begin(&f->m, 0), "begin");
         put(f, n % 1000, n);
         commit(f);
-        if (n + 1 == 10000 || n + 1 == count)
-            printf("%" PRIu64 " transactions: %ld KB, at most %ld KB\n", n + 1, memory("VmRSS:"), memory("VmHWM:"));
     }
 }
 
@@ -103,7 +130,10 @@ int main(int argc, char **argv)
         fprintf(stderr, "usage: embedded FILE put|get|rows|turns COUNT [EACH]\n");
         return 2;
     }
-    must(mars_open_file(&f, argv[1], 1), argv[1]);
+    if (strcmp(argv[1], "-") == 0)
+        open_memory(&f);
+    else
+        must(mars_open_file(&f, argv[1], 1), argv[1]);
     if (strcmp(argv[2], "put") == 0)
         puts_of(&f, count, each);
     else if (strcmp(argv[2], "get") == 0)

@@ -1,12 +1,15 @@
-"""Runs a program, and takes the time of the processor, the time by the clock, its answers and its peak of memory."""
+"""Runs a program, and takes the time of the processor, the time by the clock, its answers and its peak of memory; and makes those programs of C
+that stand over a library."""
 
 import os
 import resource
+import shutil
 import subprocess
 import sys
 import time
 from pathlib import Path
 
+TOP = Path(__file__).resolve().parent.parent
 POLL = 0.002
 WINDOW = 64
 
@@ -45,6 +48,14 @@ class Stamped:
     def mean_behind(self, first):
         """The mean wait of all transactions behind the first ones, which are so many."""
         return sum(self.waits) / (len(self.waits) + 1 - first)
+
+
+def compiled(name, crate, library, folder):
+    """The program that a source of bench/ makes over a library, with the header of the library's crate; `None` where it cannot be made."""
+    compiler, program = os.environ.get("CC", "cc"), f"{folder}/{name}"
+    flags = ["-std=c11", "-D_GNU_SOURCE", "-O2", f"-I{TOP}/crates/{crate}"]
+    words = [compiler, *flags, TOP / f"bench/{name}.c", library, "-o", program]
+    return program if shutil.which(compiler) and subprocess.run(words, check=False).returncode == 0 else None
 
 
 def spent():

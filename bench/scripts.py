@@ -1,5 +1,7 @@
 """The lines of scripts that are timed."""
 
+import random
+
 
 def value(number):
     return f"value{number:011}"
@@ -73,6 +75,19 @@ def stripes(callers, count):
     for number in range(count):
         caller = number % 64 * callers // 64
         lines += [f"{caller} begin", f"{caller} put {number % 64} {value(number)}", f"{caller} commit"]
+    return text(lines)
+
+
+def drawn(callers, count, share):
+    """So many transactions of ten calls on 64 keys that all callers share, drawn: so many of a hundred calls are puts, and the others gets."""
+    draw, lines = random.Random(0), []
+    for number in range(count):
+        caller = number % callers
+        lines.append(f"{caller} begin")
+        for _ in range(10):
+            key = draw.randrange(64)
+            lines.append(f"{caller} put {key} {value(number)}" if draw.randrange(100) < share else f"{caller} get {key}")
+        lines.append(f"{caller} commit")
     return text(lines)
 
 
