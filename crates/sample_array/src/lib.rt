@@ -1,21 +1,11 @@
-//! Sixteen bytes of an array that change together: after a loss of power all are new, or none is.
+//! Bytes of an array that change together, and a medium over a chip of which nothing is known.
 //!
-//! A sample to begin with, over any store of the array's commands. It has no law of its own: that both places change at once is what `does`
-//! says of `EawStore::commit`. Read the trait `eaw_face::EawStore` next.
+//! Samples to begin with. That both places change at once is what `does` says of `EawStore::commit`: read the trait `eaw_face::EawStore` behind
+//! `both.rt`. `flash.rt` is for drivers: read the trait `pcm_media::Media` behind it, and `pcm_media/specs/View` for the fields of a view.
 #![tactic(auto)]
 
-use eaw_face::{EawFault, EawStore};
+mod both;
+mod flash;
 
-/// Writes at two places as one transaction of number 0, which has none live.
-pub fn write_both<S: EawStore>(
-    store: &mut S,
-    one: &[u8; 8],
-    other: &[u8; 8],
-) -> Result<(), EawFault> {
-    store.log_write(0, 1024, one)?;
-    if let Err(fault) = store.log_write(0, 1536, other) {
-        let _ = store.abort(0);
-        return Err(fault);
-    }
-    store.commit(0)
-}
+pub use both::write_both;
+pub use flash::{Chip, Flash};

@@ -1,9 +1,5 @@
-//! A medium over a chip of which nothing is known: a sample for drivers.
-//!
-//! It tells nothing of its bytes (`tells` is false), so its contract needs no proof: what is left is the moment and the count of faults. Put the
-//! transfers of your device in the place of `Chip`. Read the trait `pcm_media::Media` next, and `pcm_media/specs/View` for the fields of a view.
-#![tactic(auto)]
-
+// A medium over a chip of which nothing is known. It tells nothing of its bytes (`tells` is false), so its contract needs no proof: what is
+// left is the moment and the count of faults. Put the transfers of your device in the place of `Chip`.
 ghost use Rattle.std.specs.Prelude.{◌≡◌};
 ghost use Rattle.mars_base.specs.Causes.{HasCause};
 ghost use Rattle.mars_base.specs.Moments.{Ticks};
