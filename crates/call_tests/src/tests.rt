@@ -2,7 +2,6 @@ mod accounts;
 mod arrays;
 mod counting;
 mod feeds;
-mod frames;
 mod histories;
 mod keeping;
 mod lists;
