@@ -1,5 +1,5 @@
-//! Tests of arrays on a medium in memory. Begin with `tests::losing`: power is lost at each call of a restore over another array.
-//! `tests::reading` reads restored tables and puts more into them. No clause says that these calls succeed at all.
+//! Tests of restores on a medium in memory: power is lost at each call of a restore over another array (`tests::losing`). That restored
+//! tables are read and take more, tests/restore tests on files. No clause says that these calls succeed at all.
 #![tactic(auto)]
 
 #[cfg(test)]

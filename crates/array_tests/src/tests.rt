@@ -1,3 +1,2 @@
 mod arrays;
 mod losing;
-mod reading;

@@ -1,15 +1,10 @@
 // Arrays in memory, and tables to be restored.
-ghost use Rattle.std.specs.Prelude.{◌<◌, IfSome, IsTrue};
-ghost use Rattle.caller_steps.specs.Sound.{IsSound};
-
 use array_shape::Shape;
 use btree_pages::BTreePages;
-use caller_steps::Core as Steps;
 use eaw_device::Eaw;
 use history::{Rows, Tables, main_table};
 use mars_core::Core;
 use noted::KeepsAll;
-use open_records::open;
 use pcm_media::{FusedMedia, Media, MemoryMedia};
 use record_slots::{Name, Value};
 use restoring::{RestoreFault, restore};
@@ -20,8 +15,8 @@ const CALLS: u64 = 256;
 
 const WRITTEN: u64 = 65_536;
 
-/// Pages of the index are filled, so that one pair more splits a leaf.
-pub const FULL: usize = 30;
+// Pages of the index are filled, so that one pair more splits a leaf.
+const FULL: usize = 30;
 
 /// All arrays of these tests lie on a medium of this one type, since all that stands on a medium is built once for each.
 pub type Lost = FusedMedia<MemoryMedia>;
@@ -37,20 +32,6 @@ pub fn whole(media: MemoryMedia) -> Lost {
 /// A medium with these bytes, none of whose calls has been made.
 pub fn media_of(alloc: Global, bytes: &[u8]) -> Option<MemoryMedia> {
     MemoryMedia::new(alloc, bytes, CALLS, WRITTEN).ok()
-}
-
-/// Opens the records of the array that the medium holds, for a caller. There are none where it holds no sound array, the medium fails, or
-/// memory is short.
-pub fn opened<M: Media + Drop>(alloc: Global, media: M) -> Option<Kept<M>>
-    ensures inside { IfSome result (λ core. 0 < (⟦<Kept<M> as Steps>⟧.view core).limits.callers) }
-    ensures sound { IfSome result (λ core. IsTrue M.tells → IsSound (⟦<Kept<M> as Steps>⟧.view core).state) }
-{
-    open(alloc, media, 1, 0).ok()
-}
-
-/// The medium of a core.
-pub fn closed<M: Media>(core: Kept<M>) -> M {
-    core.into_store().into_media()
 }
 
 /// Restores tables; each page of their index is full.
@@ -71,8 +52,8 @@ pub fn array_with(alloc: Global, shape: &Shape, byte: u8, tables: Tables) -> Opt
     Some(media)
 }
 
-/// A table beside `main`.
-pub fn others() -> Option<Name> {
+// A table beside `main`.
+fn others() -> Option<Name> {
     Name::of(b"others")
 }
 
