@@ -4,7 +4,6 @@ mod counting;
 mod feeds;
 mod histories;
 mod keeping;
-mod lists;
 mod members;
 mod mirrors;
 mod opening;
