@@ -1,5 +1,5 @@
 -- What a commit leaves, by what its step comes to.
-use Rattle.std.proofs.Common.{◌≡◌, ℕ, ◌+◌, Bool, true, false, nat_eq, inl, inr, List, [], ◌∷◌, ◌++◌, Option, Some, None, unwrap_or, refl, sym, ap, ◌∙◌}
+use Rattle.std.proofs.Common.{◌≡◌, ℕ, ◌+◌, Bool, true, false, inl, inr, List, [], ◌∷◌, ◌++◌, Option, Some, None, unwrap_or, refl, sym, ap, ◌∙◌}
 use Rattle.std.proofs.lemmas.Bool.{true≢false}
 use Rattle.std.proofs.lemmas.List.{append-nil}
 use Rattle.std.proofs.lemmas.Map.{update_here}
@@ -7,7 +7,7 @@ use Rattle.history.specs.Table.{Granted}
 use Rattle.history.specs.declared.call.Call.{Call}
 use Rattle.history.specs.declared.call.Call.TheVariants.{Commit}
 use Rattle.history.specs.declared.call.Reply.{Reply}
-use Rattle.history.specs.declared.call.Reply.TheVariants.{Committed, Media, Dead}
+use Rattle.history.specs.declared.call.Reply.TheVariants.{Media, Dead}
 use Rattle.history.specs.declared.transaction.Done.{Done}
 use Rattle.caller_steps.specs.Fate.{is_committed, is_media}
 use Rattle.caller_steps.specs.Sound.{IsSound}

@@ -7,13 +7,13 @@ use Rattle.std.proofs.lemmas.Map.{update_apart}
 use Rattle.history.specs.Key.{of_table}
 use Rattle.history.specs.Table.{Granted, Work, Answers, found, removed}
 use Rattle.history.specs.declared.call.Call.{Call}
-use Rattle.history.specs.declared.call.Call.TheVariants.{Begin, Get, Put, Del, Scan, Save, Back, Commit, Abort, Offer, Settle, Purge}
+use Rattle.history.specs.declared.call.Call.TheVariants.{Begin, Get, Put, Del, Scan, Save, Back, Commit, Abort, Offer, Settle}
 use Rattle.history.specs.declared.call.Reply.{Reply}
 use Rattle.history.specs.declared.call.Reply.TheVariants.{Fine, Found, Absent, Listed, Saved}
 use Rattle.caller_steps.specs.Fate.{is_media}
 use Rattle.caller_steps.specs.State.{State, unoffered}
 use Rattle.caller_steps.specs.Step.{Step}
-use Rattle.caller_steps.specs.Core.{CoreView, Continues, Steps}
+use Rattle.caller_steps.specs.Core.{CoreView, Continues}
 use Rattle.caller_steps.proofs.Fates.{Fate, refused, failed, began, granted, committed, doubted, aborted, given, settled, unsure, told, purged, step_fate}
 use Rattle.transactions.specs.Adds.{Stays}
 use Rattle.transactions.specs.Tries.{is_begin}
