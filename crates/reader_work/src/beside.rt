@@ -100,6 +100,7 @@ fn tie<R: Wait>(
             names: _names,
             keys: _keys,
             answers,
+            told: _told,
         } = worker;
         feed.learn(&mut reader);
         told.push_reserved(Answers::from(answers));
