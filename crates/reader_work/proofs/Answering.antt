@@ -119,7 +119,9 @@ reads_more reader at (suc nth) [] within = absurd (omega (arith, within))
 reads_more reader at zero (key ∷ keys) within = let e : at + 0 ≡ at = omega arith in ap (λ (n : ℕ). ReadBegan reader n ∷ []) e
 reads_more reader at (suc nth) (key ∷ keys) within =
     let e : at + suc nth ≡ at + 1 + nth = omega arith in
+    let on : suc nth + 1 ≡ suc (nth + 1) = omega arith in
     ap (λ (l : List Place). ReadBegan reader at ∷ l) (ap (λ (n : ℕ). read_places reader (at + 1) (take nth keys) ++ ReadBegan reader n ∷ []) e ∙ reads_more reader (at + 1) nth keys (omega (arith, within)))
+    ∙ ap (λ (n : ℕ). read_places reader at (take n (key ∷ keys))) (sym on)
 
 pub told_next : (reader nth : ℕ) (keys : List Key) (before : List Place) → nth < length keys
     → (before ++ read_places reader 1 (take nth keys)) ++ ReadBegan reader (nth + 1) ∷ [] ≡ before ++ read_places reader 1 (take (nth + 1) keys)

@@ -6,7 +6,6 @@ use Rattle.snapshot_readers.specs.Feeds.{read, read_base}
 use Rattle.snapshot_readers.proofs.Joining.{joined_prefix}
 use Rattle.history.specs.Answers.{IsAnswer, AreAnswers}
 use Rattle.history.specs.declared.answer.Answer.{Answer}
-use Rattle.caller_work.specs.declared.gate.Place.{Place}
 use Rattle.caller_work.specs.declared.gate.Place.TheVariants.{ReadBegan}
 use Rattle.reader_work.proofs.Answering.{next_of, told_next}
 use Rattle.reader_work.proofs.reading.read_keys.Goals as goal
@@ -29,7 +28,7 @@ loop-nth-preserved g c =
     let is = subst (λ (x : List (List ℕ) × Table × Key). IsAnswer x.0 x.1 (joined (read now)) (length (joined (read now))) x.2 answer) (λ j. (i.names j, same j, its j)) c.answer_for-answer.ensures.answer in
     record {
       number = i.number;
-      told = c.tell.ensures ∙ (λ k. i.told k ++ ReadBegan (i.number k) (nth + 1) ∷ []) ∙ told_next first.number nth first.keys first.told.places within;
+      told = c.tell.ensures.notes ∙ (λ k. i.told k ++ ReadBegan (i.number k) (nth + 1) ∷ []) ∙ told_next first.number nth first.keys first.told.places within;
       keys = i.keys;
       names = i.names;
       room = c.push_reserved.ensures.capacity ∙ i.room;
