@@ -1,6 +1,5 @@
 -- What a worker tells its gate, call by call.
-use Rattle.std.proofs.Common.{◌≡◌, ◌+◌, ℕ, suc, append_assoc, List, [], ◌∷◌, ◌++◌, length, inl, inr, true, false, arith, refl, sym, ap, ◌∙◌, subst}
-use Rattle.std.proofs.lemmas.List.{append-nil}
+use Rattle.std.proofs.Common.{◌≡◌, ◌+◌, ℕ, suc, List, [], ◌∷◌, ◌++◌, length, Option, Some, None, Result, Ok, Err, inl, inr, true, false, arith, refl, sym, ap, ◌∙◌, subst}
 use Rattle.std.specs.Prelude.{Bool, not, if◌then◌else◌}
 use Rattle.history.specs.Table.{Granted}
 use Rattle.history.specs.declared.call.Call.{Call}
@@ -12,10 +11,13 @@ use Rattle.caller_steps.specs.Fate.{is_refusal, is_busy}
 use Rattle.caller_plans.specs.declared.plan.Plan.{Plan}
 use Rattle.caller_plans.specs.declared.plan.PlanEnd.{PlanEnd}
 use Rattle.caller_plans.specs.declared.plan.PlanEnd.TheVariants as end
+use Rattle.caller_plans.specs.declared.fate.Fate.{Fate}
+use Rattle.caller_work.specs.declared.tries.Tries.{Tries}
+use Rattle.caller_work.specs.Tries.{IsTry}
 use Rattle.caller_work.specs.declared.gate.Place.{Place}
-use Rattle.caller_work.specs.declared.gate.Place.TheVariants.{Began, Answered, Ended}
+use Rattle.caller_work.specs.declared.gate.Place.TheVariants.{Began, Answered}
 use Rattle.caller_work.specs.Standing.{AreGranted, IsRefused}
-use Rattle.caller_work.specs.Telling.{HasGranted, answers, end_places, call_places, try_places, AreTold, AreToldOf}
+use Rattle.caller_work.specs.Telling.{HasGranted, answers, end_places, call_places, try_places, AreTold, IsHeard, AreHeard}
 use Rattle.caller_work.proofs.TriesLemmas.{pick_true, pick_false}
 
 free_step : (reply : Reply) → is_refusal reply ≡ false → is_busy reply ≡ false
@@ -78,30 +80,23 @@ module _ (caller nth : ℕ) where
   end_none end.Unended told other = refl
 
   -- one more try
-  pub told_once_more : (plan : Plan) (n : ℕ) (front last : Granted) (ps qs : List Place) → AreTold caller nth plan n front ps → qs ≡ try_places caller nth plan last → AreTold caller nth plan (suc n) (front ++ last) (ps ++ qs)
-  told_once_more plan n front last ps qs before is = (front, last, ps, refl, ap (λ (l : List Place). ps ++ l) is, before)
+  pub told_once_more : (plan : Plan) (n : ℕ) (front last : Granted) (made : Result Fate Reply) (ps qs : List Place) → AreTold caller nth plan n front ps → IsTry plan last made → qs ≡ try_places caller nth plan last
+      → AreTold caller nth plan (suc n) (front ++ last) (ps ++ qs)
+  told_once_more plan n front last made ps qs before one is = (front, last, made, ps, refl, one, ap (λ (l : List Place). ps ++ l) is, before)
 
--- a plan has ended, and others follow
-pub told_more : (one caller nth : ℕ) (plan : Plan) (plans all : List Plan) (tries n : ℕ) (front back : Granted) (first qs others : List Place) → one ≡ caller → all ≡ plan ∷ plans → qs ≡ first ++ Ended one nth ∷ []
-    → AreTold one nth plan tries front first → AreToldOf caller (nth + 1) plans n back others → AreToldOf caller nth all (suc n) (front ++ back) (qs ++ others)
-told_more one caller nth plan plans all tries n front back first qs others same is ended told behind = (
-  plan,
-  plans,
-  is,
-  tries,
-  front,
-  back,
-  first,
-  others,
-  refl,
-  ap (λ (l : List Place). l ++ others) ended ∙ append_assoc first (Ended one nth ∷ []) others ∙ ap (λ (k : ℕ). first ++ Ended k nth ∷ others) same,
-  subst (λ (k : ℕ). AreTold k nth plan tries front first) same told,
-  behind,
-)
+module _ (one caller nth : ℕ) (tries : Tries) (plan : Plan) (plans all : List Plan) where
+  -- a plan has ended, and others follow
+  pub heard_more : (front back : Granted) (fate : Fate) (fates : List Fate) (stopped : Option Reply) (first others : List Place) → one ≡ caller → all ≡ plan ∷ plans
+      → IsHeard one nth tries plan front (Ok fate) first → AreHeard caller (nth + 1) tries plans back fates stopped others → AreHeard caller nth tries all (front ++ back) (fate ∷ fates) stopped (first ++ others)
+  heard_more front back fate fates stopped first others same is its behind =
+      subst (λ (l : List Plan). AreHeard caller nth tries l (front ++ back) (fate ∷ fates) stopped (first ++ others)) (sym is)
+      (front, back, first, others, refl, refl, subst (λ (k : ℕ). IsHeard k nth tries plan front (Ok fate) first) same its, behind)
 
--- the last one has ended
-pub told_last : (one caller nth : ℕ) (plan : Plan) (plans all : List Plan) (tries : ℕ) (front : Granted) (first qs : List Place) → one ≡ caller → all ≡ plan ∷ plans → qs ≡ first ++ Ended one nth ∷ []
-    → AreTold one nth plan tries front first → AreToldOf caller nth all 1 front qs
-told_last one caller nth plan plans all tries front first qs same is ended told =
-    subst (λ (x : Granted × List Place). AreToldOf caller nth all 1 x.0 x.1) (λ k. (append-nil front k, append-nil qs k))
-    (told_more one caller nth plan plans all tries 0 front [] first qs [] same is ended told (refl, refl))
+  -- the worker was stopped in it
+  pub heard_stopped : (told : Granted) (reply : Reply) (places : List Place) → one ≡ caller → all ≡ plan ∷ plans → IsHeard one nth tries plan told (Err reply) places → AreHeard caller nth tries all told [] (Some reply) places
+  heard_stopped told reply places same is its =
+      subst (λ (l : List Plan). AreHeard caller nth tries l told [] (Some reply) places) (sym is) (reply, refl, subst (λ (k : ℕ). IsHeard k nth tries plan told (Err reply) places) same its)
+
+-- none is left
+pub heard_none : (caller nth : ℕ) (tries : Tries) (all : List Plan) → all ≡ [] → AreHeard caller nth tries all [] [] None []
+heard_none caller nth tries all is = subst (λ (l : List Plan). AreHeard caller nth tries l [] [] None []) (sym is) (refl, refl)

@@ -1,5 +1,5 @@
 -- What a worker tells its gate.
-use Rattle.std.specs.Prelude.{ℕ, zero, suc, ◌≡◌, ◌+◌, if◌then◌else◌, IsFalse, List, [], ◌∷◌, ◌++◌}
+use Rattle.std.specs.Prelude.{ℕ, zero, suc, ◌≡◌, ◌+◌, if◌then◌else◌, IsFalse, List, [], ◌∷◌, ◌++◌, Option, Some, Result, Ok, Err}
 use Rattle.history.specs.Table.{Granted}
 use Rattle.history.specs.declared.call.Call.{Call}
 use Rattle.history.specs.declared.call.Call.TheVariants.{Begin, Offer}
@@ -8,6 +8,9 @@ use Rattle.caller_steps.specs.Fate.{is_refusal}
 use Rattle.caller_plans.specs.declared.plan.Plan.{Plan}
 use Rattle.caller_plans.specs.declared.plan.PlanEnd.{PlanEnd}
 use Rattle.caller_plans.specs.declared.plan.PlanEnd.TheVariants as end
+use Rattle.caller_plans.specs.declared.fate.Fate.{Fate}
+use Rattle.caller_work.specs.declared.tries.Tries.{Tries}
+use Rattle.caller_work.specs.Tries.{IsTry, IsMade}
 use Rattle.caller_work.specs.declared.gate.Place.{Place}
 use Rattle.caller_work.specs.declared.gate.Place.TheVariants.{Began, Answered, Offered, Ended}
 
@@ -46,11 +49,18 @@ try_places caller nth plan ((call, reply) ∷ told) = if is_refusal reply then [
 -- these places were told of so many tries of a plan, one after another
 abbrev pub AreTold : (caller nth : ℕ) → Plan → ℕ → Granted → List Place → Type 0
 AreTold caller nth plan zero told places = (told ≡ []) × (places ≡ [])
-AreTold caller nth plan (suc n) told places = (front : Granted) × (last : Granted) × (earlier : List Place) × (told ≡ front ++ last)
-    × (places ≡ earlier ++ try_places caller nth plan last) × AreTold caller nth plan n front earlier
+AreTold caller nth plan (suc n) told places = (front : Granted) × (last : Granted) × (made : Result Fate Reply) × (earlier : List Place) × (told ≡ front ++ last)
+    × IsTry plan last made × (places ≡ earlier ++ try_places caller nth plan last) × AreTold caller nth plan n front earlier
 
--- They were told of the first so many of these plans, each with its number: all of its tries, and then that it ended.
-abbrev pub AreToldOf : (caller nth : ℕ) → List Plan → ℕ → Granted → List Place → Type 0
-AreToldOf caller nth plans zero told places = (told ≡ []) × (places ≡ [])
-AreToldOf caller nth plans (suc n) told places = (plan : Plan) × (behind : List Plan) × (plans ≡ plan ∷ behind) × (tries : ℕ) × (front : Granted) × (back : Granted) × (first : List Place) × (others : List Place)
-    × (told ≡ front ++ back) × (places ≡ first ++ Ended caller nth ∷ others) × AreTold caller nth plan tries front first × AreToldOf caller (nth + 1) behind n back others
+-- a plan was made, and this was told of it: all of its tries, and then that it ended
+abbrev pub IsHeard : (caller nth : ℕ) → Tries → Plan → Granted → Result Fate Reply → List Place → Type 0
+IsHeard caller nth tries plan told made places = IsMade tries plan told made × (n : ℕ) × (first : List Place) × AreTold caller nth plan n told first × (places ≡ first ++ Ended caller nth ∷ [])
+
+-- The plans were made one after another, with these fates of the first ones and perhaps a stop in the next. Each that was taken up was told of
+-- with its number.
+abbrev pub AreHeard : (caller nth : ℕ) → Tries → List Plan → Granted → List Fate → Option Reply → List Place → Type 0
+AreHeard caller nth tries [] told [] stopped places = (told ≡ []) × (places ≡ [])
+AreHeard caller nth tries [] told (fate ∷ fates) stopped places = ⊥
+AreHeard caller nth tries (plan ∷ plans) told [] stopped places = (reply : Reply) × (stopped ≡ Some reply) × IsHeard caller nth tries plan told (Err reply) places
+AreHeard caller nth tries (plan ∷ plans) told (fate ∷ fates) stopped places = (front : Granted) × (back : Granted) × (first : List Place) × (others : List Place)
+    × (told ≡ front ++ back) × (places ≡ first ++ others) × IsHeard caller nth tries plan front (Ok fate) first × AreHeard caller (nth + 1) tries plans back fates stopped others

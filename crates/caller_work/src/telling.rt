@@ -39,20 +39,28 @@ impl PlaceNotes {
     }
 }
 
-/// Tells a gate where a worker stands, whatever its caller was told before.
-pub fn tell<G: Gate>(gate: &G, told: &mut PlaceNotes, place: Place)
-    requires { StandsAt place [] }
-    ensures { told.new.places ≡ told.old.places ++ place ∷ [] }
+fn tell_and_note<G: Gate>(gate: &G, told: &mut PlaceNotes, place: Place)
+    ensures notes { told.new.places ≡ told.old.places ++ place ∷ [] }
+    ensures told { G.told gate.now place }
 {
     gate.at(place);
     *told = told.then(&place);
 }
 
+/// Tells a gate where a worker stands, whatever its caller was told before.
+pub fn tell<G: Gate>(gate: &G, told: &mut PlaceNotes, place: Place)
+    requires { StandsAt place [] }
+    ensures notes { told.new.places ≡ told.old.places ++ place ∷ [] }
+    ensures told { G.told gate.now place }
+{
+    tell_and_note(gate, told, place);
+}
+
 /// Tells a gate where a worker stands, by what its caller was told last.
 pub fn tell_granted<G: Gate, C>(gate: &G, told: &mut PlaceNotes, place: Place, _pass: &Pass<C>)
     requires { StandsAt place (told_of _pass.now.known) }
-    ensures { told.new.places ≡ told.old.places ++ place ∷ [] }
+    ensures notes { told.new.places ≡ told.old.places ++ place ∷ [] }
+    ensures told { G.told gate.now place }
 {
-    gate.at(place);
-    *told = told.then(&place);
+    tell_and_note(gate, told, place);
 }

@@ -1,5 +1,5 @@
 -- The answers of a reader, one after another.
-use Rattle.std.proofs.Common.{◌≡◌, ℕ, zero, suc, ◌+◌, ◌<◌, ◌≤◌, List, [], ◌∷◌, ◌++◌, length, take, drop, get_or, refl, sym, ap, ◌∙◌, subst, arith, length-append}
+use Rattle.std.proofs.Common.{◌≡◌, ℕ, zero, suc, ◌+◌, ◌<◌, ◌≤◌, List, [], ◌∷◌, ◌++◌, length, take, drop, get_or, refl, sym, ap, ◌∙◌, subst, arith, length-append, append_assoc}
 use Rattle.std.specs.FinMap.{get}
 use mathlib.Core.List.{IsPrefix}
 use Rattle.history.specs.declared.key.Key.{Key}
@@ -17,7 +17,9 @@ use Rattle.snapshot_readers.specs.Feeds.{read, read_base}
 use Rattle.snapshot_readers.proofs.Joining.{joined_prefix}
 use Rattle.snapshot_readers.proofs.Prefixes.{prefix_trans}
 use Rattle.history.specs.Answers.{IsAnswer, come_to, AreAnswers, AllAnswer}
-use Rattle.reader_work.specs.Reading.{HasRead}
+use Rattle.caller_work.specs.declared.gate.Place.{Place}
+use Rattle.caller_work.specs.declared.gate.Place.TheVariants.{ReadBegan}
+use Rattle.reader_work.specs.Reading.{HasRead, read_places}
 use Rattle.reader_work.specs.Readership.{keys_of, answers_of, IsReady}
 use Rattle.history.specs.declared.answer.Answer.{Answer}
 use Rattle.history.specs.declared.answer.Answer.TheVariants.{Value, NoTable}
@@ -109,3 +111,21 @@ answer_longer names base seen longer [] [] front all = tt
 answer_longer names base seen longer [] (one ∷ told) front all = absurd all
 answer_longer names base seen longer (keys ∷ asks) [] front all = absurd all
 answer_longer names base seen longer (keys ∷ asks) (one ∷ told) front all = (all_longer names base seen longer 0 keys one front all.0, answer_longer names base seen longer asks told front all.1)
+
+-- the gate is told of one key more
+reads_more : (reader at nth : ℕ) (keys : List Key) → nth < length keys → read_places reader at (take nth keys) ++ ReadBegan reader (at + nth) ∷ [] ≡ read_places reader at (take (nth + 1) keys)
+reads_more reader at zero [] within = absurd (omega (arith, within))
+reads_more reader at (suc nth) [] within = absurd (omega (arith, within))
+reads_more reader at zero (key ∷ keys) within = let e : at + 0 ≡ at = omega arith in ap (λ (n : ℕ). ReadBegan reader n ∷ []) e
+reads_more reader at (suc nth) (key ∷ keys) within =
+    let e : at + suc nth ≡ at + 1 + nth = omega arith in
+    let on : suc nth + 1 ≡ suc (nth + 1) = omega arith in
+    ap (λ (l : List Place). ReadBegan reader at ∷ l) (ap (λ (n : ℕ). read_places reader (at + 1) (take nth keys) ++ ReadBegan reader n ∷ []) e ∙ reads_more reader (at + 1) nth keys (omega (arith, within)))
+    ∙ ap (λ (n : ℕ). read_places reader at (take n (key ∷ keys))) (sym on)
+
+pub told_next : (reader nth : ℕ) (keys : List Key) (before : List Place) → nth < length keys
+    → (before ++ read_places reader 1 (take nth keys)) ++ ReadBegan reader (nth + 1) ∷ [] ≡ before ++ read_places reader 1 (take (nth + 1) keys)
+told_next reader nth keys before within =
+    let e : nth + 1 ≡ 1 + nth = omega arith in
+    append_assoc before (read_places reader 1 (take nth keys)) (ReadBegan reader (nth + 1) ∷ [])
+    ∙ ap (λ (l : List Place). before ++ l) (ap (λ (n : ℕ). read_places reader 1 (take nth keys) ++ ReadBegan reader n ∷ []) e ∙ reads_more reader 1 nth keys within)

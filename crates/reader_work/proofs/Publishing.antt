@@ -1,11 +1,16 @@
 -- What a feed has published of what its pass has seen.
-use Rattle.std.proofs.Common.{◌≡◌, List, [], ◌∷◌, ◌++◌, length, drop, refl, sym, ap, ◌∙◌, subst, inl, inr}
-use Rattle.std.specs.Prelude.{◌⊎◌, Result, Ok, Err, IfOk, OnErr}
+use Rattle.std.proofs.Common.{◌≡◌, ℕ, ◌+◌, List, [], ◌∷◌, ◌++◌, length, drop, refl, sym, ap, ◌∙◌, subst, arith, inl, inr}
+use Rattle.std.specs.Prelude.{◌⊎◌, Bool, Result, Ok, Err, IfOk, OnErr}
 use Rattle.mars_base.specs.declared.NoMemory.{NoMemory}
 use Rattle.snapshot_readers.specs.Feeds.{told}
 use Rattle.snapshot_readers.specs.declared.feed.Receipt.{Receipt}
+use Rattle.caller_steps.specs.Core.{CoreView}
 use Rattle.caller_steps.specs.Prefix.{Grows}
 use Rattle.history.specs.declared.transaction.Done.{Done}
+use Rattle.mars_manager.specs.declared.view.Known.{Known}
+use Rattle.mars_manager.specs.Pass.{finds}
+use Rattle.mars_manager.specs.Sharing.{Reads}
+use Rattle.reader_work.specs.News.{HadTurn}
 use Rattle.snapshot_readers.specs.Batches.{Batch, joined, with_batch}
 use Rattle.snapshot_readers.proofs.Joining.{joined-more}
 
@@ -44,3 +49,19 @@ pub fed_after : (r : Result Receipt NoMemory) (was now : List Batch) (seen news 
     → IfOk r (λ receipt. (told receipt ≡ with_batch was news) × P receipt × (now ≡ told receipt) × Q receipt) → OnErr r (R × ((now ≡ was) ⊎ (now ≡ with_batch was news))) → joined now ++ drop (length (joined now)) seen ≡ seen
 fed_after (Ok receipt) was now seen news P Q R behind is ok err = whole now seen (all_fed was now seen news behind is (ok.2 ∙ ok.0))
 fed_after (Err none) was now seen news P Q R behind is ok err = some_fed was now seen news behind is err.1
+
+module _ {C : Type 0} where
+  -- a pass that has tried for its turn in vain
+  abbrev pub IsInVain : Known C → Known C → Type 0
+  IsInVain was now = (found : ℕ) × (vain : ℕ) × (now ≡ record was { found = found; tries = was.tries + vain })
+
+  pub not_tried : (was : Known C) → IsInVain was was
+  not_tried was = let none : was.tries ≡ was.tries + 0 = omega arith in (was.found, 0, ap (λ (n : ℕ). record was { tries = n }) none)
+
+  pub tried_once_more : (was now next : Known C) (n : ℕ) → IsInVain was now → next ≡ finds n now → IsInVain was next
+  tried_once_more was now next n (found, vain, is) again =
+      let more : was.tries + vain + 1 ≡ was.tries + (vain + 1) = omega arith in
+      (n, vain + 1, again ∙ ap (λ (k : Known C). finds n k) is ∙ ap (λ (m : ℕ). record was { found = n; tries = m }) more)
+
+  pub had_turn : (tells : Bool) (show : C → CoreView) (was now next : Known C) → IsInVain was now → Reads tells show now next → HadTurn tells show was next
+  had_turn tells show was now next (found, vain, is) reads = (found, vain, subst (λ (k : Known C). Reads tells show k next) is reads)

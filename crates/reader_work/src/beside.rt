@@ -16,7 +16,7 @@ ghost use Rattle.history.specs.Answers.{AllAnswer};
 ghost use Rattle.reader_work.specs.Readership.{keys_of, answers_of, plans_of, asks_with, passes_for, IsReady, IsOpen, IsOpenWith};
 ghost use Rattle.reader_work.specs.Reading.{CanRead, HasRead};
 
-use crate::feeding::Feeding;
+use crate::feeding::{Feeding, SharedNews};
 use crate::news::{Board, News};
 use crate::readership::Readership;
 use crate::reading::{ReadWorker, read_keys};
@@ -100,6 +100,7 @@ fn tie<R: Wait>(
             names: _names,
             keys: _keys,
             answers,
+            told: _told,
         } = worker;
         feed.learn(&mut reader);
         told.push_reserved(Answers::from(answers));
@@ -140,11 +141,14 @@ fn all_work<
         pass,
         of: PhantomData,
     });
-    let feeding = Feeding {
+    let publisher = SharedNews {
         rt,
         alloc,
         mars,
         news: &news,
+    };
+    let feeding = Feeding {
+        publisher: &publisher,
         gate,
     };
     let at_ends = &feeding;

@@ -1,9 +1,10 @@
 // The feed of what callers commit.
-ghost use Rattle.std.specs.Prelude.{◌≡◌, ℕ, IfOk, IfSome};
-ghost use Rattle.mars_manager.specs.Pass.{told_of};
+ghost use Rattle.std.specs.Prelude.{◌≡◌, ◌+◌, ℕ, IfOk, IfErr, IfSome};
+ghost use Rattle.mars_manager.specs.Pass.{told_of, finds};
+ghost use Rattle.mars_manager.specs.Sharing.{Reads};
 ghost use Rattle.snapshot_readers.specs.Batches.{joined};
 ghost use Rattle.snapshot_readers.specs.Feeds.{fed_book, told};
-ghost use Rattle.reader_work.specs.News.{IsBehind, IsOnlooker};
+ghost use Rattle.reader_work.specs.News.{IsBehind, IsOnlooker, HadTurn};
 
 use caller_steps::Core;
 use mars_base::NoMemory;
@@ -75,6 +76,8 @@ fn try_publish<R: Wait, C: Core + Drop>(
     ensures behind { IsBehind feed.new pass.new.known }
     ensures onlooker { (number : ℕ) → IsOnlooker number pass.old.known → IsOnlooker number pass.new.known }
     ensures shown { IfOk result (λ shown. IfSome shown (λ receipt. joined (told receipt) ≡ pass.new.known.seen)) }
+    ensures turn { IfOk result (λ _. Reads C.tells C.view pass.old.known pass.new.known) }
+    ensures again { IfErr result (λ a. pass.new.known ≡ finds (a.holder + 1) pass.old.known) }
 {
     let fed = feed.fed();
     match mars.since(alloc, pass, fed, fed) {
@@ -103,6 +106,7 @@ pub fn publish<R: Wait, C: Core + Drop>(
     ensures behind { IsBehind feed.new pass.new.known }
     ensures onlooker { (number : ℕ) → IsOnlooker number pass.old.known → IsOnlooker number pass.new.known }
     ensures shown { IfSome result (λ receipt. joined (told receipt) ≡ pass.new.known.seen) }
+    ensures turn { HadTurn C.tells C.view pass.old.known pass.new.known }
 {
     let mut patience = Patience::new();
     for _ in rt.forever() {

@@ -7,7 +7,7 @@ ghost use Rattle.history.specs.Answers.{IsAnswer};
 ghost use Rattle.reader_work.specs.Reading.{CanRead, HasRead};
 
 use caller_plans::Keys;
-use caller_work::{Gate, Place};
+use caller_work::{Gate, Place, PlaceNotes, tell};
 use history::{Answer, Key};
 use record_slots::Names;
 use snapshot_readers::Reader;
@@ -22,6 +22,8 @@ pub struct ReadWorker {
     pub names: Names,
     pub keys: Keys,
     pub answers: Vec<Answer>,
+    /// What it has told its gate.
+    pub told: PlaceNotes,
 }
 
 /// Asks for each key, and calls the gate before each.
@@ -31,10 +33,11 @@ pub fn read_keys<R: Wait, G: Gate>(rt: &R, worker: &mut ReadWorker, gate: &G)
 {
     for nth in 0..worker.keys.len() {
         let key = worker.keys.as_slice()[nth];
-        gate.at(Place::ReadBegan {
+        let began = Place::ReadBegan {
             reader: worker.number,
             nth: nth as u64 + 1,
-        });
+        };
+        tell(gate, &mut worker.told, began);
         let answer = answer_for(rt, &mut worker.reader, &worker.names, &key);
         worker.answers.push_reserved(answer);
     }

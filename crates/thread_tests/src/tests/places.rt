@@ -79,6 +79,8 @@ fn caller_at(place: Place) -> Option<u8> {
 }
 
 impl Gate for Watch<'_> {
+    ghost told = { λ watch place. Unit {0} };
+
     fn at(&self, place: Place) {
         let is_wanted = match caller_at(place) {
             Some(caller) => self.goes_on(caller, place),

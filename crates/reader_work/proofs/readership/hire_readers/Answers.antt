@@ -32,7 +32,7 @@ pub loop-keys-preserved : goal.loop-keys-preserved
 loop-keys-preserved c =
     let i = c.loop-keys.invariant in
     let rest = c.in-Some.ensures.steps.0 in
-    let worker : ReadWorker = record { number = _; reader = c.unwrap-reader.result; names = c.copy.result; keys = c.in-Some.keys; answers = c.in_ok-answers.answers } in
+    let worker : ReadWorker = record { number = _; reader = c.unwrap-reader.result; names = c.copy.result; keys = c.in-Some.keys; answers = c.in_ok-answers.answers; told = c.new.result } in
     let items = c.push_reserved.ensures.items in
     let e = ap (λ (l : List (List Key)). length l) rest in
     let less = fewer c.pop.result c.unwrap-reader.result c.loop-keys.readers c.pop.new.self c.pop.ensures.last c.unwrap-reader.ensures in

@@ -1,4 +1,4 @@
-use Rattle.std.proofs.Common.{◌≡◌, ◌+◌, ◌<◌, ℕ, [], ◌∷◌, List, length, take, get_or, arith, sym, ap, ◌∙◌, subst, length-append}
+use Rattle.std.proofs.Common.{◌≡◌, ◌+◌, ◌<◌, ℕ, [], ◌∷◌, ◌++◌, List, length, take, get_or, arith, sym, ap, ◌∙◌, subst, length-append}
 use Rattle.history.specs.declared.key.Key.{Key}
 use Rattle.history.specs.Writes.{Table}
 use Rattle.snapshot_readers.specs.Batches.{joined}
@@ -6,7 +6,8 @@ use Rattle.snapshot_readers.specs.Feeds.{read, read_base}
 use Rattle.snapshot_readers.proofs.Joining.{joined_prefix}
 use Rattle.history.specs.Answers.{IsAnswer, AreAnswers}
 use Rattle.history.specs.declared.answer.Answer.{Answer}
-use Rattle.reader_work.proofs.Answering.{next_of}
+use Rattle.caller_work.specs.declared.gate.Place.TheVariants.{ReadBegan}
+use Rattle.reader_work.proofs.Answering.{next_of, told_next}
 use Rattle.reader_work.proofs.reading.read_keys.Goals as goal
 
 pub loop-nth-preserved : goal.loop-nth-preserved
@@ -26,6 +27,8 @@ loop-nth-preserved g c =
     let its : key ≡ get_or first.keys nth key = c.index-as_slice-nth.is ∙ ap (λ (l : List Key). get_or l nth key) listed in
     let is = subst (λ (x : List (List ℕ) × Table × Key). IsAnswer x.0 x.1 (joined (read now)) (length (joined (read now))) x.2 answer) (λ j. (i.names j, same j, its j)) c.answer_for-answer.ensures.answer in
     record {
+      number = i.number;
+      told = c.tell.ensures.notes ∙ (λ k. i.told k ++ ReadBegan (i.number k) (nth + 1) ∷ []) ∙ told_next first.number nth first.keys first.told.places within;
       keys = i.keys;
       names = i.names;
       room = c.push_reserved.ensures.capacity ∙ i.room;
