@@ -42,8 +42,12 @@ pub fn add_pair<S: EawStore>(
         (S.view pages.old.store) (S.view pages.new.store) result }
     ensures dead { IsErrOf result PageFault.Dead → pages.new ≡ pages.old }
 {
-    let LeafPage { page, link, pairs } = leaf;
-    let pairs = with_pair(pairs, key, taken.number);
+    let LeafPage {
+        page,
+        link,
+        mut pairs,
+    } = leaf;
+    insert_pair(&mut pairs, key, taken.number);
     let mut slot = [0; SLOT_LEN];
     write_slot(&Slot::Absent { table, key }, &mut slot);
     let mut bytes = [0; PAGE_LEN];
@@ -59,14 +63,21 @@ pub fn add_pair<S: EawStore>(
 }
 
 /// The pairs of a page that has room, with one more in its place.
-pub fn with_pair(pairs: Pairs, key: u64, to: u32) -> Pairs
+pub fn with_pair(mut pairs: Pairs, key: u64, to: u32) -> Pairs
     requires { length pairs.items < 30 }
     ensures { result.items ≡ inserted pairs.items key to }
 {
-    let mut pairs = pairs;
+    insert_pair(&mut pairs, key, to);
+    pairs
+}
+
+// Adds a pair, in its place, to those of a page that has room.
+fn insert_pair(pairs: &mut Pairs, key: u64, to: u32)
+    requires { length pairs.old.items < 30 }
+    ensures { pairs.new.items ≡ inserted pairs.old.items key to }
+{
     let place = place_of(pairs.as_slice(), key);
     pairs.insert(place, (key, u64::from(to)));
-    pairs
 }
 
 /// A slot as a part.

@@ -109,7 +109,5 @@ fn slot_in(page: &[u8; PAGE_LEN], i: u32) -> Option<Slot>
     ensures { result ≡ slot_said (range page.now (64 * i) 64) }
 {
     let at = i as usize * SLOT_LEN;
-    let mut bytes = [0; SLOT_LEN];
-    bytes.copy_from_slice(&page[at..at + SLOT_LEN]);
-    read_slot(&bytes)
+    read_slot(page[at..at + SLOT_LEN].first_chunk().unwrap())
 }

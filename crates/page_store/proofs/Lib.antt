@@ -10,6 +10,7 @@ pub mod Played
 pub mod Rows
 pub mod Reading
 pub mod Costing
+mod Counted
 pub mod Outline
 pub mod Tops
 pub mod Others

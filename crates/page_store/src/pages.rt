@@ -1,5 +1,5 @@
 // Pages over a store of editable atomic writes.
-ghost use Rattle.std.specs.Prelude.{◌≡◌, ◌≢◌, ◌↔◌, ◌+◌, ◌^◌, ◌<◌, ◌≤◌, ℕ, [], true, List, None, Some, is_some, slice_index_or, filter, if◌then◌else◌, IsTrue, IsOk, IfOk, IfErr, OnErr, OnOk, IsErrOf, length};
+ghost use Rattle.std.specs.Prelude.{◌≡◌, ◌≢◌, ◌↔◌, ◌+◌, ◌^◌, ◌<◌, ◌≤◌, ℕ, [], true, List, None, Some, is_some, slice_index, slice_index_or, filter, if◌then◌else◌, IsTrue, IsOk, IfOk, IfErr, OnErr, OnOk, IsErrOf, length};
 ghost use Rattle.std.specs.Option.{option_map};
 ghost use Rattle.mars_base.specs.Bytes.{put, range};
 ghost use Rattle.mars_base.specs.Costs.{Costs};
@@ -350,9 +350,10 @@ impl<S: EawStore> Pages<S> {
             return Err(PageFault::Dead);
         }
         let shape = self.store.shape();
+        let counts = counts_of(pages, shape.loggers);
         for logger in 0..shape.loggers {
             let held = self.store.held(tid, logger);
-            let needed = pages_on(pages, logger, shape.loggers);
+            let needed = counts[usize::from(logger)];
             if u32::from(held) + u32::from(needed) > u32::from(shape.entries) {
                 return Err(PageFault::LogFull {
                     logger,
@@ -586,17 +587,17 @@ fn forget_saves(marks: &mut [Marks], tids: NumberSet)
     }
 }
 
-// How many of the pages this logger has: they are dealt to the loggers by turns.
-fn pages_on(pages: &[u32], logger: u8, loggers: u8) -> u16
+// How many of the pages each logger has: they are dealt to the loggers by turns.
+fn counts_of(pages: &[u32], loggers: u8) -> [u16; 8]
     requires loggers { 0 < loggers }
+    requires most { loggers ≤ 8 }
     requires few { length pages.now < 2 ^ 16 }
-    ensures { result ≡ length (filter (is_page_on loggers logger) pages.now) }
+    ensures { (g : ℕ) → g < loggers → slice_index result g ≡ length (filter (is_page_on loggers g) pages.now) }
 {
-    let mut count = 0;
+    let mut counts = [0; 8];
     for page in pages {
-        if *page % u32::from(loggers) == u32::from(logger) {
-            count += 1;
-        }
+        let logger = (*page % u32::from(loggers)) as usize;
+        counts[logger] += 1;
     }
-    count
+    counts
 }

@@ -62,6 +62,10 @@ module _ (kept : Kept) (capacity at : ℕ) (part : List ℕ) (s : Stands kept ca
   pub part_put : IsPut at (length part) part kept next
   part_put = record { inside = λ i seen. part_inside i; outside = part_outside }
 
+  -- no block becomes known
+  pub known_put : IsPut at (length part) part kept (record { len = kept.len; room = room; places = kept.places; known = kept.known })
+  known_put = record { inside = λ i seen. part_inside i; outside = part_outside }
+
 -- a whole block that had no place
 pub put_appended : (old new : Kept) (capacity at : ℕ) (part : List ℕ) → Stands old capacity → at % 16384 ≡ 0 → length part ≤ 16384 → Appends (at / 16384) part old new → IsPut at (length part) part old new
 put_appended old new capacity at part before low few is = record {
@@ -118,6 +122,14 @@ module _ (at count len block : ℕ) (known : List Bool) (some : 0 < count) (few 
       | inr other ↦ get_or-set_other known block b true false other
     ];
   }
+
+-- a part of a block that is known makes no other block known
+pub covers_known : (at count len : ℕ) (known : List Bool) → at % 16384 + count ≤ 16384 → get_or known (at / 16384) false ≡ true → Covers at count len known known
+covers_known at count len known few seen = record {
+  long = refl;
+  inside = λ b is. (let one : b ≡ at / 16384 = omega (arith, few, is.0, is.1, is.2) in ap (λ (k : ℕ). get_or known k false) one) ∙ seen;
+  outside = λ b out. refl;
+}
 
 -- how far the bytes were put
 pub record PutTo (at done : ℕ) (bytes : List ℕ) (old now : Kept) : Type 0 where

@@ -142,6 +142,19 @@ impl Blocks {
         self.known[block] = true;
     }
 
+    // Puts bytes over those of one known block.
+    fn put_one(&mut self, at: usize, bytes: &[u8])
+        requires there { at / 16384 < length self.old.known }
+        requires known { get_or self.old.known (at / 16384) false ≡ true }
+        requires one { at % 16384 + length bytes.now ≤ 16384 }
+        ensures len { self.new.len ≡ self.old.len }
+        ensures known { Covers at (length bytes.now) self.old.len self.old.known self.new.known }
+        ensures bytes { IsPut at (length bytes.now) bytes.now self.old self.new }
+    {
+        let from = spot(&self.places, at);
+        self.room[from..from + bytes.len()].copy_from_slice(bytes);
+    }
+
     // Puts bytes over the kept ones block by block.
     fn put_all(&mut self, at: usize, bytes: &[u8])
         requires within { at + length bytes.now ≤ self.old.len }
@@ -169,6 +182,10 @@ impl Blocks {
         }
         let at = at as usize;
         let count = bytes.len().min(self.len - at);
+        if self.knows_one(at, count) {
+            self.put_one(at, &bytes[..count]);
+            return;
+        }
         self.put_all(at, &bytes[..count]);
     }
 
