@@ -9,7 +9,7 @@ use Rattle.history.specs.declared.key.Key.{Key}
 use Rattle.history.specs.Writes.{Write, is_of}
 use Rattle.history.specs.Log.{log_of}
 use Rattle.caller_steps.specs.State.{State, Index, calls_of}
-use Rattle.caller_steps.specs.Room.{Limits, is_slot_on, is_write_on, held_on, GainsKey}
+use Rattle.caller_steps.specs.Room.{Limits, is_slot_on, is_write_on, held_on, GainsWithin}
 use Rattle.history.proofs.Keys.{same_key, same_keys}
 use Rattle.caller_steps.proofs.AtKeys.{at_other_key}
 
@@ -26,11 +26,11 @@ module _ (limits : Limits) (g : ℕ) where
       ∙ ap (λ (l : List Write). cond (is_write_on limits old g write) (write ∷ l) l) (writes_apart old new key slot gains writes parts.1)
 
   -- So what a caller holds stays the same,
-  pub held_apart : (old new : State) (caller : ℕ) (key : Key) → new.live ≡ old.live → GainsKey limits key old.index new.index
+  pub held_apart : (old new : State) (caller : ℕ) (key : Key) → new.live ≡ old.live → GainsWithin limits key old.index new.index
       → list_any (is_of key) (log_of (calls_of old caller)).writes ≡ false → held_on limits new caller g ≡ held_on limits old caller g
   held_apart old new caller key live gains none =
       ap (λ (f : ℕ → Option _). length (filter (is_write_on limits new.index g) (log_of (calls_of (record old { live = f }) caller)).writes)) live
-      ∙ ap length (writes_apart old.index new.index key old.index.due gains.slot_of (log_of (calls_of old caller)).writes none)
+      ∙ ap length (writes_apart old.index new.index key old.index.due gains.gains.slot_of (log_of (calls_of old caller)).writes none)
 
 -- the index has the key of each of these writes
 abbrev pub AreNamed : Index → List Write → Type 0

@@ -16,11 +16,12 @@ use Rattle.history.specs.declared.call.Call.TheVariants.{Begin, Get, Put, Del, S
 use Rattle.history.specs.declared.call.Reply.{Reply}
 use Rattle.history.specs.declared.call.Reply.TheVariants.{Fine, NoTransaction, NoTable, Already, NoSave, SavesFull, Busy, LogFull, SlotsFull, PagesFull, Media, Dead, NoMemory}
 use Rattle.caller_steps.specs.State as state
-use Rattle.caller_steps.specs.State.{State, Index, unoffered, offered, unsettled, view_of}
+use Rattle.caller_steps.specs.State.{State, Index, keys_of, unoffered, offered, unsettled, view_of}
 use Rattle.caller_steps.specs.Offers.{offerers, group_writes}
 use Rattle.caller_steps.specs.Locked.{Blocks}
 use Rattle.caller_steps.specs.Purging.{Lost}
-use Rattle.caller_steps.specs.Room.{Limits, LacksAt, Lacks, GainsKey, KeepsKeys, TakesPages, Inserts, IndexesAt, Indexes, Settles}
+use Rattle.caller_steps.specs.Room.{Limits, LacksAt, Lacks, GainsWithin, TakesWithin, Inserts, IndexesAt, Indexes, Settles}
+use Rattle.index_keys.specs.Keys.{KeepsKeys}
 use Rattle.caller_steps.specs.Step.{Says, Asks, AsksTable, StepAt, StepBy, StepIf, Step, Runs}
 use Rattle.caller_steps.specs.Fate.{is_media}
 use Rattle.caller_steps.specs.Run.{Turn, Goes, GoesAlong, turns_of, has_fault, is_purge, has_purge, IsTurn}
@@ -36,7 +37,8 @@ use Rattle.caller_steps.proofs.Trying.{purge_loses}
 pub record Rises (limits : Limits) (call : Call) (old new : Index) : Type 0 where
   pub pages : old.used_pages ≤ new.used_pages
   pub levels : (name : List ℕ) → old.levels name ≤ new.levels name
-  pub keys : KeepsKeys old new ⊎ ((key : Key) × IsTrue (is_put key call) × (old.slot_of key ≡ None) × GainsKey limits key old new)
+  pub keys : KeepsKeys (keys_of old) (keys_of new)
+      ⊎ ((key : Key) × IsTrue (is_put key call) × (old.slot_of key ≡ None) × GainsWithin limits key old new)
 
 -- so it is, but a purge takes keys out
 pub record IndexMoves (limits : Limits) (call : Call) (old new : Index) : Type 0 where
@@ -68,7 +70,8 @@ same_index limits call old new e = record {
 lost_index : (limits : Limits) (keys : List Key) (old new : Index) → Lost old keys new → IndexMoves limits Purge old new
 lost_index limits keys old new lost = record { rises = λ plain. absurd (true≢false plain); falls = λ _. (keys, lost) }
 
-inserts : (limits : Limits) (key : Key) (reply : Reply) (old new : Index) → Inserts limits key reply old new → TakesPages limits old new × (KeepsKeys old new ⊎ GainsKey limits key old new)
+inserts : (limits : Limits) (key : Key) (reply : Reply) (old new : Index) → Inserts limits key reply old new
+    → TakesWithin limits old new × (KeepsKeys (keys_of old) (keys_of new) ⊎ GainsWithin limits key old new)
 inserts limits key Fine old new i = (i.0, inr i.1)
 inserts limits key (LogFull g h n) old new i = (i.0, i.1)
 inserts limits key (PagesFull n) old new i = (i.0, inl i.1)
@@ -79,8 +82,8 @@ index_at limits name key value (Some slot) reply old new is e = same_index limit
 index_at limits name key value None reply old new is i =
     let both = inserts limits (of_table name key) reply old new i in
     rising limits (Put name key value) old new refl (record {
-      pages = both.0.used;
-      levels = both.0.levels;
+      pages = both.0.takes.used;
+      levels = both.0.takes.levels;
       keys = ⊎_elim (λ keeps. inl keeps) (λ gains. inr (of_table name key, same_key (of_table name key) (of_table name key) refl, is, gains)) both.1;
     })
 
@@ -116,7 +119,8 @@ pages_stay limits Offer call n old new moves lacks = tt
 pages_stay limits Settle call n old new moves lacks = tt
 pages_stay limits Purge call n old new moves lacks = tt
 
-changed_same : (first : Index) (changes : List Change) (old new : Index) → KeepsKeys old new → Changed first changes old → Changed first changes new
+changed_same : (first : Index) (changes : List Change) (old new : Index) → KeepsKeys (keys_of old) (keys_of new)
+    → Changed first changes old → Changed first changes new
 changed_same first [] old new keeps g = (keeps.slot_of ∙ g.0, keeps.slots ∙ g.1)
 changed_same first (gain key ∷ changes) old new keeps g = (g.0, g.1, g.2, keeps.slot_of ∙ g.3, keeps.slots ∙ g.4)
 changed_same first (loss key ∷ changes) old new keeps g = (g.0, g.1, g.2, keeps.slot_of ∙ g.3, g.4 ∙ ap (λ (n : ℕ). suc n) (sym keeps.slots))
@@ -361,7 +365,7 @@ module _ (limits : Limits) where
         (λ keeps. (before.0, changed_same first.index before.0 old.index new.index keeps before.1, more_keys turns turn (gained_in before.0) before.2, λ plain. before.3 (none_before turns turn plain)))
         (λ gains. (
           gain gains.0 ∷ before.0,
-          (old.index, before.1, gains.2, gains.3.slot_of, gains.3.slots),
+          (old.index, before.1, gains.2, gains.3.gains.slot_of, gains.3.gains.slots),
           (any_last (λ (l : Turn). is_put gains.0 l.1) turns turn gains.1, more_keys turns turn (gained_in before.0) before.2),
           λ plain. before.3 (none_before turns turn plain),
         ))

@@ -1,14 +1,13 @@
 -- A purge: keys without records, whose stripes no live transaction touches, are taken out of the index.
-use Rattle.std.specs.Prelude.{ℕ, suc, ◌≡◌, ◌≤◌, ◌<◌, ◌^◌, ◌⊎◌, Bool, true, false, if◌then◌else◌, IsTrue, IsFalse, List, [], ◌∷◌, length, slice_get, Some, None, IsSome}
+use Rattle.std.specs.Prelude.{ℕ, ◌≡◌, ◌<◌, ◌^◌, ◌⊎◌, Bool, true, false, if◌then◌else◌, IsTrue, IsFalse, List, [], ◌∷◌, length, slice_get, Some, None, IsSome}
 use Rattle.std.specs.FinMap.{get}
-use Rattle.std.specs.Map.{update}
-use Rattle.history.specs.Key.{is_same_key}
 use Rattle.history.specs.declared.key.Key.{Key}
 use Rattle.history.specs.Locks.{Meets}
 use Rattle.history.specs.declared.call.Call.TheVariants.{Del}
 use Rattle.history.specs.declared.call.Reply.{Reply}
 use Rattle.history.specs.declared.call.Reply.TheVariants.{Purged, Already, Media, Dead, Damaged}
-use Rattle.caller_steps.specs.State.{State, Index, calls_of, records_of}
+use Rattle.index_keys.specs.Keys.{LosesKey}
+use Rattle.caller_steps.specs.State.{State, Index, keys_of, calls_of, records_of}
 use Rattle.caller_steps.specs.Offers.{is_engaged}
 use Rattle.caller_steps.specs.Room.{Limits}
 
@@ -20,20 +19,10 @@ IsTouched state key = (caller : ℕ) × Meets state.names (Del key.table key.key
 abbrev pub IsAbsent : State → Key → Type 0
 IsAbsent state key = IsSome (state.index.slot_of key) × (get (records_of state) key ≡ None)
 
--- One key fewer: its slot is the one that is due now, and in use no more, and at most one page is given back.
-pub record LosesKey (key : Key) (old new : Index) : Type 0 where
-  pub slot_of : new.slot_of ≡ update is_same_key old.slot_of key None
-  pub due : old.slot_of key ≡ Some new.due
-  pub slots : old.used_slots ≡ suc new.used_slots
-  pub fewer : new.used_pages ≤ old.used_pages
-  pub one_page : old.used_pages ≤ suc new.used_pages
-  pub next_page : new.next_page ≡ old.next_page
-  pub levels : new.levels ≡ old.levels
-
 -- an index has lost these keys, the last one first
 abbrev pub Lost : Index → List Key → Index → Type 0
 Lost first [] now = now ≡ first
-Lost first (key ∷ keys) now = (before : Index) × Lost first keys before × LosesKey key before now
+Lost first (key ∷ keys) now = (before : Index) × Lost first keys before × LosesKey key (keys_of before) (keys_of now)
 
 -- these keys have no record, and no live transaction touches them
 abbrev pub AreFree : State → List Key → Type 0
@@ -71,7 +60,8 @@ AreInOrder names (one ∷ tries) = Each (λ key. ComesBefore names key one.0) tr
 
 -- What comes of a key: it is lost, if no live transaction touches it and the index does not keep it, as it is then. Else it stays.
 abbrev pub Becomes : Limits → State → Key → Bool → Index → Index → Type 0
-Becomes limits old key true before now = (IsTouched old key → ⊥) × IsFalse (limits.keeps before.bytes key) × LosesKey key before now
+Becomes limits old key true before now = (IsTouched old key → ⊥) × IsFalse (limits.keeps before.bytes key)
+    × LosesKey key (keys_of before) (keys_of now)
 Becomes limits old key false before now = (IsTouched old key ⊎ IsTrue (limits.keeps before.bytes key)) × (now ≡ before)
 
 -- what comes of keys that are tried one after another, the last one first

@@ -1,9 +1,8 @@
 -- How much room an array has for writes, and what calls make of its index.
-use Rattle.std.specs.Prelude.{ℕ, suc, ◌≡◌, ◌≢◌, ◌+◌, ◌-◌, ◌<◌, ◌≤◌, ◌⊎◌, Bool, false, nat_eq, List, [], ◌∷◌, length, filter, Option, Some, None, IsSome, unwrap_or}
+use Rattle.std.specs.Prelude.{ℕ, ◌≡◌, ◌≢◌, ◌-◌, ◌<◌, ◌≤◌, ◌⊎◌, Bool, false, nat_eq, List, [], ◌∷◌, length, filter, Option, Some, None, IsSome, unwrap_or}
 use Rattle.std.specs.FinMap.{get}
-use Rattle.std.specs.Map.{update}
 use Rattle.mars_base.specs.Room.{HaveRoom, IsFirstFull}
-use Rattle.history.specs.Key.{is_same_key, of_table}
+use Rattle.history.specs.Key.{of_table}
 use Rattle.history.specs.declared.key.Key.{Key}
 use Rattle.history.specs.Log.{log_of, is_rewritten}
 use Rattle.history.specs.Writes.{Table, Write}
@@ -11,7 +10,8 @@ use Rattle.history.specs.declared.call.Call.{Call}
 use Rattle.history.specs.declared.call.Call.TheVariants.{Put, Del}
 use Rattle.history.specs.declared.call.Reply.{Reply}
 use Rattle.history.specs.declared.call.Reply.TheVariants.{Fine, LogFull, SlotsFull, PagesFull}
-use Rattle.caller_steps.specs.State.{State, Index, calls_of, records_of, view_of}
+use Rattle.index_keys.specs.Keys.{GainsKey, KeepsKeys, TakesPages}
+use Rattle.caller_steps.specs.State.{State, Index, keys_of, calls_of, records_of, view_of}
 
 -- an action of an insertion into the index: how many of its pages it takes, and how many entries of each logger
 pub record Action : Type 0 where
@@ -128,38 +128,30 @@ Lacks limits old caller (Put name key value) reply = LacksAt limits old caller (
 Lacks limits old caller (Del name key) reply = IsSeen old caller (of_table name key) × (slot : ℕ) × (old.index.slot_of (of_table name key) ≡ Some slot) × LacksAt limits old caller (of_table name key) (Some slot) reply
 Lacks limits old caller _ reply = ⊥
 
--- the index gains the key with the slot that is due, if there is one, which no key had
-pub record GainsKey (limits : Limits) (key : Key) (old new : Index) : Type 0 where
+-- the index gains the key; a slot was left for it, and no key had the one that was due
+pub record GainsWithin (limits : Limits) (key : Key) (old new : Index) : Type 0 where
   pub left : old.used_slots < limits.slots
   pub free : (other : Key) → old.slot_of other ≢ Some old.due
-  pub slot_of : new.slot_of ≡ update is_same_key old.slot_of key (Some old.due)
-  pub slots : new.used_slots ≡ suc old.used_slots
-
-pub record KeepsKeys (old new : Index) : Type 0 where
-  pub slot_of : new.slot_of ≡ old.slot_of
-  pub slots : new.used_slots ≡ old.used_slots
-  pub due : new.due ≡ old.due
+  pub gains : GainsKey key (keys_of old) (keys_of new)
 
 -- The data takes these writes, in slots that their keys have. Without a write all of it stays.
 pub record Settles (writes : List Write) (old new : Index) : Type 0 where
   pub keys : new ≡ record old { bytes = new.bytes }
   pub none : writes ≡ [] → new ≡ old
 
--- at most nine more pages are given out, within those of the index, no page in use is given back, and no level is lost
-pub record TakesPages (limits : Limits) (old new : Index) : Type 0 where
-  pub later : old.next_page ≤ new.next_page
-  pub few : new.next_page ≤ old.next_page + 9
+-- the index takes pages, and no more than it may have
+pub record TakesWithin (limits : Limits) (old new : Index) : Type 0 where
   pub most : new.next_page ≤ limits.index_pages
-  pub used : old.used_pages ≤ new.used_pages
-  pub levels : (name : List ℕ) → old.levels name ≤ new.levels name
+  pub takes : TakesPages (keys_of old) (keys_of new)
 
 -- What a put makes of an index that lacks the key. If the log is full after the insertion, the key stays. If pages ran out, at most one is
 -- left, or the index has as many levels as it may.
 abbrev pub Inserts : Limits → Key → Reply → Index → Index → Type 0
-Inserts limits key Fine old new = TakesPages limits old new × GainsKey limits key old new
-Inserts limits key (LogFull g h n) old new = TakesPages limits old new × (KeepsKeys old new ⊎ GainsKey limits key old new)
-Inserts limits key (PagesFull n) old new = TakesPages limits old new × KeepsKeys old new × ((n ≤ new.used_pages) ⊎ (7 ≤ new.levels key.table))
-Inserts limits key _ old new = TakesPages limits old new × KeepsKeys old new
+Inserts limits key Fine old new = TakesWithin limits old new × GainsWithin limits key old new
+Inserts limits key (LogFull g h n) old new = TakesWithin limits old new × (KeepsKeys (keys_of old) (keys_of new) ⊎ GainsWithin limits key old new)
+Inserts limits key (PagesFull n) old new = TakesWithin limits old new × KeepsKeys (keys_of old) (keys_of new)
+    × ((n ≤ new.used_pages) ⊎ (7 ≤ new.levels key.table))
+Inserts limits key _ old new = TakesWithin limits old new × KeepsKeys (keys_of old) (keys_of new)
 
 abbrev pub IndexesAt : Limits → Key → Option ℕ → Reply → Index → Index → Type 0
 IndexesAt limits key None reply old new = Inserts limits key reply old new

@@ -40,13 +40,14 @@ use Rattle.record_table.specs.State.{TableState}
 use Rattle.record_table.specs.declared.fault.TableFault.{TableFault}
 use Rattle.record_table.specs.declared.fault.TableFault.TheVariants.{SlotsFull, PagesFull, SavesFull, LogFull, Media, Dead, Damaged, NoMemory}
 use Rattle.caller_steps.specs.Locked.{IsFree, IsBusyWith}
-use Rattle.caller_steps.specs.Purging.{Try, LosesKey, Lost, IsTried, ComesBefore}
+use Rattle.caller_steps.specs.Purging.{Try, Lost, IsTried, ComesBefore}
 use Rattle.caller_steps.proofs.Trying.{lost_append, each_append, each_as, tried_later, tried_before, order_append}
 use Rattle.caller_steps.specs.State.{Index}
+use Rattle.caller_steps.specs.State as face
 use Rattle.mars_core.specs.Over.{index_of}
 use Rattle.record_slots.specs.Names.{names_in, number_of}
 use Rattle.record_table.specs.Names.{IsCalled, names_of, key_in}
-use Rattle.record_table.specs.State as below_state
+use Rattle.index_keys.specs.Keys.{LosesKey}
 use Rattle.mars_core.specs.Purging.{Keeps, IsTouchedIn, AreFreeIn, Tried, Trail, Cleared, IsReady, ClearCause, Tries, Clears}
 use Rattle.mars_core.specs.Seats.{Seats, calls_at, bare}
 use Rattle.mars_core.proofs.Unwritten.{unwritten}
@@ -84,9 +85,11 @@ pub called_key : (bytes : List ℕ) (table : ℕ) (key : Key) → IsCalled bytes
 called_key bytes table key called = λ i. record { table = unwrap_or (called i) []; key = key.key }
 
 -- as callers see it
-pub loses_one : (index : below.Index) (a b : List ℕ) (table : ℕ) (key : Key) → IsCalled a table key.table → names_of b ≡ names_of a → Loses index table key.key a b → LosesKey key (index_of index a) (index_of index b)
+pub loses_one : (index : below.Index) (a b : List ℕ) (table : ℕ) (key : Key) → IsCalled a table key.table → names_of b ≡ names_of a
+    → Loses index table key.key a b → LosesKey key (face.keys_of (index_of index a)) (face.keys_of (index_of index b))
 loses_one index a b table key called same loses =
-    let lost : below_state.LosesKey key (keys_of index a) (keys_of index b) = subst (λ (k : Key). below_state.LosesKey k (keys_of index a) (keys_of index b)) (called_key a table key called) loses.keys in
+    let lost : LosesKey key (keys_of index a) (keys_of index b) =
+    subst (λ (k : Key). LosesKey k (keys_of index a) (keys_of index b)) (called_key a table key called) loses.keys in
     record {
       slot_of = lost.slot_of;
       due = lost.due;

@@ -13,12 +13,12 @@ use Rattle.history.specs.declared.call.Reply.{Reply}
 use Rattle.history.specs.declared.call.Reply.TheVariants.{Fine}
 use Rattle.history.specs.declared.call.Reply.TheVariants as reply
 use Rattle.record_table.specs.State.{Keys}
-use Rattle.record_table.specs.State as tables
+use Rattle.index_keys.specs.Keys.{GainsKey, KeepsKeys, TakesPages}
 use Rattle.record_table.specs.Does.{IndexedAt, Indexed, is_failed}
 use Rattle.record_table.specs.declared.fault.TableFault.{TableFault}
 use Rattle.record_table.specs.declared.fault.TableFault.TheVariants.{SlotsFull, PagesFull, SavesFull, LogFull, Media, Dead, Damaged, NoMemory}
-use Rattle.caller_steps.specs.State.{Index}
-use Rattle.caller_steps.specs.Room.{Limits, GainsKey, KeepsKeys, TakesPages, Inserts, IndexesAt, Indexes}
+use Rattle.caller_steps.specs.State.{Index, keys_of}
+use Rattle.caller_steps.specs.Room.{Limits, GainsWithin, TakesWithin, Inserts, IndexesAt, Indexes}
 use Rattle.caller_steps.proofs.AtKeys.{at_key, at_other_key}
 use Rattle.history.proofs.Keys.{cases_key}
 use Rattle.record_slots.specs.Names.{number_of}
@@ -53,14 +53,17 @@ module _ (index : below.Index) (shape : Shape) (table : ℕ) (names : List (List
   level_rises None rises = omega arith
   level_rises (Some j) rises = rises j
 
-  takes : tables.TakesPages old new → TakesPages (limits_of index shape) (index_with names a old) (index_with names b new)
-  takes t = record { later = t.later; few = t.few; most = within.pages; used = t.used; levels = λ name. level_rises (number_of names name) t.levels }
+  takes : TakesPages old new → TakesWithin (limits_of index shape) (index_with names a old) (index_with names b new)
+  takes t = record {
+    most = within.pages;
+    takes = record { later = t.later; few = t.few; used = t.used; levels = λ name. level_rises (number_of names name) t.levels };
+  }
 
-  keeps : tables.KeepsKeys old new → KeepsKeys (index_with names a old) (index_with names b new)
+  keeps : KeepsKeys old new → KeepsKeys (keys_of (index_with names a old)) (keys_of (index_with names b new))
   keeps k = record { slot_of = k.slot_of; slots = k.slots; due = k.due }
 
   -- no key had the slot that was due
-  was_free : (key : Key) → old.slot_of key ≡ None → tables.GainsKey key old new → (other : Key) → old.slot_of other ≢ Some old.due
+  was_free : (key : Key) → old.slot_of key ≡ None → GainsKey key old new → (other : Key) → old.slot_of other ≢ Some old.due
   was_free key none g other had = elim (cases_key key other) [
     | inl same ↦ some_none old.due (sym had ∙ ap old.slot_of (sym same) ∙ none)
     | inr apart ↦
@@ -68,12 +71,12 @@ module _ (index : below.Index) (shape : Shape) (table : ℕ) (names : List (List
         (ap (λ (f : Key → Option ℕ). f other) g.slot_of ∙ at_other_key old.slot_of key (Some old.due) other (λ e. apart (sym e)) ∙ had))
   ]
 
-  gains : (key : Key) → old.slot_of key ≡ None → tables.GainsKey key old new → GainsKey (limits_of index shape) key (index_with names a old) (index_with names b new)
+  gains : (key : Key) → old.slot_of key ≡ None → GainsKey key old new
+      → GainsWithin (limits_of index shape) key (index_with names a old) (index_with names b new)
   gains key none g = record {
     left = omega (arith, g.slots, within.slots);
     free = was_free key none g;
-    slot_of = g.slot_of;
-    slots = g.slots;
+    gains = record { slot_of = g.slot_of; slots = g.slots };
   }
 
   refused_at : (T : Type 0) (key : Key) (asked : number_of names key.table ≡ Some table) (o : Option ℕ) → old.slot_of key ≡ o → (IsSome o → b ≡ a) → (f : TableFault) → (let r : Result T TableFault = Err f in IsFalse (is_failed r))
@@ -130,7 +133,7 @@ module _ (index : below.Index) (shape : Shape) (table : ℕ) (names : List (List
 
 -- the keys stay, or the index gains one that it lacked
 abbrev pub Slots : Limits → Index → Index → Type 0
-Slots limits old new = (new.slot_of ≡ old.slot_of) ⊎ ((key : Key) × (old.slot_of key ≡ None) × GainsKey limits key old new)
+Slots limits old new = (new.slot_of ≡ old.slot_of) ⊎ ((key : Key) × (old.slot_of key ≡ None) × GainsWithin limits key old new)
 
 inserts_slots : (limits : Limits) (key : Key) (answer : Reply) (old new : Index) → old.slot_of key ≡ None → Inserts limits key answer old new → Slots limits old new
 inserts_slots limits key Fine old new none (t, k) = inr (key, none, k)
@@ -166,5 +169,5 @@ indexes_slots limits _ answer old new same = inl (ap (λ (x : Index). x.slot_of)
 -- after a granted put the index has the key, with the slot that it had or the one that was due
 pub slot_after : (limits : Limits) (key : Key) (o : Option ℕ) (old new : Index) → old.slot_of key ≡ o → IndexesAt limits key o Fine old new
     → (slot : ℕ) × (new.slot_of key ≡ Some slot) × (slot ≡ unwrap_or o old.due)
-slot_after limits key None old new is (t, k) = (old.due, ap (λ (f : Key → Option ℕ). f key) k.slot_of ∙ at_key old.slot_of key (Some old.due), refl)
+slot_after limits key None old new is (t, k) = (old.due, ap (λ (f : Key → Option ℕ). f key) k.gains.slot_of ∙ at_key old.slot_of key (Some old.due), refl)
 slot_after limits key (Some slot) old new is same = (slot, ap (λ (x : Index). x.slot_of key) same ∙ is, refl)

@@ -33,7 +33,8 @@ use Rattle.record_table.specs.Invariant.{Holds}
 use Rattle.record_table.specs.Shown.{state_of, keys_of, held_on, needed_on}
 use Rattle.record_table.specs.Scanned.{rows_seen, ScanCause}
 use Rattle.record_table.specs.Sought.{LooksAs}
-use Rattle.record_table.specs.State.{TableState, Keys, TakesPages, seen_by}
+use Rattle.index_keys.specs.Keys.{TakesPages}
+use Rattle.record_table.specs.State.{TableState, Keys, seen_by}
 use Rattle.record_table.specs.declared.fault.TableFault.{TableFault}
 use Rattle.record_table.specs.declared.fault.TableFault.TheVariants.{SlotsFull, PagesFull, SavesFull, LogFull, Media, Dead, Damaged, NoMemory}
 use Rattle.record_table.proofs.Moving.{Moved, Failed, opens_behind, opens_with, moved_by_look, failed_by_look, rests_moved}

@@ -39,7 +39,8 @@ use Rattle.record_table.specs.Faults.{as_table, told_as, inserted_as}
 use Rattle.record_table.specs.Invariant.{Rests, Holds}
 use Rattle.record_table.specs.Shown.{found_key, state_of, pairs_of, level_under, keys_of}
 use Rattle.record_table.specs.Sought.{LooksAs}
-use Rattle.record_table.specs.State.{Keys, GainsKey, KeepsKeys, TakesPages, seen_by}
+use Rattle.index_keys.specs.Keys.{GainsKey, KeepsKeys, TakesPages}
+use Rattle.record_table.specs.State.{Keys, seen_by}
 use Rattle.history.specs.Key.{of_table}
 use Rattle.record_table.specs.Names.{IsCalled}
 use Rattle.record_table.proofs.States.{written}

@@ -9,10 +9,11 @@ use Rattle.history.specs.Writes.{Table}
 use Rattle.history.specs.declared.call.Call.{Call}
 use Rattle.history.specs.declared.call.Call.TheVariants.{Put, Commit}
 use Rattle.history.specs.declared.call.Reply.{Reply}
+use Rattle.index_keys.specs.Keys.{GainsKey, KeepsKeys, TakesPages}
 use Rattle.record_slots.specs.Places.{version_of, tables_of}
 use Rattle.page_store.specs.Index.{Index}
 use Rattle.page_store.specs.Shown.{PagesView}
-use Rattle.record_table.specs.State.{Keys, GainsKey, KeepsKeys, TakesPages}
+use Rattle.record_table.specs.State.{Keys}
 use Rattle.record_table.specs.Calls.{Replies, table_after, after, saves_after}
 use Rattle.record_table.specs.Names.{names_of}
 use Rattle.record_table.specs.Shown.{table_of, state_of, keys_of}

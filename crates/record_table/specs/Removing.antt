@@ -10,12 +10,12 @@ use Rattle.record_slots.specs.Places.{version_of, tables_of, root_of}
 use Rattle.history.specs.declared.key.Key.{Key}
 use Rattle.history.specs.Key.{of_table}
 use Rattle.history.specs.Writes.{is_of}
+use Rattle.index_keys.specs.Keys.{LosesKey}
 use Rattle.page_store.specs.Fits.{FitAll, IsFirstLacking}
 use Rattle.page_store.specs.Index.{Index}
 use Rattle.page_store.specs.Removes.{IsLogFull}
 use Rattle.page_store.specs.Shown.{PagesView}
 use Rattle.record_table.specs.Names.{IsCalled, key_in}
-use Rattle.record_table.specs.State.{LosesKey}
 use Rattle.record_table.specs.Shown.{table_of, found_key, pairs_of, state_of, keys_of}
 use Rattle.record_table.specs.Does.{OpensWith, OpensAs, is_failed}
 use Rattle.record_table.specs.declared.fault.TableFault.{TableFault}

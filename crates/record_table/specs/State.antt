@@ -1,11 +1,9 @@
 -- The model of records: a table, and what numbers have logged over it.
-use Rattle.std.specs.Prelude.{ℕ, suc, ◌≡◌, ◌≤◌, ◌+◌, map, Option, Some, None}
-use Rattle.std.specs.Map.{update}
-use Rattle.history.specs.declared.key.Key.{Key}
-use Rattle.history.specs.Key.{is_same_key}
+use Rattle.std.specs.Prelude.{ℕ, map}
 use Rattle.history.specs.Writes.{Table, all_written}
 use Rattle.history.specs.Table.{Work}
 use Rattle.history.specs.Log.{Log}
+use Rattle.index_keys.specs.Keys as indexes
 
 -- the records of all tables in the data, and for each number the log of what it has not committed
 pub record TableState : Type 0 where
@@ -20,41 +18,6 @@ seen_by s t = all_written s.table (s.logs t).writes
 abbrev pub work_of : TableState → ℕ → Work
 work_of s t = record { table = seen_by s t; saves = map (all_written s.table) (s.logs t).saved }
 
--- The indexes of all tables: the slot of each key, if they have it, and the slot that a further key gets; how many slots and how many pages are
--- in use, and the page that is given out next; and how many levels of inner pages the index of each table has.
-pub record Keys : Type 0 where
-  pub slot_of : Key → Option ℕ
-  pub due : ℕ
-  pub used_slots : ℕ
-  pub used_pages : ℕ
-  pub next_page : ℕ
-  pub levels : ℕ → ℕ
-
--- one more key, with the slot that was due
-pub record GainsKey (key : Key) (old new : Keys) : Type 0 where
-  pub slot_of : new.slot_of ≡ update is_same_key old.slot_of key (Some old.due)
-  pub slots : new.used_slots ≡ suc old.used_slots
-
--- the same keys, and the same slot is due
-pub record KeepsKeys (old new : Keys) : Type 0 where
-  pub slot_of : new.slot_of ≡ old.slot_of
-  pub slots : new.used_slots ≡ old.used_slots
-  pub due : new.due ≡ old.due
-
--- at most nine more pages are given out, no page in use is given back, and no level is lost
-pub record TakesPages (old new : Keys) : Type 0 where
-  pub later : old.next_page ≤ new.next_page
-  pub few : new.next_page ≤ old.next_page + 9
-  pub used : old.used_pages ≤ new.used_pages
-  pub levels : (table : ℕ) → old.levels table ≤ new.levels table
-
--- One key fewer: its slot is the one that is due now, and in use no more, and at most one page is given back. Nothing more is given out, and
--- no level is lost.
-pub record LosesKey (key : Key) (old new : Keys) : Type 0 where
-  pub slot_of : new.slot_of ≡ update is_same_key old.slot_of key None
-  pub due : old.slot_of key ≡ Some new.due
-  pub slots : old.used_slots ≡ suc new.used_slots
-  pub fewer : new.used_pages ≤ old.used_pages
-  pub one_page : old.used_pages ≤ suc new.used_pages
-  pub next_page : new.next_page ≡ old.next_page
-  pub levels : new.levels ≡ old.levels
+-- the indexes of all tables, by the numbers of the tables
+abbrev pub Keys : Type 0
+Keys = indexes.Keys ℕ
