@@ -1,2 +1,2 @@
 pub mod AsBox
-pub mod Outcomes
+pub mod Answering

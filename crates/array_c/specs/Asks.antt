@@ -1,41 +1,12 @@
 -- What a command from C does to an array, open or closed.
-use Rattle.std.specs.Prelude.{ℤ, ◌≡◌, ◌≢◌, ◌⊎◌, true, Option, Some, None, Result, IfErr}
+use Rattle.std.specs.Prelude.{ℤ, ◌≡◌, Option, Result}
 use Rattle.eaw_face.specs.Command.{Command}
-use Rattle.eaw_face.specs.Does.{Does}
 use Rattle.eaw_face.specs.declared.fault.EawFault.{EawFault}
-use Rattle.eaw_face.specs.declared.fault.EawFault.TheVariants.{Media}
-use Rattle.eaw_device.specs.Opens.{Opens}
-use Rattle.array_c.specs.declared.open_array.OpenArray.{OpenArray}
-use Rattle.array_c.specs.Shown.{store_in}
-use Rattle.array_c.specs.Status.{status_in, is_closed}
-use Rattle.array_c.specs.Refusals.{Test}
-
--- The array made this command, with this result. A refusal leaves it as it was.
-pub record Makes {T : Type 0} (command : Command) (old new : OpenArray) (result : Result T EawFault) : Type 0 where
-  pub does : Does true (Opens (store_in old).shape) command (store_in old) (store_in new) result
-  pub refused : IfErr result (λ fault. fault ≢ Media → new ≡ old)
-
--- The tests are passed, the command was made, the status is that of its result, and this is told of that. Or the status is that of the test that
--- fails, nothing was done, and this is told.
-abbrev pub Asks : {T : Type 0} → Test → Command → (OpenArray → Result T EawFault → Type 0) → Type 0 → (old new : OpenArray) → ℤ → Type 0
-Asks {T} asked command Tells Untold old new status =
-    (asked old None × ((result : Result T EawFault) × Makes command old new result × (status ≡ status_in result) × Tells old result))
-    ⊎ (asked old (Some status) × (new ≡ old) × Untold)
-
--- so it is with a command of which nothing more is told
-abbrev pub AsksOnly : Test → Command → (old new : OpenArray) → ℤ → Type 0
-AsksOnly asked command old new status = Asks {T = Unit {0}} asked command (λ array result. Unit {0}) (Unit {0}) old new status
-
--- nothing changes, and this is told of an open array, or this of a closed one
-abbrev pub Looks : (OpenArray → Type 0) → Type 0 → Option OpenArray → Option OpenArray → Type 0
-Looks Tells Closed None new = (new ≡ None) × Closed
-Looks Tells Closed (Some array) new = (new ≡ Some array) × Tells array
-
--- an open array stays open, and this is done to it; a closed one stays closed
-abbrev pub Changes : (OpenArray → OpenArray → Type 0) → Type 0 → Option OpenArray → Option OpenArray → Type 0
-Changes Does Closed None new = (new ≡ None) × Closed
-Changes Does Closed (Some old) (Some new) = Does old new
-Changes Does Closed (Some old) None = ⊥
+use Rattle.taped_calls.specs.Asked.{Changes}
+use Rattle.taped_array.specs.declared.open_array.OpenArray.{OpenArray}
+use Rattle.taped_array.specs.Asks.{Asks}
+use Rattle.taped_array.specs.Refusals.{Test}
+use Rattle.taped_array.specs.Status.{is_closed}
 
 -- a command is asked of an open array; a closed one is not asked
 abbrev pub Commands : {T : Type 0} → Test → Command → (OpenArray → Result T EawFault → Type 0) → Type 0

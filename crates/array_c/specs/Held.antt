@@ -7,7 +7,7 @@ use Rattle.std.specs.Coded.{coded_option}
 use Rattle.std.specs.Box.Ownership.{box_owns}
 use Rattle.std.specs.Global.{Global}
 use Rattle.std_heap.specs.contracts.GlobalAllocator.TheImpl.{ghosts}
-use Rattle.array_c.specs.contracts.open_array.OpenArray.{the_row}
+use Rattle.taped_array.specs.contracts.open_array.OpenArray.{the_row}
 
 abbrev pub held_owns : Global → Ptr → Option the_row.Denot → Fml
 held_owns alloc at None = ftrue

@@ -1,10 +1,3 @@
 pub mod Held
-pub mod Status
-pub mod Shown
-pub mod Refusals
 pub mod Asks
-pub mod Told
-pub mod Safe
-pub mod Tells
 pub mod Opens
-pub mod Formats

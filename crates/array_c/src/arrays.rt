@@ -1,28 +1,23 @@
 // What C calls to make, open and close an array. `mars_array.h` says what it owes.
 ghost use Rattle.std.specs.Prelude.{◌≡◌, None};
 ghost use Rattle.array_shape.specs.Places.{data_len};
-ghost use Rattle.array_c.specs.Asks.{Looks};
-ghost use Rattle.array_c.specs.Formats.{Formats, IsSize};
+ghost use Rattle.taped_calls.specs.Asked.{Looks};
+ghost use Rattle.taped_calls.specs.Formats.{IsSize};
+ghost use Rattle.taped_array.specs.Formats.{Formats};
+ghost use Rattle.taped_array.specs.Shown.{store_in};
 ghost use Rattle.array_c.specs.Opens.{Opens};
-ghost use Rattle.array_c.specs.Shown.{store_in};
 
 use crate::kept::Kept;
-use crate::meanings::text_of;
-use crate::opening::{make_zero, open_bytes};
-use crate::putting::put_out;
-use crate::status::{BAD_SHAPE, IS_OPEN, OK};
-use array_shape::Shape;
 use std::alloc::Global;
+use taped_array::{IS_OPEN, OK, close, format_bytes, open_bytes, text_of};
+use taped_calls::{array_size, put_out};
 
 /// How many bytes an array of this shape takes: 0 if there is none.
 #[unsafe(no_mangle)]
 pub extern "C" fn mars_array_size(loggers: u8, numbers: u8, entries: u16, pages: u32) -> u64
     ensures { IsSize loggers numbers entries pages result }
 {
-    match Shape::new(loggers, numbers, entries, pages) {
-        Ok(shape) => shape.media_len(),
-        Err(_) => 0,
-    }
+    array_size(loggers, numbers, entries, pages)
 }
 
 /// Makes a new array of this shape in these bytes, which are as many as `mars_array_size` says. Its data is zero.
@@ -37,13 +32,7 @@ pub extern "C" fn mars_array_format(
 ) -> i32
     ensures { Formats loggers numbers entries pages bytes.old bytes.new result }
 {
-    let Ok(shape) = Shape::new(loggers, numbers, entries, pages) else {
-        return BAD_SHAPE;
-    };
-    match make_zero(alloc, bytes, &shape) {
-        Ok(()) => OK,
-        Err(status) => status,
-    }
+    format_bytes(alloc, bytes, loggers, numbers, entries, pages)
 }
 
 /// Opens the array in a copy of these bytes, on which so many commits may wait for their write-back, and recovers what a loss of power left.
@@ -72,7 +61,9 @@ pub extern "C" fn mars_array_open(alloc: Global, a: &mut Kept, bytes: &[u8], dep
 pub extern "C" fn mars_array_close(alloc: Global, a: &mut Kept)
     ensures { a.new.held.array ≡ None }
 {
-    drop(a.take(alloc));
+    if let Some(array) = a.take(alloc) {
+        close(array);
+    }
 }
 
 /// How many bytes the data of the array has: 0 of a closed one.

@@ -2,13 +2,13 @@
 ghost use Rattle.std.specs.Prelude.{◌≡◌, length};
 ghost use Rattle.array_shape.specs.NumberSet.{numbers_in};
 ghost use Rattle.eaw_face.specs.Command.{log_write, log_edit, commit, commit_group, abort, nested_top, partial_abort, atomic_write, log_read, read};
+ghost use Rattle.taped_array.specs.Refusals.{always, is_inside, is_write, is_own_write, has_parts, has_part, is_within};
+ghost use Rattle.taped_array.specs.Told.{IsRead, IsPart, count_in};
 ghost use Rattle.array_c.specs.Asks.{Commands, CommandsOnly};
-ghost use Rattle.array_c.specs.Refusals.{always, is_inside, is_write, is_own_write, has_parts, has_part, is_within};
-ghost use Rattle.array_c.specs.Told.{IsRead, IsPart, count_in};
 
 use crate::kept::Kept;
-use crate::status::IS_CLOSED;
 use std::alloc::Global;
+use taped_array::IS_CLOSED;
 
 /// Logs a write of these bytes at this address under the number, and tells how many parts the number has logged by now.
 #[unsafe(no_mangle)]

@@ -2,13 +2,13 @@
 ghost use Rattle.std.specs.Prelude.{◌≡◌, Option, Some, None, is_some, MatchOption};
 
 mod held;
-mod parts;
 
-use crate::open_array::OpenArray;
+use box_parts::Parts;
 pub use held::Held;
 use std::alloc::Global;
 use std::mem::replace;
 use std::ptr::null_mut;
+use taped_array::OpenArray;
 
 /// An array, open or closed, as C keeps it.
 #[repr(C)]
@@ -48,7 +48,7 @@ impl Kept {
         ensures { self.new.held.array ≡ Some array.value }
     {
         *self = Kept {
-            held: Held::of_parts(parts::Parts::of(array)),
+            held: Held::of_parts(Parts::of(array)),
             is_open: true,
         };
     }

@@ -1,24 +1,15 @@
 //! The array alone for C: the commands of editable atomic writes on an array in memory, with a tape of what its caller has still to do on the
 //! device. The library computes, and makes no call of the system but for memory.
 //!
-//! Read first `commands.rt`, `arrays.rt` and `tape.rt`, the functions that C calls, beside `mars_array.h`; then `specs/Asks`, which says what a
-//! command does, and `laws.rt`, what a loss of power leaves. `kept/held.rt` and `kept/parts.rt` are the one place with a raw pointer.
+//! Read first `commands.rt`, `arrays.rt` and `tape.rt`, the functions that C calls, beside `mars_array.h`: each takes the array out of what C keeps,
+//! asks it (`taped_array`), and puts it back. `specs/Asks` says what that is to an array, open or closed. `kept/held.rt` is the one place with a raw
+//! pointer, over `box_parts`.
 #![tactic(auto)]
 
 mod arrays;
 mod commands;
 mod kept;
-mod laws;
-mod logs;
-mod meanings;
-mod open_array;
-mod opening;
-mod putting;
-mod refusals;
-mod status;
 mod tape;
-mod work;
-mod writes;
 
 pub use arrays::{
     mars_array_close, mars_array_format, mars_array_len, mars_array_open, mars_array_size,
@@ -30,8 +21,6 @@ pub use commands::{
     mars_array_partial_abort, mars_array_read,
 };
 pub use kept::{Held, Kept};
-pub use laws::data_stays_safe;
-pub use open_array::OpenArray;
 pub use tape::{
     mars_array_done_up_to, mars_array_moment, mars_array_piece, mars_array_piece_bytes,
     mars_array_piece_done, mars_array_piece_failed,

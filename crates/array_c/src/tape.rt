@@ -1,15 +1,16 @@
 // What C calls to take the tape of an open array down. `mars_array.h` says what it owes.
 ghost use Rattle.std.specs.Prelude.{◌≡◌, pos, true, None};
 ghost use Rattle.tape_media.specs.Tape.{next_of};
-ghost use Rattle.array_c.specs.Shown.{tape_of};
-ghost use Rattle.array_c.specs.Status.{is_closed};
-ghost use Rattle.array_c.specs.Told.{IsPutOut};
-ghost use Rattle.array_c.specs.Asks.{Looks, Changes};
-ghost use Rattle.array_c.specs.Tells.{IsPiece, IsWrite, IsDone, IsMoment, IsDoneUpTo, GoesOn};
+ghost use Rattle.taped_calls.specs.Asked.{Looks, Changes};
+ghost use Rattle.taped_calls.specs.Told.{IsPutOut, IsPiece, IsWrite};
+ghost use Rattle.taped_array.specs.Shown.{tape_of};
+ghost use Rattle.taped_array.specs.Status.{is_closed, no_piece};
+ghost use Rattle.taped_array.specs.Tells.{IsDone, IsMoment, IsDoneUpTo, GoesOn};
 
 use crate::kept::Kept;
-use crate::status::{IS_CLOSED, NOTHING, OK};
 use std::alloc::Global;
+use taped_array::{IS_CLOSED, OK};
+use taped_calls::NOTHING;
 
 /// What is to be done next on the device: nothing (0), a write of `len` bytes at the place `at` (1), or a barrier (2).
 #[unsafe(no_mangle)]
@@ -34,7 +35,7 @@ pub extern "C" fn mars_array_piece_bytes(
     room: &mut [u8],
     len: &mut u64,
 ) -> i32
-    ensures { Looks (λ array. IsWrite (next_of (tape_of array)) skip result room.old room.new len.old len.new)
+    ensures { Looks (λ array. IsWrite no_piece (next_of (tape_of array)) skip result room.old room.new len.old len.new)
         ((result ≡ is_closed) × IsPutOut None room.old room.new len.old len.new) a.old.held.array a.new.held.array }
 {
     let Some(array) = a.take(alloc) else {

@@ -1,12 +1,12 @@
 // A `Box<OpenArray>` as a pointer that C keeps, or none: a type that names no type with memory of its own.
 ghost use Rattle.std.specs.Prelude.{◌≡◌, Option, Some, None, IsSome};
-ghost use Rattle.array_c.specs.declared.open_array.OpenArray.{OpenArray as Inside};
+ghost use Rattle.taped_array.specs.declared.open_array.OpenArray.{OpenArray as Inside};
 ghost use Rattle.array_c.specs.Held.{held_coded, held_owns};
 
-use super::parts::Parts;
-use crate::open_array::OpenArray;
+use box_parts::Parts;
 use std::alloc::Global;
 use std::marker::Model;
+use taped_array::OpenArray;
 
 #[repr(C)]
 #[derive(Drop)]

@@ -1,4 +1,4 @@
-use Rattle.array_c.proofs.Outcomes.{opened, unopened}
+use Rattle.array_c.proofs.Answering.{opened, unopened}
 use Rattle.array_c.proofs.arrays.mars_array_open.Goals as goal
 
 pub returns-in-Ok : goal.returns-in-Ok

@@ -1,0 +1,9 @@
+pub mod Status
+pub mod Shown
+pub mod Safe
+pub mod Refusals
+pub mod Told
+pub mod Asks
+pub mod Tells
+pub mod Opens
+pub mod Formats
