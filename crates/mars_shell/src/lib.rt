@@ -33,9 +33,8 @@ mod tally;
 mod turns;
 mod whole;
 
-pub use array_runs::{Refusal, Status, fault_text};
-pub use caller_plans::Fate;
-pub use caller_work::{Gate, OpenGate, Place, PlaceNotes, Stop, Worker, caller_work};
+pub use array_runs::{Status, fault_text};
+pub use caller_work::{Gate, OpenGate, Place};
 pub use images::what_images_hold;
 pub use laws::{runs_compose, what_callers_are_told};
 pub use media_room::room;
