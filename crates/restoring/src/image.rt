@@ -32,9 +32,9 @@ pub fn image_of(
 }
 
 // Each page of what can be made has 512 bytes. This does nothing: only clauses need it.
-fn pages_are_whole(data: &DataImage)
-    requires { CanMake data.now }
-    ensures { (page : ℕ) → length (planned_page data.now page) ≡ 512 }
+fn pages_are_whole(planned: &DataImage)
+    requires { CanMake planned.now }
+    ensures { (page : ℕ) → length (planned_page planned.now page) ≡ 512 }
 {
-    let _ = data;
+    let _ = planned;
 }
