@@ -9,7 +9,7 @@ use history::Reply;
 use mars_manager::{Mars, Pass, Passes};
 use pcm_media::Media;
 use record_slots::Value;
-use sample_callers::put_one;
+use sample_threads::put_one;
 use std::alloc::Global;
 use std::sync::Wait;
 use std::test::*;

@@ -4,8 +4,8 @@ use Rattle.history.specs.declared.transaction.Done.{Done}
 use Rattle.mars_manager.specs.declared.reading.NotCopied.{NotCopied}
 use Rattle.std.proofs.lemmas.List.{length-append}
 use Rattle.snapshot_readers.specs.Feeds.{fed, fed_book, told, told_book, published}
-use Rattle.sample_readers.proofs.Fed.{fed_behind}
-use Rattle.sample_readers.proofs.publish_news.Goals as goal
+use Rattle.sample_threads.proofs.Fed.{fed_behind}
+use Rattle.sample_threads.proofs.readers.publish_news.Goals as goal
 
 pub returns-in-Ok-Ok-clause-behind : goal.returns-in-Ok-Ok-clause-behind
 returns-in-Ok-Ok-clause-behind g c =

@@ -1,9 +1,4 @@
-//! A caller on a thread, beside others over the same records.
-//!
-//! A sample to begin with: each thread has a pass of its own, and makes its calls with it. What a call answers is said of
-//! `mars_manager::Mars::call_wait`, which is to be read next. The laws are those of `caller_steps`, since all passes share one core.
-#![tactic(auto)]
-
+// A caller on a thread, beside others. Each has a pass of its own, and makes its calls with it.
 ghost use Rattle.std.specs.Prelude.{◌≡◌};
 
 use caller_steps::Core;

@@ -1,9 +1,4 @@
-//! A reader that takes no lock, beside the feed of what callers commit.
-//!
-//! A sample to begin with: what was committed goes to readers as a whole, and a reader never goes back. Both are clauses of
-//! `snapshot_readers`: read its `Feed::feed` and `Reader::get` next.
-#![tactic(auto)]
-
+// A reader that takes no lock, beside the feed of what callers commit.
 ghost use Rattle.std.specs.Prelude.{◌≡◌, ◌+◌, ◌≤◌, length};
 ghost use Rattle.snapshot_readers.specs.Feeds.{fed, fed_book, read_book};
 ghost use Rattle.history.specs.Legal.{AreNumberedFrom};
