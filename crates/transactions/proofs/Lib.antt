@@ -4,6 +4,7 @@ pub mod Doubting
 pub mod Going
 pub mod Handing
 pub mod Leaving
+pub mod Made
 pub mod Reading
 pub mod Texts
 pub mod Trying

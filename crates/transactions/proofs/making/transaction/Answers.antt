@@ -1,8 +1,10 @@
-use Rattle.std.proofs.Common.{◌≡◌, ◌∙◌, ⊎_elim, inl, inr, ap, refl, ◌++◌}
+use Rattle.std.proofs.Common.{◌∙◌, ⊎_elim, inl, inr, ap, refl, ◌++◌}
 use Rattle.history.specs.declared.call.Call.TheVariants.{Commit, Abort}
 use Rattle.transactions.specs.Told.{told_done, told_commit}
 use Rattle.transactions.specs.declared.work.Stop.TheVariants.{Refused}
 use Rattle.transactions.proofs.Doubting.{doubts}
+use Rattle.transactions.proofs.Handing.{handed_on, none_handed_on}
+use Rattle.transactions.proofs.Made.{made_by, grown_by, grown_after, others_stay}
 use Rattle.transactions.proofs.Going.{went_one, went_on, refuses_later, refuses_before, core_later, core_before}
 use Rattle.transactions.proofs.Trying.{tries_one, tries_none, tries_still, tries_on}
 use Rattle.transactions.proofs.making.transaction.Goals as goal
@@ -239,3 +241,106 @@ returns-in-Ok-commit-clause-offers g c told =
     let first = c.begin.ensures.stays told in
     let second = c.make.ensures.stays told in
     c.commit.ensures.offers told ∙ second.offers ∙ first.offers
+
+-- what is refused as it begins is the core's refusal
+pub returns-in_err-begin-clause-limits : goal.returns-in_err-begin-clause-limits
+returns-in_err-begin-clause-limits g c = c.begin.ensures.steps.limits
+
+pub returns-in_err-begin-clause-made : goal.returns-in_err-begin-clause-made
+returns-in_err-begin-clause-made g c told = none_handed_on c.from_residual.result (Refused c.in_err-begin.field-0.0) c.from_residual.ensures _
+
+pub returns-in_err-begin-clause-refused : goal.returns-in_err-begin-clause-refused
+returns-in_err-begin-clause-refused g c told = handed_on c.from_residual.result (Refused c.in_err-begin.field-0.0) c.from_residual.ensures _ (c.begin.ensures.stays told).history
+
+pub returns-in_err-begin-clause-cause : goal.returns-in_err-begin-clause-cause
+returns-in_err-begin-clause-cause g c told = handed_on c.from_residual.result (Refused c.in_err-begin.field-0.0) c.from_residual.ensures _ tt
+
+pub returns-in_err-begin-clause-of_core : goal.returns-in_err-begin-clause-of_core
+returns-in_err-begin-clause-of_core g c told = handed_on c.from_residual.result (Refused c.in_err-begin.field-0.0) c.from_residual.ensures _ (c.in_err-begin.ensures.refused told)
+
+pub returns-in_err-begin-clause-ended : goal.returns-in_err-begin-clause-ended
+returns-in_err-begin-clause-ended g c told none alive = c.in_err-begin.ensures.err told ∙ none
+
+pub returns-in_err-begin-clause-certain : goal.returns-in_err-begin-clause-certain
+returns-in_err-begin-clause-certain g c told = none_handed_on c.from_residual.result (Refused c.in_err-begin.field-0.0) c.from_residual.ensures _
+
+pub returns-in_err-begin-clause-doubt : goal.returns-in_err-begin-clause-doubt
+returns-in_err-begin-clause-doubt g c told = handed_on c.from_residual.result (Refused c.in_err-begin.field-0.0) c.from_residual.ensures _ (inl (c.begin.ensures.stays told).doubt)
+
+-- what is committed does the work
+pub returns-in-Ok-commit-clause-limits : goal.returns-in-Ok-commit-clause-limits
+returns-in-Ok-commit-clause-limits g c = c.commit.ensures.steps.limits ∙ c.make.ensures.limits ∙ c.begin.ensures.steps.limits
+
+pub returns-in-Ok-commit-clause-made : goal.returns-in-Ok-commit-clause-made
+returns-in-Ok-commit-clause-made g c told =
+    let first = c.begin.ensures.stays told in
+    let second = c.make.ensures.stays told in
+    made_by (λ answer. g.W.Work.does c.args.work.now answer) c.args.caller c.in-Ok.answer (g.C.Core.view c.args.core.now) (g.C.Core.view c.begin.new.core) (g.C.Core.view c.make.new.core) first.goes_on.base first.history second.history (c.in-Ok.ensures.done told) (g.C.Core.view c.commit.new.core) (c.in-Ok-commit.ensures.ok told).history
+
+pub returns-in-Ok-commit-clause-refused : goal.returns-in-Ok-commit-clause-refused
+returns-in-Ok-commit-clause-refused g c told = tt
+
+pub returns-in-Ok-commit-clause-cause : goal.returns-in-Ok-commit-clause-cause
+returns-in-Ok-commit-clause-cause g c told = tt
+
+pub returns-in-Ok-commit-clause-of_core : goal.returns-in-Ok-commit-clause-of_core
+returns-in-Ok-commit-clause-of_core g c told = tt
+
+pub returns-in-Ok-commit-clause-doubt : goal.returns-in-Ok-commit-clause-doubt
+returns-in-Ok-commit-clause-doubt g c told = tt
+
+pub returns-in-Ok-commit-clause-ended : goal.returns-in-Ok-commit-clause-ended
+returns-in-Ok-commit-clause-ended g c told none alive = (c.in-Ok-commit.ensures.ok told).ended
+
+pub returns-in-Ok-commit-clause-others : goal.returns-in-Ok-commit-clause-others
+returns-in-Ok-commit-clause-others g c told other apart =
+    let first = c.begin.ensures.stays told in
+    let second = c.make.ensures.stays told in
+    others_stay _ c.args.caller (g.C.Core.view c.make.new.core) (g.C.Core.view c.commit.new.core) _ c.commit.ensures.steps.moves other apart ∙ second.others other apart ∙ first.others other apart
+
+pub returns-in-Ok-commit-clause-certain : goal.returns-in-Ok-commit-clause-certain
+returns-in-Ok-commit-clause-certain g c told =
+    let first = c.begin.ensures.stays told in
+    let second = c.make.ensures.stays told in
+    (c.in-Ok-commit.ensures.ok told).doubt ∙ second.doubt ∙ first.doubt
+
+pub returns-in-Ok-commit-clause-grows : goal.returns-in-Ok-commit-clause-grows
+returns-in-Ok-commit-clause-grows g c told =
+    let first = c.begin.ensures.stays told in
+    let second = c.make.ensures.stays told in
+    grown_by (λ answer. g.W.Work.does c.args.work.now answer) c.args.caller c.in-Ok.answer (g.C.Core.view c.args.core.now) (g.C.Core.view c.begin.new.core) (g.C.Core.view c.make.new.core) first.goes_on.base first.history second.history (c.in-Ok.ensures.done told) (g.C.Core.view c.commit.new.core) (second.doubt ∙ first.doubt) (c.commit.ensures.grows told)
+
+pub returns-in-Err-commit-clause-limits : goal.returns-in-Err-commit-clause-limits
+returns-in-Err-commit-clause-limits g c = c.abort.ensures.steps.limits ∙ c.commit.ensures.steps.limits ∙ c.make.ensures.limits ∙ c.begin.ensures.steps.limits
+
+pub returns-in-Err-commit-clause-made : goal.returns-in-Err-commit-clause-made
+returns-in-Err-commit-clause-made g c told = tt
+
+pub returns-in-Err-commit-clause-cause : goal.returns-in-Err-commit-clause-cause
+returns-in-Err-commit-clause-cause g c told = tt
+
+pub returns-in-Err-commit-clause-certain : goal.returns-in-Err-commit-clause-certain
+returns-in-Err-commit-clause-certain g c told = tt
+
+pub returns-in-Err-commit-clause-others : goal.returns-in-Err-commit-clause-others
+returns-in-Err-commit-clause-others g c told other apart =
+    let first = c.begin.ensures.stays told in
+    let second = c.make.ensures.stays told in
+    let last = c.abort.ensures.stays told in
+    last.others other apart ∙ others_stay _ c.args.caller (g.C.Core.view c.make.new.core) (g.C.Core.view c.commit.new.core) _ c.commit.ensures.steps.moves other apart ∙ second.others other apart ∙ first.others other apart
+
+pub returns-in-Err-commit-clause-grows : goal.returns-in-Err-commit-clause-grows
+returns-in-Err-commit-clause-grows g c told =
+    let first = c.begin.ensures.stays told in
+    let second = c.make.ensures.stays told in
+    let last = c.abort.ensures.stays told in
+    grown_after (λ answer. g.W.Work.does c.args.work.now answer) c.args.caller c.in-Ok.answer (g.C.Core.view c.args.core.now) (g.C.Core.view c.begin.new.core) (g.C.Core.view c.make.new.core) first.goes_on.base first.history second.history (c.in-Ok.ensures.done told) (g.C.Core.view c.commit.new.core) (g.C.Core.view c.abort.new.core) last.history last.doubt (second.doubt ∙ first.doubt) (c.commit.ensures.grows told)
+
+pub returns-in-Err-clause-limits : goal.returns-in-Err-clause-limits
+returns-in-Err-clause-limits g c = c.abort-in-Err.ensures.steps.limits ∙ c.make.ensures.limits ∙ c.begin.ensures.steps.limits
+
+pub returns-in-Err-clause-made : goal.returns-in-Err-clause-made
+returns-in-Err-clause-made g c told = tt
+
+pub returns-in-Err-clause-certain : goal.returns-in-Err-clause-certain
+returns-in-Err-clause-certain g c told = tt
