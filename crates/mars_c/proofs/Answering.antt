@@ -4,7 +4,7 @@ use Rattle.std.specs.Prelude.{pos}
 use Rattle.page_store.specs.Index.{Index}
 use Rattle.taped_records.specs.declared.records.TapedRecords.{TapedRecords}
 use Rattle.taped_records.specs.Opens.{IsOpened}
-use Rattle.mars_c.specs.Calls.{Changes}
+use Rattle.taped_calls.specs.Asked.{Changes}
 use Rattle.mars_c.specs.Opens.{Opens}
 
 -- a closed array was opened

@@ -1,19 +1,20 @@
 // What C calls to make, open and close an array. `mars.h` says what it owes.
 ghost use Rattle.std.specs.Prelude.{◌≡◌, ◌≤◌, None};
 ghost use Rattle.btree_pages.specs.Index.{tree};
+ghost use Rattle.taped_calls.specs.Formats.{IsSize};
 ghost use Rattle.taped_records.specs.Formats.{Formats};
 ghost use Rattle.mars_c.specs.Opens.{Opens, OpensLate};
 
 use crate::kept::Kept;
 use std::alloc::Global;
-use taped_records::{
-    BAD_DEPTH, IS_OPEN, OK, TapedRecords, array_size, format_bytes, opening_status, put_out,
-    text_of,
-};
+use taped_calls::{array_size, put_out};
+use taped_records::{BAD_DEPTH, IS_OPEN, OK, TapedRecords, format_bytes, opening_status, text_of};
 
 /// How many bytes an array of this shape takes: 0 if there is none.
 #[unsafe(no_mangle)]
-pub extern "C" fn mars_size(loggers: u8, callers: u8, entries: u16, pages: u32) -> u64 {
+pub extern "C" fn mars_size(loggers: u8, callers: u8, entries: u16, pages: u32) -> u64
+    ensures { IsSize loggers callers entries pages result }
+{
     array_size(loggers, callers, entries, pages)
 }
 
@@ -82,7 +83,9 @@ fn open_array(alloc: Global, m: &mut Kept, bytes: &[u8], callers: u8, depth: u8)
 pub extern "C" fn mars_close(alloc: Global, m: &mut Kept)
     ensures { m.new.held.array ≡ None }
 {
-    drop(m.take(alloc));
+    if let Some(array) = m.take(alloc) {
+        TapedRecords::close(array);
+    }
 }
 
 /// What a status means: as much of the text as there is room for, and its length.

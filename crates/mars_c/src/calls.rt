@@ -1,8 +1,9 @@
 // What C calls of transactions. `mars.h` says what it owes.
 ghost use Rattle.std.specs.Prelude.{◌≡◌};
 ghost use Rattle.history.specs.declared.call.Call.TheVariants.{Begin, Get, Put, Del, Scan, Save, Back, Commit, Abort, Offer, Settle, Purge};
+ghost use Rattle.taped_calls.specs.Told.{IsPutOut};
 ghost use Rattle.taped_records.specs.Calls.{Fits, IsBadName, IsBadRecord};
-ghost use Rattle.taped_records.specs.Told.{IsPutOut, Nothing, same_rows, rows_in, number_in, count_in, value_in};
+ghost use Rattle.taped_records.specs.Told.{Nothing, same_rows, rows_in, number_in, count_in, value_in};
 ghost use Rattle.mars_c.specs.Calls.{Calls};
 
 use crate::kept::Kept;

@@ -2,8 +2,8 @@
 ghost use Rattle.std.specs.Prelude.{◌≡◌, Option, Some, None, is_some, MatchOption};
 
 mod held;
-mod parts;
 
+use box_parts::Parts;
 pub use held::Held;
 use std::alloc::Global;
 use std::mem::replace;
@@ -48,7 +48,7 @@ impl Kept {
         ensures { self.new.held.array ≡ Some array.value }
     {
         *self = Kept {
-            held: Held::of_parts(parts::Parts::of(array)),
+            held: Held::of_parts(Parts::of(array)),
             is_open: true,
         };
     }

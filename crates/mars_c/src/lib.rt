@@ -1,9 +1,9 @@
 //! MARS for C: records in transactions on an array in memory, with a tape of what its caller has still to do on the device. The library computes,
 //! and makes no call of the system but for memory.
 //!
-//! Read first `calls.rt`, `seeking.rt`, `long_bytes.rt`, `arrays.rt`, `making.rt` and `tape.rt`, the functions that C calls, beside `mars.h`: each takes
-//! the array out of what C keeps, asks it (`taped_records`), and puts it back. `specs/Calls` says what that is to an array, open or closed.
-//! `kept/held.rt` and `kept/parts.rt` are the one place with a raw pointer.
+//! Read first `calls.rt`, `seeking.rt`, `long_bytes.rt`, `arrays.rt`, `making.rt` and `tape.rt`, the functions that C calls, beside `mars.h`: each
+//! takes the array out of what C keeps, asks it (`taped_records`), and puts it back. `specs/Calls` says what that is to an array, open or closed.
+//! `kept/held.rt` is the one place with a raw pointer, over `box_parts`.
 #![tactic(auto)]
 
 mod arrays;

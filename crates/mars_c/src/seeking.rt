@@ -1,9 +1,9 @@
 // What C calls to read records one by one. `mars.h` says what it owes.
 ghost use Rattle.std.specs.Prelude.{◌≡◌, None};
+ghost use Rattle.taped_calls.specs.Asked.{Changes};
+ghost use Rattle.taped_calls.specs.Told.{IsPutOut};
 ghost use Rattle.taped_records.specs.Cursor.{AsksNext};
 ghost use Rattle.taped_records.specs.Status.{is_closed};
-ghost use Rattle.taped_records.specs.Told.{IsPutOut};
-ghost use Rattle.mars_c.specs.Calls.{Changes};
 
 use crate::kept::Kept;
 use std::alloc::Global;

@@ -1,15 +1,16 @@
 // What C calls to read an open array, and to take its tape down. `mars.h` says what it owes.
 ghost use Rattle.std.specs.Prelude.{◌≡◌, pos, true, None, slice_get};
 ghost use Rattle.tape_media.specs.Tape.{next_of};
+ghost use Rattle.taped_calls.specs.Asked.{Looks, Changes};
+ghost use Rattle.taped_calls.specs.Told.{IsPutOut, IsPiece, IsWrite};
 ghost use Rattle.taped_records.specs.Shown.{tape_of, core_in};
-ghost use Rattle.taped_records.specs.Status.{is_closed};
-ghost use Rattle.taped_records.specs.Told.{IsPutOut};
-ghost use Rattle.taped_records.specs.Tells.{IsRow, IsTold, IsPiece, IsWrite, IsDone, IsDoneUpTo, GoesOn};
-ghost use Rattle.mars_c.specs.Calls.{Looks, Changes};
+ghost use Rattle.taped_records.specs.Status.{is_closed, no_piece};
+ghost use Rattle.taped_records.specs.Tells.{IsRow, IsTold, IsDone, IsDoneUpTo, GoesOn};
 
 use crate::kept::Kept;
 use std::alloc::Global;
-use taped_records::{IS_CLOSED, NOTHING, OK};
+use taped_calls::NOTHING;
+use taped_records::{IS_CLOSED, OK};
 
 /// A row of the last scan, counted from 0: its key, as much of its value as there is room for, and how long that is.
 #[unsafe(no_mangle)]
@@ -75,7 +76,7 @@ pub extern "C" fn mars_piece_bytes(
     room: &mut [u8],
     len: &mut u64,
 ) -> i32
-    ensures { Looks (λ array. IsWrite (next_of (tape_of array)) skip result room.old room.new len.old len.new)
+    ensures { Looks (λ array. IsWrite no_piece (next_of (tape_of array)) skip result room.old room.new len.old len.new)
         ((result ≡ is_closed) × IsPutOut None room.old room.new len.old len.new) m.old.held.array m.new.held.array }
 {
     let Some(array) = m.take(alloc) else {

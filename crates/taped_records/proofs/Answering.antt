@@ -4,7 +4,7 @@ use Rattle.std.specs.Prelude.{pos, slice_get, MatchOption}
 use Rattle.std.specs.Borrow.{Bor}
 use Rattle.std.specs.Slice.{IsItemAt}
 use Rattle.std.proofs.lemmas.Option.{slice_get_past, slice_get_read}
-use Rattle.taped_records.specs.Told.{IsPutOut}
+use Rattle.taped_calls.specs.Told.{IsPutOut}
 use Rattle.taped_records.specs.Tells.{IsRow}
 
 -- what a look-up by place gives

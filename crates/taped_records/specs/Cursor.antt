@@ -7,13 +7,14 @@ use Rattle.transactions.specs.Told.{reply_of}
 use Rattle.transactions.specs.Went.{WentWithin, Refuses}
 use Rattle.transactions.specs.declared.refusal.Refusal.{Refusal}
 use Rattle.long_values.specs.Changing.{seen_by}
+use Rattle.taped_calls.specs.Told.{IsPutOut}
 use Rattle.taped_records.specs.declared.records.TapedRecords.{TapedRecords}
 use Rattle.taped_records.specs.Calls.{Asks, IsBadName}
 use Rattle.taped_records.specs.Shown.{core_in}
 use Rattle.taped_records.specs.Status.{status_of}
-use Rattle.taped_records.specs.Told.{IsPutOut}
 
--- It is the first record that a scan of this table from this key on lists, up to a key that is not behind the last one; or a scan up to that lists none.
+-- It is the first record that a scan of this table from this key on lists, up to a key that is not behind the last one; or a scan up to that lists
+-- none.
 abbrev pub IsFirst : List ℕ → (from to : ℕ) → Table → Option Row → Type 0
 IsFirst name from to table None = rows_within name from to table ≡ []
 IsFirst name from to table (Some row) = (high : ℕ) × (others : List Row) × (high ≤ to) × (rows_within name from high table ≡ row ∷ others)
@@ -47,7 +48,8 @@ abbrev pub value_first : Option (Result (Option Row) Refusal) → Option (List �
 value_first (Some (Ok (Some row))) = Some row.1
 value_first _ = None
 
--- So an open array is asked: it was done, and this is the status and what is told; or, for a reason that the status tells, nothing was done, and nothing is told.
+-- So an open array is asked: it was done, and this is the status and what is told; or, for a reason that the status tells, nothing was done, and
+-- nothing is told.
 abbrev pub AsksNext : (name : List ℕ) (from to caller key_was key : ℕ) (room_was room : List ℕ) (len_was len : ℕ) (old new : TapedRecords) → ℤ → Type 0
 AsksNext name from to caller key_was key room_was room len_was len old new status =
     Asks (Seeks name from to caller) status_first (IsBadName name) (λ told. (key ≡ key_first key_was told) × IsPutOut (value_first told) room_was room len_was len) caller old new status

@@ -11,10 +11,10 @@ use Rattle.long_values.specs.declared.unkept.Unkept.{Unkept}
 use Rattle.long_values.specs.declared.unkept.Unkept.TheVariants.{TooLong, Broken, NoMemory, Half}
 use Rattle.long_values.specs.Values.{IsKept, length_of}
 use Rattle.long_values.specs.Changing.{seen_by, saved_by, SameButAt, IsUnwritten, IsUnfit, IsUnread}
+use Rattle.taped_calls.specs.Told.{IsPutOut}
 use Rattle.taped_records.specs.declared.records.TapedRecords.{TapedRecords}
 use Rattle.taped_records.specs.Shown.{core_in}
 use Rattle.taped_records.specs.Status.{status_of, bad_key}
-use Rattle.taped_records.specs.Told.{IsPutOut}
 use Rattle.taped_records.specs.Calls.{IsBadName, Asks}
 
 -- why nothing was asked: the text is no name, or the key is too large
@@ -61,8 +61,8 @@ pub record Within {A : Type 0} (Does : ℕ → CoreView → CoreView → A → T
   pub callers : new.callers ≡ old.callers
   pub window : new.window ≡ old.window
 
--- Calls within the caller's transaction put the bytes: if there were long bytes under the key, or none, they are just these now. No other record changes,
--- and what was seen before is one more save. If they are not put, all is as it was, unless the core refused the way back.
+-- Calls within the caller's transaction put the bytes: if there were long bytes under the key, or none, they are just these now. No other record
+-- changes, and what was seen before is one more save. If they are not put, all is as it was, unless the core refused the way back.
 pub record PutsBytes (name : List ℕ) (key : ℕ) (bytes : List ℕ) (caller : ℕ) (old new : CoreView) (answer : Result (Unit {0}) (Stop Unkept)) : Type 0 where
   pub stays : Stays caller old new
   pub within : WentWithin caller old new
@@ -100,8 +100,8 @@ AreBytes (Some bytes) value = value ≡ Some bytes.items
 abbrev pub AreMany : Option ℕ → Option (List ℕ) → Type 0
 AreMany told value = told ≡ length_of value
 
--- So an open array is asked to put bytes, to get them, to remove them, and how many there are: it was done, and this is the status and what is told; or, for a
--- reason that the status tells, nothing was done, and nothing is told.
+-- So an open array is asked to put bytes, to get them, to remove them, and how many there are: it was done, and this is the status and what is
+-- told; or, for a reason that the status tells, nothing was done, and nothing is told.
 abbrev pub AsksToPut : (name : List ℕ) (key : ℕ) (bytes : List ℕ) (caller : ℕ) (old new : TapedRecords) → ℤ → Type 0
 AsksToPut name key bytes caller old new status = Asks (Within (PutsBytes name key bytes) caller) status_put (IsBadPlace name key) (λ told. Unit {0}) caller old new status
 

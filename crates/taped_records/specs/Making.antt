@@ -60,7 +60,8 @@ pub record MakesTable (name : List ℕ) (told : ℕ) (old new : TapedRecords) : 
   pub begins : BeginsAnew name (tables_in old ++ name ∷ []) old new
   pub empty : rows_of name (records_in new) ≡ []
 
--- Why no table was made. What was looked at first is told first: a text that is no name, a name that is there, eight tables, a caller with a transaction.
+-- Why no table was made. What was looked at first is told first: a text that is no name, a name that is there, eight tables, a caller with a
+-- transaction.
 abbrev pub UnmadeCause : List ℕ → TapedRecords → Unmade → Type 0
 UnmadeCause name old BadName = IsName name → ⊥
 UnmadeCause name old Exists = (number : ℕ) × (slice_get (tables_in old) number ≡ Some name)

@@ -1,21 +1,18 @@
 -- How an array in memory is opened.
-use Rattle.std.specs.Prelude.{ℕ, ◌≡◌, true, false, IsFalse, List, []}
+use Rattle.std.specs.Prelude.{ℕ, ◌≡◌, true, IsFalse, List, []}
 use Rattle.page_store.specs.Index.{Index}
-use Rattle.tape_media.specs.Tape.{Tape, view_of}
+use Rattle.tape_media.specs.Tape.{view_of}
 use Rattle.eaw_device.specs.declared.fault.AttachFault.TheVariants as array
 use Rattle.mars_core.specs.declared.fault.CoreFault.TheVariants as core
 use Rattle.open_records.specs.Opens.{BeginsOn, KeepsRecords, IsUnopened, is_media}
 use Rattle.open_records.specs.declared.opening.OpenFault.{OpenFault}
 use Rattle.open_records.specs.declared.opening.OpenFault.TheVariants as unopened
+use Rattle.taped_calls.specs.Formats.{fresh}
 use Rattle.taped_records.specs.declared.records.TapedRecords.{TapedRecords}
 use Rattle.taped_records.specs.Shown.{core_in}
 
--- these bytes, with nothing to be done
-abbrev pub fresh : List ℕ → Tape
-fresh bytes = record { past = record { start = bytes; done = []; ahead = [] }; moment = 0; faults = 0; has_failed = false }
-
--- The array in these bytes, for so many callers: it begins with its records, and at each moment of the opening a loss of power leaves them. No rows are
--- kept.
+-- The array in these bytes, for so many callers: it begins with its records, and at each moment of the opening a loss of power leaves them. No rows
+-- are kept.
 pub record IsOpened (index : Index) (asked : ℕ) (bytes : List ℕ) (taped : TapedRecords) : Type 0 where
   pub begins : BeginsOn index (view_of (fresh bytes)) (core_in taped)
   pub keeps : KeepsRecords true (view_of (fresh bytes)) (core_in taped).moment (core_in taped).left_since

@@ -12,7 +12,8 @@ use Rattle.caller_steps.specs.Core.{CoreView}
 use Rattle.caller_steps.specs.State.{records_of}
 use Rattle.mars_core.specs.Over.{limits_of}
 
--- The medium below a core: whatever a loss of power leaves there now opens with the core's data, and no image is left there that is not left in the core.
+-- The medium below a core: whatever a loss of power leaves there now opens with the core's data, and no image is left there that is not left in the
+-- core.
 pub record IsPutDown (shape : Shape) (core : CoreView) (media : View) : Type 0 where
   pub bytes : List ℕ
   pub opens : (image : List ℕ) → MayLeave media.content image → Opens shape image bytes

@@ -43,6 +43,14 @@ status_of_opening (unopened.Records (core.Damaged page)) = pos 14
 status_of_opening (unopened.Callers numbers) = pos 15
 status_of_opening unopened.NoMemory = pos 13
 
+-- there is no memory
+abbrev pub no_memory : ℤ
+no_memory = pos 13
+
+-- there is no array of this shape, or it has another length
+abbrev pub bad_shape : ℤ
+bad_shape = pos 18
+
 -- there is no such caller
 abbrev pub bad_caller : ℤ
 bad_caller = pos 15

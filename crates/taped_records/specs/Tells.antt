@@ -1,12 +1,12 @@
 -- What a caller is told of an open array and its tape.
-use Rattle.std.specs.Prelude.{ℕ, ℤ, pos, ◌≡◌, ◌≤◌, List, drop, length, Option, Some, None}
+use Rattle.std.specs.Prelude.{ℕ, ℤ, pos, ◌≡◌, ◌≤◌, List, Option, Some, None}
 use Rattle.caller_steps.specs.Core.{Continues, IsSafe}
-use Rattle.tape_media.specs.Steps.{Step, writes, barrier, with_first_done}
+use Rattle.tape_media.specs.Steps.{Step, with_first_done}
 use Rattle.tape_media.specs.Tape.{Tape, done_moment}
 use Rattle.mars_core.specs.Taped.{IsSafeOnDevice}
+use Rattle.taped_calls.specs.Told.{IsPutOut}
 use Rattle.taped_records.specs.declared.records.TapedRecords.{TapedRecords}
 use Rattle.taped_records.specs.Status.{no_piece}
-use Rattle.taped_records.specs.Told.{IsPutOut}
 use Rattle.taped_records.specs.Shown.{tape_of, core_in}
 
 -- a row is told, by a status, its key and its value; or there is none
@@ -18,17 +18,6 @@ IsRow (Some row) status key_was key was now len_was len = (status ≡ pos 0) × 
 abbrev pub IsTold : Option (List ℕ) → ℤ → (was now : List ℕ) → (len_was len : ℕ) → Type 0
 IsTold None status was now len_was len = (status ≡ pos 3) × IsPutOut None was now len_was len
 IsTold (Some name) status was now len_was len = (status ≡ pos 0) × IsPutOut (Some name) was now len_was len
-
--- what is told of the next step on the device: nothing is to be done, a write of so many bytes at a place, or a barrier
-abbrev pub IsPiece : Option Step → ℤ → (at_was at len_was len : ℕ) → Type 0
-IsPiece None kind at_was at len_was len = (kind ≡ pos 0) × (at ≡ at_was) × (len ≡ len_was)
-IsPiece (Some (writes place bytes)) kind at_was at len_was len = (kind ≡ pos 1) × (at ≡ place) × (len ≡ length bytes)
-IsPiece (Some barrier) kind at_was at len_was len = (kind ≡ pos 2) × (at ≡ at_was) × (len ≡ len_was)
-
--- the bytes of a write, from `skip` on, are told; or it is no write
-abbrev pub IsWrite : Option Step → ℕ → ℤ → (was now : List ℕ) → (len_was len : ℕ) → Type 0
-IsWrite (Some (writes place bytes)) skip status was now len_was len = (status ≡ pos 0) × IsPutOut (Some (drop skip bytes)) was now len_was len
-IsWrite _ skip status was now len_was len = (status ≡ no_piece) × IsPutOut None was now len_was len
 
 -- the tape goes on to this one, and the records are what they were
 pub record GoesOn (next : Tape) (old new : TapedRecords) : Type 0 where
@@ -42,8 +31,8 @@ abbrev pub IsDone : Option Step → TapedRecords → TapedRecords → ℤ → Ty
 IsDone None old new status = (status ≡ no_piece) × (new ≡ old)
 IsDone (Some step) old new status = (status ≡ pos 0) × GoesOn (record (tape_of old) { past = with_first_done (tape_of old).past }) old new
 
--- It is the moment up to which all steps were done on the device. What was safe since a moment up to it is safe there: whatever a loss of power leaves
--- opens with the first so many transactions.
+-- It is the moment up to which all steps were done on the device. What was safe since a moment up to it is safe there: whatever a loss of power
+-- leaves opens with the first so many transactions.
 pub record IsDoneUpTo (moment : ℕ) (array : TapedRecords) : Type 0 where
   pub is : moment ≡ done_moment (tape_of array)
   pub durable : (since least : ℕ) → since ≤ moment → IsSafe (core_in array) since least → IsSafeOnDevice (tape_of array).past (core_in array) least

@@ -1,6 +1,5 @@
 -- What is told of a reply, where the caller has room for it.
-use Rattle.std.specs.Prelude.{ℕ, ℤ, ◌≡◌, List, length, take, Option, Some, None}
-use Rattle.mars_base.specs.Bytes.{put}
+use Rattle.std.specs.Prelude.{ℕ, ℤ, List, length, Option, Some, None}
 use Rattle.history.specs.declared.call.Reply.{Reply}
 use Rattle.history.specs.declared.call.Reply.TheVariants.{Found, Listed, Saved, Committed, Purged}
 use Rattle.taped_records.specs.Status.{status_of, bad_caller}
@@ -39,8 +38,3 @@ same_rows were reply = were
 -- nothing more is told
 abbrev pub Nothing : Option Reply → Type 0
 Nothing told = Unit {0}
-
--- as many of the bytes as there is room for were put there, and the length of all is told; if there are none, nothing changes
-abbrev pub IsPutOut : Option (List ℕ) → (was now : List ℕ) → (len_was len : ℕ) → Type 0
-IsPutOut None was now len_was len = (now ≡ was) × (len ≡ len_was)
-IsPutOut (Some bytes) was now len_was len = (now ≡ put was 0 (take (length was) bytes)) × (len ≡ length bytes)

@@ -2,7 +2,8 @@
 ghost use Rattle.std.specs.Prelude.{◌≡◌};
 ghost use Rattle.history.specs.declared.call.Call.TheVariants.{Begin, Get, Put, Del, Scan, Save, Back, Commit, Abort, Offer, Settle, Purge};
 ghost use Rattle.taped_records.specs.Calls.{Calls, Fits, IsBadName, IsBadRecord};
-ghost use Rattle.taped_records.specs.Told.{IsPutOut, Nothing, same_rows, rows_in, number_in, count_in, value_in};
+ghost use Rattle.taped_calls.specs.Told.{IsPutOut};
+ghost use Rattle.taped_records.specs.Told.{Nothing, same_rows, rows_in, number_in, count_in, value_in};
 
 use crate::putting::{tell, tell_number, tell_value};
 use crate::records::TapedRecords;

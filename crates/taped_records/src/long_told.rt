@@ -1,12 +1,12 @@
 // What is told of a call on long bytes: its status, and what was read.
 ghost use Rattle.std.specs.Prelude.{◌≡◌, Some};
-ghost use Rattle.taped_records.specs.Told.{IsPutOut};
+ghost use Rattle.taped_calls.specs.Told.{IsPutOut};
 ghost use Rattle.taped_records.specs.Long.{status_of_stop, status_put, status_del, status_read, bytes_read, length_read};
 
-use crate::putting::put_out;
 use crate::refusals::refusal_status;
 use crate::status::{ABSENT, BROKEN, HALF, NO_MEMORY, OK, TOO_LONG};
 use long_values::Unkept;
+use taped_calls::put_out;
 use transactions::Stop;
 
 /// The status of a put.

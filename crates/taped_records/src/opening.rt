@@ -1,30 +1,24 @@
-// Arrays in memory: how they are made, and how they are opened.
-ghost use Rattle.std.specs.Prelude.{◌≡◌, ◌≢◌, ◌≤◌, pos, IfOk, IfErr, OnOk, OnErr};
+// Arrays in memory: how they are made, opened and closed.
+ghost use Rattle.std.specs.Prelude.{◌≡◌, ◌≤◌, length, IfOk, IfErr, OnOk, OnErr};
 ghost use Rattle.pcm_media.specs.Replay.{at_rest};
 ghost use Rattle.eaw_device.specs.Fresh.{IsFresh};
 ghost use Rattle.btree_pages.specs.Index.{tree};
+ghost use Rattle.taped_calls.specs.Formats.{IsUnmade};
 ghost use Rattle.taped_records.specs.Formats.{Formats};
 ghost use Rattle.taped_records.specs.Opens.{IsOpened, HasFault, in_memory};
+ghost use Rattle.taped_records.specs.Status.{bad_shape, no_memory};
 
 use crate::records::{TapedCore, TapedRecords};
-use crate::status::{BAD_SHAPE, MEDIA, NO_MEMORY, OK};
+use crate::status::{BAD_SHAPE, NO_MEMORY, OK};
 use array_shape::Shape;
 use btree_pages::BTreePages;
-use eaw_device::{AttachFault, FormatFault, format};
+use eaw_device::{AttachFault, format};
 use history::Rows;
 use mars_core::CoreFault;
 use open_records::{OpenFault, open};
 use page_store::KeyIndex;
 use std::alloc::Global;
 use tape_media::TapeMedia;
-
-/// How many bytes an array of this shape takes: 0 if there is none.
-pub fn array_size(loggers: u8, callers: u8, entries: u16, pages: u32) -> u64 {
-    match Shape::new(loggers, callers, entries, pages) {
-        Ok(shape) => shape.media_len(),
-        Err(_) => 0,
-    }
-}
 
 /// Makes a fresh array of this shape in these bytes, which are as many as `array_size` says.
 pub fn format_bytes(
@@ -50,16 +44,18 @@ pub fn format_bytes(
 fn make_fresh(alloc: Global, bytes: &mut [u8], shape: &Shape) -> Result<(), i32>
     ensures fresh { OnOk result (IsFresh shape.now (at_rest bytes.new)) }
     ensures same { OnErr result (bytes.new ≡ bytes.old) }
-    ensures refused { IfErr result (λ status. status ≢ pos 0) }
+    ensures cause { IfErr result (IsUnmade bad_shape no_memory shape.now (length bytes.old)) }
 {
+    if bytes.len() as u64 != shape.media_len() {
+        return Err(BAD_SHAPE);
+    }
     let Ok(mut media) = TapeMedia::new(alloc, bytes) else {
         return Err(NO_MEMORY);
     };
-    match format(&mut media, shape) {
-        Ok(()) => {}
-        Err(FormatFault::BadShape(_)) => return Err(BAD_SHAPE),
-        Err(FormatFault::Media) => return Err(MEDIA),
-    }
+    // Its length is right, and it is in memory: so that is what can run out.
+    let Ok(()) = format(&mut media, shape) else {
+        return Err(NO_MEMORY);
+    };
     bytes.copy_from_slice(media.bytes());
     Ok(())
 }
@@ -88,6 +84,11 @@ impl TapedRecords {
             Ok(array) => Ok(array),
             Err(_) => Err(OpenFault::NoMemory),
         }
+    }
+
+    /// Closes it. What was not committed is dropped.
+    pub fn close(array: Box<TapedRecords>) {
+        drop(array);
     }
 }
 

@@ -1,18 +1,11 @@
 // What is put where the caller has room for it.
-ghost use Rattle.std.specs.Prelude.{◌≡◌, Some};
-ghost use Rattle.taped_records.specs.Told.{IsPutOut, status_in, number_in, value_in};
+ghost use Rattle.std.specs.Prelude.{◌≡◌};
+ghost use Rattle.taped_calls.specs.Told.{IsPutOut};
+ghost use Rattle.taped_records.specs.Told.{status_in, number_in, value_in};
 
 use crate::status::{BAD_CALLER, status_of};
 use history::Reply;
-
-/// Puts as many of these bytes into `room` as it has room for, and how many there are into `len`.
-pub fn put_out(bytes: &[u8], room: &mut [u8], len: &mut u64)
-    ensures { IsPutOut (Some bytes.now) room.old room.new len.old len.new }
-{
-    let count = bytes.len().min(room.len());
-    room[..count].copy_from_slice(&bytes[..count]);
-    *len = bytes.len() as u64;
-}
+use taped_calls::put_out;
 
 /// Tells the status of an answer.
 pub fn tell(answer: &Option<Reply>) -> i32

@@ -1,15 +1,16 @@
 // What is read of an open array and its tape.
-ghost use Rattle.std.specs.Prelude.{◌≡◌, true, drop, slice_get, Some, None, MatchOption};
+ghost use Rattle.std.specs.Prelude.{◌≡◌, true, slice_get, Some, None, MatchOption};
 ghost use Rattle.tape_media.specs.Tape.{next_of};
+ghost use Rattle.taped_calls.specs.Told.{IsPiece, IsWrite};
 ghost use Rattle.taped_records.specs.Shown.{tape_of, core_in};
-ghost use Rattle.taped_records.specs.Tells.{IsRow, IsTold, IsPiece, IsWrite, IsDone, IsDoneUpTo, GoesOn};
+ghost use Rattle.taped_records.specs.Status.{no_piece};
+ghost use Rattle.taped_records.specs.Tells.{IsRow, IsTold, IsDone, IsDoneUpTo, GoesOn};
 
-use crate::putting::put_out;
 use crate::records::TapedRecords;
-use crate::status::{ABSENT, BARRIER, NO_PIECE, NO_TABLE, NOTHING, OK, WRITE};
+use crate::status::{ABSENT, NO_PIECE, NO_TABLE, OK};
 use caller_steps::Core as Steps;
 use record_slots::Value;
-use tape_media::Piece;
+use taped_calls::{put_out, tell_piece, tell_write};
 
 impl TapedRecords {
     /// A row of the last scan, by its place: its key, and as much of its value as there is room for.
@@ -43,28 +44,14 @@ impl TapedRecords {
     pub fn piece(&self, at: &mut u64, len: &mut u64) -> i32
         ensures { IsPiece (next_of (tape_of self.now)) result at.old at.new len.old len.new }
     {
-        match self.core.core().next_piece() {
-            Some(Piece::Write { at: place, bytes }) => {
-                *at = *place;
-                *len = bytes.len() as u64;
-                WRITE
-            }
-            Some(Piece::Barrier) => BARRIER,
-            None => NOTHING,
-        }
+        tell_piece(self.core.core().next_piece(), at, len)
     }
 
     /// The bytes of the next write from `skip` on, as many as there is room for, and how many there are.
     pub fn piece_bytes(&self, skip: u64, room: &mut [u8], len: &mut u64) -> i32
-        ensures { IsWrite (next_of (tape_of self.now)) skip result room.old room.new len.old len.new }
+        ensures { IsWrite no_piece (next_of (tape_of self.now)) skip result room.old room.new len.old len.new }
     {
-        match self.core.core().next_piece() {
-            Some(Piece::Write { at: _, bytes }) => {
-                put_out(from(bytes, skip), room, len);
-                OK
-            }
-            _ => NO_PIECE,
-        }
+        tell_write(self.core.core().next_piece(), NO_PIECE, skip, room, len)
     }
 
     /// The next piece was done on the device, and is forgotten.
@@ -105,14 +92,4 @@ fn nth(rows: &[(u64, Value)], at: u64) -> Option<&(u64, Value)>
     ensures { MatchOption result (slice_get rows.now at ≡ None) (λ row. slice_get rows.now at ≡ Some row.now) }
 {
     rows.get(at as usize)
-}
-
-// The bytes from `skip` on.
-fn from(bytes: &[u8], skip: u64) -> &[u8]
-    ensures { result.now ≡ drop skip bytes.now }
-{
-    if skip >= bytes.len() as u64 {
-        return &[];
-    }
-    &bytes[skip as usize..]
 }

@@ -1,14 +1,14 @@
 // Records are read one by one.
 ghost use Rattle.std.specs.Prelude.{◌≡◌, ◌≤◌, Some, IfSome, IfNone};
-ghost use Rattle.taped_records.specs.Told.{IsPutOut};
+ghost use Rattle.taped_calls.specs.Told.{IsPutOut};
 ghost use Rattle.taped_records.specs.Cursor.{AsksNext, Seeks, status_first, key_first, value_first};
 
 use crate::cursor::{First, wider};
-use crate::putting::put_out;
 use crate::records::TapedRecords;
 use crate::refusals::refusal_status;
 use crate::status::{ABSENT, BAD_CALLER, BAD_NAME, OK};
 use record_slots::Name;
+use taped_calls::put_out;
 
 impl TapedRecords {
     /// The first record from one key to another, both included: its key, as much of its value as there is room for, and how long that is.

@@ -74,13 +74,6 @@ pub const IS_OPEN: i32 = 31;
 
 pub const BAD_DEPTH: i32 = 32;
 
-// What is to be done next on the device.
-pub const NOTHING: i32 = 0;
-
-pub const WRITE: i32 = 1;
-
-pub const BARRIER: i32 = 2;
-
 /// The status of a reply.
 pub fn status_of(reply: &Reply) -> i32
     ensures { result ≡ status_of reply.now }

@@ -3,7 +3,7 @@ ghost use Rattle.std.specs.Prelude.{◌≡◌, Option, Some, None, IsSome};
 ghost use Rattle.taped_records.specs.declared.records.TapedRecords.{TapedRecords as Inside};
 ghost use Rattle.mars_c.specs.Held.{held_coded, held_owns};
 
-use super::parts::Parts;
+use box_parts::Parts;
 use std::alloc::Global;
 use std::marker::Model;
 use taped_records::TapedRecords;

@@ -25,7 +25,8 @@ use denote.Triple.Table.{entered}
 use denote.Triple.Walked.{says, Stays, stay_dropped, walk_of, ends_at, Goes-dropped, walk_Meets}
 use Rattle.std_alloc.proofs.BoxSteps.Form.{D, word, box_typed}
 use Rattle.std_alloc.proofs.BoxSteps.Steps.{box_out, box_in}
-use Rattle.mars_c.proofs.AsBox.{E, Inside, held_array, FromHeld as From}
+use Rattle.box_parts.proofs.Boxes.{held_in}
+use Rattle.mars_c.proofs.AsBox.{E, FromHeld as From}
 use Rattle.mars_c.specs.contracts.kept.held.Held.into_parts as F
 use Rattle.mars_c.specs.contracts.kept.held.Held.into_parts.Key.{name as #self}
 use Rattle.mars_c.proofs.kept.held.Held.into_parts.Statement as stated
@@ -45,10 +46,10 @@ module _ {M : Type 1} {𝓤 : Ura M} (𝓛 : Logic 𝓤) (at_mem : Memory → SP
       let To = type_at (F.signature).result tt in
       qed 𝓛 ((‵ ftrue ⊛ ‵ (fsep ((type_at From tt).own_val d z.0.4.0) ftrue)) ∷ raw (fact 𝓤 (IsSome d.array)) ∷ []) ∵
       move ! (1 ∷ []) $ heard ! _ (λ some.
-      let held = held_array d.array some in
+      let held = held_in d.array some in
       let v : D E = record { ptr = d.at; alloc = d.alloc; value = held.0 } in
       let made : To.Denot = record { ptr = v.ptr; alloc = v.alloc; value = v.value } in
-      rewrite ! 0 (λ (array : Option Inside). ‵ ftrue ⊛ ‵ (fsep ((type_at From tt).own_val (record d { array = array }) z.0.4.0) ftrue)) held.1 refl $
+      rewrite ! 0 (λ (array : Option E.row.Denot). ‵ ftrue ⊛ ‵ (fsep ((type_at From tt).own_val (record d { array = array }) z.0.4.0) ftrue)) held.1 refl $
       split ! $ drop ! $ fsplit ! $
       box_out E ! v z.0.4.0 (λ b o hv e ws fa. box_in E ! v b o v.value e refl $ use1 𝓛 (‵ (To.own_val made (word E hv b o ∷ []))) (id⊢ 𝓤 _) $ keep ! (0 ∷ []) $
       let w = word E hv b o in

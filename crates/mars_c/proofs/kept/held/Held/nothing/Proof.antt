@@ -30,7 +30,8 @@ use Rattle.std.specs.Prelude.{None}
 use Rattle.core.proofs.alloc.Calls.{handle_tells}
 use Rattle.std_alloc.proofs.BoxSteps.Form.{P, handle}
 use Rattle.std_alloc.proofs.ResultValues.{and_tt}
-use Rattle.mars_c.proofs.AsBox.{E, both, FromPtr, FromHeap}
+use Rattle.box_parts.proofs.Boxes.{both, FromPtr, FromHeap}
+use Rattle.mars_c.proofs.AsBox.{E}
 use Rattle.mars_c.specs.contracts.kept.held.Held as Held
 use Rattle.mars_c.specs.contracts.kept.held.Held.nothing as F
 use Rattle.mars_c.specs.contracts.kept.held.Held.nothing.Key.{name as #self}
