@@ -5,7 +5,7 @@ use Rattle.history.specs.Table.{Granted}
 use Rattle.history.specs.declared.call.Call.{Call}
 use Rattle.history.specs.declared.call.Reply.{Reply}
 use Rattle.std.specs.Prelude.{not}
-use Rattle.std.proofs.lemmas.List.Elements.{filter-append}
+use Rattle.std.proofs.lemmas.List.Elements.{filter-append, All-nil, All-cons, All-append, All-push}
 use Rattle.caller_steps.specs.Fate.{is_busy}
 use Rattle.mars_manager.specs.declared.view.Known.{Known}
 use Rattle.mars_manager.specs.Pass.{PassView, names_in, names_of, told_of}
@@ -14,6 +14,7 @@ use Rattle.mars_manager.specs.Locks.{steps_of, IsAgain, IsBusyBy}
 use Rattle.mars_manager.specs.Asked.{IsStepOf, Meets}
 use Rattle.caller_work.specs.declared.gate.Place.{Place}
 use Rattle.caller_work.specs.Standing.{IsSame, Adds, Tells}
+use Rattle.caller_work.specs.Telling.{AllMore}
 use Rattle.caller_work.specs.Asked.{IsToldOf}
 use Rattle.caller_work.proofs.Asking.{told_none, told_one, told_both}
 
@@ -62,37 +63,52 @@ module _ {C : Type 0} where
   pub adds_as : (was now : PassView C) (One Other : Granted → Type 0) → ((xs : Granted) → One xs → Other xs) → Adds was now One → Adds was now Other
   adds_as was now One Other so adds = record { same = adds.same; more = adds.more; told = adds.told; steps = adds.steps; met = adds.met; tells = adds.tells; holds = so adds.more adds.holds }
 
+module _ {C : Type 0} {Knows : Place → Type 0} where
   -- nothing was told to anybody
-  pub tells_none : (pass : PassView C) (before : List Place) (Holds : Granted → List Place → Type 0) → Holds [] [] → Tells pass pass before before Holds
-  tells_none pass before Holds holds = record { places = []; told = sym (append-nil before); adds = adds_none pass (λ more. Holds more []) holds }
+  pub tells_none : (pass : PassView C) (before : List Place) (Holds : Granted → List Place → Type 0) → Holds [] [] → Tells Knows pass pass before before Holds
+  tells_none pass before Holds holds = record { places = []; told = sym (append-nil before); known = All-nil Knows; adds = adds_none pass (λ more. Holds more []) holds }
 
   -- no gate was told
-  pub tells_quiet : (was now : PassView C) (before : List Place) (Holds : Granted → List Place → Type 0) → Adds was now (λ more. Holds more []) → Tells was now before before Holds
-  tells_quiet was now before Holds adds = record { places = []; told = sym (append-nil before); adds = adds }
+  pub tells_quiet : (was now : PassView C) (before : List Place) (Holds : Granted → List Place → Type 0) → Adds was now (λ more. Holds more []) → Tells Knows was now before before Holds
+  tells_quiet was now before Holds adds = record { places = []; told = sym (append-nil before); known = All-nil Knows; adds = adds }
 
   -- a gate was told one place
-  pub tells_place : (was now : PassView C) (before after : List Place) (place : Place) (Holds : Granted → List Place → Type 0) → after ≡ before ++ place ∷ [] → Adds was now (λ more. Holds more (place ∷ []))
-      → Tells was now before after Holds
-  tells_place was now before after place Holds told adds = record { places = place ∷ []; told = told; adds = adds }
+  pub tells_place : (was now : PassView C) (before after : List Place) (place : Place) (Holds : Granted → List Place → Type 0) → after ≡ before ++ place ∷ [] → Knows place → Adds was now (λ more. Holds more (place ∷ []))
+      → Tells Knows was now before after Holds
+  tells_place was now before after place Holds told knows adds = record { places = place ∷ []; told = told; known = All-cons Knows place [] knows (All-nil Knows); adds = adds }
 
   -- one list after another
-  pub tells_on : (was mid now : PassView C) (before between after : List Place) (First Second Both : Granted → List Place → Type 0) → Tells was mid before between First → Tells mid now between after Second
-      → ((xs ys : Granted) (ps qs : List Place) → First xs ps → Second ys qs → Both (xs ++ ys) (ps ++ qs)) → Tells was now before after Both
+  pub tells_on : (was mid now : PassView C) (before between after : List Place) (First Second Both : Granted → List Place → Type 0) → Tells Knows was mid before between First → Tells Knows mid now between after Second
+      → ((xs ys : Granted) (ps qs : List Place) → First xs ps → Second ys qs → Both (xs ++ ys) (ps ++ qs)) → Tells Knows was now before after Both
   tells_on was mid now before between after First Second Both one other both = record {
     places = one.places ++ other.places;
     told = other.told ∙ ap (λ (l : List Place). l ++ other.places) one.told ∙ append_assoc before one.places other.places;
+    known = All-append Knows one.places other.places one.known other.known;
     adds = adds_on was mid now (λ more. First more one.places) (λ more. Second more other.places) (λ more. Both more (one.places ++ other.places)) one.adds other.adds
         (λ xs ys first second. both xs ys one.places other.places first second);
   }
 
-  pub tells_as : (was now : PassView C) (before after : List Place) (One Other : Granted → List Place → Type 0) → ((xs : Granted) (ps : List Place) → One xs ps → Other xs ps) → Tells was now before after One → Tells was now before after Other
-  tells_as was now before after One Other so tells = record { places = tells.places; told = tells.told; adds = adds_as was now (λ more. One more tells.places) (λ more. Other more tells.places) (λ xs one. so xs tells.places one) tells.adds }
+  pub tells_as : (was now : PassView C) (before after : List Place) (One Other : Granted → List Place → Type 0) → ((xs : Granted) (ps : List Place) → One xs ps → Other xs ps) → Tells Knows was now before after One → Tells Knows was now before after Other
+  tells_as was now before after One Other so tells = record { places = tells.places; told = tells.told; known = tells.known; adds = adds_as was now (λ more. One more tells.places) (λ more. Other more tells.places) (λ xs one. so xs tells.places one) tells.adds }
 
   -- a gate is told one place more at the end
-  pub tells_then : (was now : PassView C) (before between after : List Place) (place : Place) (One Other : Granted → List Place → Type 0) → after ≡ between ++ place ∷ [] → ((xs : Granted) (ps : List Place) → One xs ps → Other xs (ps ++ place ∷ []))
-      → Tells was now before between One → Tells was now before after Other
-  tells_then was now before between after place One Other is so tells = record {
+  pub tells_then : (was now : PassView C) (before between after : List Place) (place : Place) (One Other : Granted → List Place → Type 0) → after ≡ between ++ place ∷ [] → Knows place → ((xs : Granted) (ps : List Place) → One xs ps → Other xs (ps ++ place ∷ []))
+      → Tells Knows was now before between One → Tells Knows was now before after Other
+  tells_then was now before between after place One Other is knows so tells = record {
     places = tells.places ++ place ∷ [];
     told = is ∙ ap (λ (l : List Place). l ++ place ∷ []) tells.told ∙ append_assoc before tells.places (place ∷ []);
+    known = All-push Knows tells.places place tells.known knows;
     adds = adds_as was now (λ more. One more tells.places) (λ more. Other more (tells.places ++ place ∷ [])) (λ xs one. so xs tells.places one) tells.adds;
   }
+
+  -- so all that was told is known
+  pub told_more : (was now : PassView C) (before after : List Place) (Holds : Granted → List Place → Type 0) → Tells Knows was now before after Holds → AllMore Knows before after
+  told_more was now before after Holds tells = record { places = tells.places; is = tells.told; all = tells.known }
+
+-- of one list after another
+pub more_on : (Knows : Place → Type 0) (before between after : List Place) → AllMore Knows before between → AllMore Knows between after → AllMore Knows before after
+more_on Knows before between after one other = record {
+  places = one.places ++ other.places;
+  is = other.is ∙ ap (λ (l : List Place). l ++ other.places) one.is ∙ append_assoc before one.places other.places;
+  all = All-append Knows one.places other.places one.all other.all;
+}

@@ -1,6 +1,7 @@
 -- What a worker tells its gate, call by call.
-use Rattle.std.proofs.Common.{◌≡◌, ◌+◌, ℕ, suc, List, [], ◌∷◌, ◌++◌, length, Option, Some, None, Result, Ok, Err, inl, inr, true, false, arith, refl, sym, ap, ◌∙◌, subst}
-use Rattle.std.specs.Prelude.{Bool, not, if◌then◌else◌}
+use Rattle.std.proofs.Common.{◌≡◌, ◌+◌, ℕ, suc, append_assoc, List, [], ◌∷◌, ◌++◌, length, Option, Some, None, Result, Ok, Err, inl, inr, true, false, arith, refl, sym, ap, ◌∙◌, subst}
+use Rattle.std.proofs.lemmas.List.Elements.{All-head, All-tail}
+use Rattle.std.specs.Prelude.{Bool, All, not, if◌then◌else◌}
 use Rattle.history.specs.Table.{Granted}
 use Rattle.history.specs.declared.call.Call.{Call}
 use Rattle.history.specs.declared.call.Reply.{Reply}
@@ -15,7 +16,7 @@ use Rattle.caller_plans.specs.declared.fate.Fate.{Fate}
 use Rattle.caller_work.specs.declared.tries.Tries.{Tries}
 use Rattle.caller_work.specs.Tries.{IsTry}
 use Rattle.caller_work.specs.declared.gate.Place.{Place}
-use Rattle.caller_work.specs.declared.gate.Place.TheVariants.{Began, Answered}
+use Rattle.caller_work.specs.declared.gate.Place.TheVariants.{Began, Answered, Ended}
 use Rattle.caller_work.specs.Standing.{AreGranted, IsRefused}
 use Rattle.caller_work.specs.Telling.{HasGranted, answers, end_places, call_places, try_places, AreTold, IsHeard, AreHeard}
 use Rattle.caller_work.proofs.TriesLemmas.{pick_true, pick_false}
@@ -100,3 +101,14 @@ module _ (one caller nth : ℕ) (tries : Tries) (plan : Plan) (plans all : List 
 -- none is left
 pub heard_none : (caller nth : ℕ) (tries : Tries) (all : List Plan) → all ≡ [] → AreHeard caller nth tries all [] [] None []
 heard_none caller nth tries all is = subst (λ (l : List Plan). AreHeard caller nth tries l [] [] None []) (sym is) (refl, refl)
+
+-- of the first plan it was told that it ended
+pub heard_first : (caller nth : ℕ) (tries : Tries) (plan : Plan) (plans : List Plan) (told : Granted) (fates : List Fate) (stopped : Option Reply) (places : List Place) → AreHeard caller nth tries (plan ∷ plans) told fates stopped places
+    → (before : List Place) × (after : List Place) × (places ≡ before ++ Ended caller nth ∷ after)
+heard_first caller nth tries plan plans told [] stopped places heard = (heard.2.2, [], heard.2.4)
+heard_first caller nth tries plan plans told (fate ∷ fates) stopped places (front, back, first, others, told_is, places_are, its, behind) =
+    (its.2, others, places_are ∙ ap (λ (l : List Place). l ++ others) its.4 ∙ append_assoc its.2 (Ended caller nth ∷ []) others)
+
+pub known_in : (Knows : Place → Type 0) (before after : List Place) (place : Place) → All Knows (before ++ place ∷ after) → Knows place
+known_in Knows [] after place all = All-head Knows place after all
+known_in Knows (other ∷ before) after place all = known_in Knows before after place (All-tail Knows other (before ++ place ∷ after) all)

@@ -1,5 +1,5 @@
 -- What a worker tells its gate.
-use Rattle.std.specs.Prelude.{ℕ, zero, suc, ◌≡◌, ◌+◌, if◌then◌else◌, IsFalse, List, [], ◌∷◌, ◌++◌, Option, Some, Result, Ok, Err}
+use Rattle.std.specs.Prelude.{ℕ, zero, suc, ◌≡◌, ◌+◌, if◌then◌else◌, IsFalse, List, [], ◌∷◌, ◌++◌, All, Option, Some, Result, Ok, Err}
 use Rattle.history.specs.Table.{Granted}
 use Rattle.history.specs.declared.call.Call.{Call}
 use Rattle.history.specs.declared.call.Call.TheVariants.{Begin, Offer}
@@ -23,6 +23,12 @@ abbrev pub StandsAt : Place → Granted → Type 0
 StandsAt (Began caller nth) told = HasGranted Begin told
 StandsAt (Offered caller nth) told = HasGranted Offer told
 StandsAt _ told = Unit {0}
+
+-- more places stand behind those of before, and this is so of each
+pub record AllMore (Knows : Place → Type 0) (before after : List Place) : Type 0 where
+  pub places : List Place
+  pub is : after ≡ before ++ places
+  pub all : All Knows places
 
 -- each of these calls was answered, counted from one on
 abbrev pub answers : (caller nth call : ℕ) → Granted → List Place

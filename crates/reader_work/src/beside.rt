@@ -5,8 +5,9 @@ ghost use Rattle.history.specs.Writes.{Table};
 ghost use Rattle.mars_manager.specs.Sharing.{CanShare};
 ghost use Rattle.mars_manager.specs.Pass.{dealt};
 ghost use Rattle.caller_work.specs.declared.worker.Worker.{Worker};
-ghost use Rattle.caller_work.specs.Crew.{IsBlank};
+ghost use Rattle.caller_work.specs.Crew.{IsBlank, KnowsFirst};
 ghost use Rattle.caller_work.specs.Standing.{CanWork, HasWorked};
+ghost use Rattle.caller_work.specs.Telling.{AllMore};
 ghost use Rattle.caller_work.specs.Worked.{Worked};
 ghost use Rattle.snapshot_readers.specs.Batches.{joined};
 ghost use Rattle.snapshot_readers.specs.Feeds.{fed, fed_book, read, read_book};
@@ -44,6 +45,7 @@ fn all_worked<R: Threads + Wait + Sync, C: Core + Drop + Send, G: Gate + Sync>(
     requires ready { (i : ℕ) (w : Worker C) → i < length workers.items → CanWork mars.now (slice_index_or workers.items i w) }
     ensures many { length result.items ≡ length workers.items }
     ensures worked { (i : ℕ) (w : Worker C) → i < length workers.items → HasWorked (slice_index_or workers.items i w) (slice_index_or result.items i w) }
+    ensures told { (i : ℕ) (w : Worker C) → i < length workers.items → AllMore (G.told gate.now) (slice_index_or workers.items i w).told.places (slice_index_or result.items i w).told.places }
 {
     work_all(rt, mars, &mut workers, gate);
     workers
@@ -132,6 +134,7 @@ fn all_work<
     requires open { (names : List (List ℕ)) × (base : Table) × All (IsReady names B.book base) crew.1.items }
     ensures many { length result.0.items ≡ length crew.0.items }
     ensures worked { (i : ℕ) (w : Worker C) → i < length crew.0.items → HasWorked (slice_index_or crew.0.items i w) (slice_index_or result.0.items i w) }
+    ensures told { (i : ℕ) (w : Worker C) → i < length crew.0.items → AllMore (G.told gate.now) (slice_index_or crew.0.items i w).told.places (slice_index_or result.0.items i w).told.places }
     ensures pass { (result.1.table ≡ B.table) × IsOnlooker B.number result.1.known }
     ensures answered { IfOk result.2 (λ told. (names : List (List ℕ)) (base : Table) → All (IsReady names B.book base) crew.1.items → AllAnswer names base result.1.known.seen (keys_of crew.1.items) told.items) }
 {
@@ -156,7 +159,8 @@ fn all_work<
         rt,
         move || -> Vec<Worker<C>>
             requires { (0 < length workers.items) × ((i : ℕ) (w : Worker C) → i < length workers.items → CanWork mars.now (slice_index_or workers.items i w)) }
-            ensures { (length result.items ≡ length workers.items) × ((i : ℕ) (w : Worker C) → i < length workers.items → HasWorked (slice_index_or workers.items i w) (slice_index_or result.items i w)) }
+            ensures { (length result.items ≡ length workers.items) × ((i : ℕ) (w : Worker C) → i < length workers.items → HasWorked (slice_index_or workers.items i w) (slice_index_or result.items i w))
+                × ((i : ℕ) (w : Worker C) → i < length workers.items → AllMore (G.told at_ends.entry.now.gate.now) (slice_index_or workers.items i w).told.places (slice_index_or result.items i w).told.places) }
         { all_worked(rt, mars, workers, at_ends) },
         move || -> Vec<ReadWorker>
             requires { (0 < length readers.items) × ((i : ℕ) (w : ReadWorker) → i < length readers.items → CanRead (slice_index_or readers.items i w)) }
@@ -188,6 +192,7 @@ fn run_beside<R: Threads + Wait + Sync, C: Core + Drop + Send, G: Gate + Sync>(
     requires rooms { (rooms.workers.items ≡ []) × (length rooms.jobs.items ≤ vec_capacity rooms.workers) × (rooms.told.items ≡ []) × (length rooms.jobs.items ≤ vec_capacity rooms.told) }
     requires open { IsOpen (C.view shared.0.setup.first).state.names (C.view shared.0.setup.first).state.base readership }
     ensures worked { Worked C.tells tries (plans_of rooms.jobs.items) (C.view shared.0.setup.first) (C.view result.0) result.1.items result.3 }
+    ensures told { KnowsFirst (G.told gate.now) (plans_of rooms.jobs.items) }
     ensures answered { IfOk result.2 (λ told. AllAnswer (C.view shared.0.setup.first).state.names (C.view shared.0.setup.first).state.base (C.view result.0).state.history (keys_of readership.workers.items) told.items) }
 {
     let (mars, mut passes) = shared;
@@ -228,6 +233,7 @@ fn work_beside<R: Threads + Wait + Sync, C: Core + Drop + Send, G: Gate + Sync>(
     requires tries { 1 ≤ tries }
     requires open { IsOpen (C.view core).state.names (C.view core).state.base readership }
     ensures worked { IfOk result (λ r. Worked C.tells tries plans.items (C.view core) (C.view r.0) r.1.items r.3) }
+    ensures told { IfOk result (λ r. KnowsFirst (G.told gate.now) plans.items) }
     ensures answered { IfOk result (λ r. IfOk r.2 (λ told. AllAnswer (C.view core).state.names (C.view core).state.base (C.view r.0).state.history (keys_of readership.workers.items) told.items)) }
     ensures given_back { IfErr result (λ e. e.1 ≡ core) }
 {
@@ -273,6 +279,7 @@ pub fn work_with<R: Threads + Wait + Sync, C: Core + Drop + Send, G: Gate + Sync
     requires tries { 1 ≤ tries }
     requires open { IsOpenWith (C.view core).state.names (C.view core).state.base readership }
     ensures worked { IfOk result (λ r. Worked C.tells tries plans.items (C.view core) (C.view r.0) r.1.items r.3) }
+    ensures told { IfOk result (λ r. KnowsFirst (G.told gate.now) plans.items) }
     ensures answered { IfOk result (λ r. IfOk r.2 (λ told. AllAnswer (C.view core).state.names (C.view core).state.base (C.view r.0).state.history (asks_with readership) told.items)) }
     ensures given_back { IfErr result (λ e. e.1 ≡ core) }
 {

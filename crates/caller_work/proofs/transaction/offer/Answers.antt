@@ -30,7 +30,7 @@ returns g c =
     let made = c.end_outcome.result in
     let granted = sym c.if-is_refusal.ensures in
     let here : Place = Offered spot.caller spot.nth in
-    tells_place _ _ _ _ here (λ (l : Granted) (places : List Place). Ends end.Offer l made × (places ≡ end_places spot.caller spot.nth end.Offer l)) c.tell_granted.ensures.notes
+    tells_place _ _ _ _ here (λ (l : Granted) (places : List Place). Ends end.Offer l made × (places ≡ end_places spot.caller spot.nth end.Offer l)) c.tell_granted.ensures.notes c.tell_granted.ensures.told
     (adds_on _ _ _ _ _ (λ (l : Granted). Ends end.Offer l made × (here ∷ [] ≡ end_places spot.caller spot.nth end.Offer l)) (adds_one _ _ Offer reply e.same e.told e.table e.asked e.busy (λ (l : Granted). l ≡ (Offer, reply) ∷ []) refl)
     (adds_one _ _ Settle answer f.same f.told f.table f.asked f.busy (λ (l : Granted). l ≡ (Settle, answer) ∷ []) refl)
     (λ xs ys is then. subst (λ (l : Granted). Ends end.Offer l made × (here ∷ [] ≡ end_places spot.caller spot.nth end.Offer l)) (λ i. sym is i ++ sym then i) (

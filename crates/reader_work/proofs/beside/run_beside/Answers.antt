@@ -8,7 +8,7 @@ use Rattle.caller_steps.specs.Run.{AreOf}
 use Rattle.caller_work.specs.declared.crew.Job.{Job}
 use Rattle.caller_work.proofs.Hiring.{there_is, it_is, none_of}
 use Rattle.caller_work.proofs.Whole.{whole}
-use Rattle.caller_work.proofs.Manning.{ready_at, left_at, all_done}
+use Rattle.caller_work.proofs.Manning.{ready_at, left_at, all_done, first_known}
 use Rattle.reader_work.specs.News.{IsOnlooker}
 use Rattle.reader_work.specs.Readership.{plans_of, keys_of}
 use Rattle.reader_work.proofs.Answering.{answer_longer}
@@ -131,3 +131,11 @@ returns-clause-answered g c =
     let first = (g.C.Core.view mars.setup.first).state in
     IfOk-weaker c.all_work-workers.result.2 _ _ (λ told all. answer_longer first.names first.base last.known.seen state.history (keys_of c.args.readership.workers.items) told.items
     (seen_front g.C.Core.tells g.C.Core.view mars.setup gathered.turns state last.known fits) (all first.names first.base c.requires.open.ready)) c.all_work-workers.ensures.answered
+
+pub returns-clause-told : goal.returns-clause-told
+returns-clause-told g c =
+    let jobs = c.args.rooms.jobs.items in
+    let hire = c.hire-workers.ensures in
+    let work = c.all_work-workers.ensures in
+    first_known c.args.shared.0 c.args.tries (plans_of jobs) jobs c.hire-workers.result.items refl (sym (length-map jobs (λ (job : Job). job.plans))) c.requires.tries hire.len hire.hired
+    c.all_work-workers.result.0.items work.many work.worked _ work.told
