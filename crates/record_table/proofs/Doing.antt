@@ -14,7 +14,8 @@ use Rattle.history.specs.Table as history
 use Rattle.history.specs.declared.key.Key.{Key}
 use Rattle.history.specs.Key.{of_table}
 use Rattle.history.specs.declared.call.Call.{Call}
-use Rattle.history.specs.declared.call.Call.TheVariants.{Get, Put, Del, Scan}
+use Rattle.history.specs.declared.call.Call.TheVariants.{Table as OnTable}
+use Rattle.history.specs.declared.call.TableCall.TheVariants.{Get, Put, Del, Scan}
 use Rattle.history.specs.declared.call.Reply.{Reply}
 use Rattle.history.specs.declared.call.Reply.TheVariants.{Absent, Listed}
 use Rattle.record_slots.specs.Places.{version_of, tables_of}
@@ -213,7 +214,7 @@ indexed_at T table key None old new f has same = inserted_same T table key old n
 indexed_at T table key (Some slot) old new f has same = same
 
 pub indexed_same : (T : Type 0) (table : ℕ) (c : Call) (old new : Keys) (f : TableFault) → HasPages f → new ≡ old → (let r : Result T TableFault = Err f in Indexed table c old new r)
-indexed_same T table (Put name key value) old new f has same = indexed_at T table (of_table name key) (old.slot_of (of_table name key)) old new f has same
+indexed_same T table (OnTable (Put name key value)) old new f has same = indexed_at T table (of_table name key) (old.slot_of (of_table name key)) old new f has same
 indexed_same T table _ old new f has same = same
 
 -- a state with a number's own log
@@ -259,13 +260,13 @@ module _ (tells : Bool) (Opens : List ℕ → List ℕ → Type 0) (index : Inde
       )
 
 module _ (tells : Bool) (Opens : List ℕ → List ℕ → Type 0) (index : Index) (table t key : ℕ) (name : List ℕ) (old new : PagesView) (holds : Holds tells index old) (alive : IsAlive old.store) (looks : LooksAs tells Opens t false old new) where
-  pub got : (value : Option (List ℕ)) → (IsTrue tells → get (seen_by (state_of index old) t) (of_table name key) ≡ value) → Does tells Opens index table t (Get name key) old new (Ok (history.found value)) × Holds tells index new
-  got value is = looked tells Opens index table t (Get name key) old new holds (history.found value) alive looks tt (λ told. tt)
+  pub got : (value : Option (List ℕ)) → (IsTrue tells → get (seen_by (state_of index old) t) (of_table name key) ≡ value) → Does tells Opens index table t (OnTable (Get name key)) old new (Ok (history.found value)) × Holds tells index new
+  got value is = looked tells Opens index table t (OnTable (Get name key)) old new holds (history.found value) alive looks tt (λ told. tt)
       (λ told. record { replies = ap history.found (sym (is told)); same = unlogged (state_of index old) t }) (λ a b same. same) refl
 
   -- a record that is not seen needs no removal
-  pub not_removed : (IsTrue tells → get (seen_by (state_of index old) t) (of_table name key) ≡ None) → Does tells Opens index table t (Del name key) old new (Ok Absent) × Holds tells index new
-  not_removed unseen = looked tells Opens index table t (Del name key) old new holds Absent alive looks tt (λ told seen. absurd (false≢true (sym (ap is_some (unseen told)) ∙ seen)))
+  pub not_removed : (IsTrue tells → get (seen_by (state_of index old) t) (of_table name key) ≡ None) → Does tells Opens index table t (OnTable (Del name key)) old new (Ok Absent) × Holds tells index new
+  not_removed unseen = looked tells Opens index table t (OnTable (Del name key)) old new holds Absent alive looks tt (λ told seen. absurd (false≢true (sym (ap is_some (unseen told)) ∙ seen)))
       (λ told. record { replies = ap history.removed (sym (unseen told)); same = unlogged (state_of index old) t }) (λ a b same. same) refl
 
 -- the answer to a scan, given what was gathered
@@ -275,21 +276,21 @@ scanned_as rows (Err f) = Err f
 
 module _ (tells : Bool) (Opens : List ℕ → List ℕ → Type 0) (index : Index) (table t low high : ℕ) (name : List ℕ) (old new : PagesView) (holds : Holds tells index old) (alive : IsAlive old.store) (rows : List (ℕ × List ℕ)) where
   -- the scan was refused, but not by the medium
-  unscanned : (f : TableFault) → (let r : Result Reply TableFault = Err f in IsFalse (answers.is_failed r)) → (let r : Result Reply TableFault = Err f in Cause tells index table t (Scan name low high) old r) → LooksAs tells Opens t false old new
-      → Does tells Opens index table t (Scan name low high) old new (Err f) × Holds tells index new
+  unscanned : (f : TableFault) → (let r : Result Reply TableFault = Err f in IsFalse (answers.is_failed r)) → (let r : Result Reply TableFault = Err f in Cause tells index table t (OnTable (Scan name low high)) old r) → LooksAs tells Opens t false old new
+      → Does tells Opens index table t (OnTable (Scan name low high)) old new (Err f) × Holds tells index new
   unscanned f well cause looks =
       let moved = moved_by_look tells Opens index t old new alive (holds alive) looks in (
-        does_moved tells Opens index table t (Scan name low high) old new (Err f) alive well moved cause (λ told. tt) (λ told. look_keys tells Opens index table t (Scan name low high) old new holds looks told)
-            (λ told _. look_bytes tells Opens index table t (Scan name low high) old new holds looks told) tt,
-        holds_moved tells Opens index table t (Scan name low high) old new holds alive moved,
+        does_moved tells Opens index table t (OnTable (Scan name low high)) old new (Err f) alive well moved cause (λ told. tt) (λ told. look_keys tells Opens index table t (OnTable (Scan name low high)) old new holds looks told)
+            (λ told _. look_bytes tells Opens index table t (OnTable (Scan name low high)) old new holds looks told) tt,
+        holds_moved tells Opens index table t (OnTable (Scan name low high)) old new holds alive moved,
       )
 
   pub scanned : (r : Result (Unit {0}) TableFault) → LooksAs tells Opens t (answers.is_failed r) old new → ScanCause tells r → (IsTrue tells → OnOk r (rows ≡ rows_seen index t name old low high))
-      → Does tells Opens index table t (Scan name low high) old new (replied Listed (scanned_as rows r)) × Holds tells index new
-  scanned (Ok done) looks cause seen = looked tells Opens index table t (Scan name low high) old new holds (Listed rows) alive looks tt (λ told. tt)
+      → Does tells Opens index table t (OnTable (Scan name low high)) old new (replied Listed (scanned_as rows r)) × Holds tells index new
+  scanned (Ok done) looks cause seen = looked tells Opens index table t (OnTable (Scan name low high)) old new holds (Listed rows) alive looks tt (λ told. tt)
       (λ told. record { replies = ap Listed (seen told); same = unlogged (state_of index old) t }) (λ a b same. same) refl
   scanned (Err Media) looks cause seen =
-      (does_failed tells Opens index table t (Scan name low high) old new alive (failed_by_look tells Opens index t old new alive (holds alive) looks), holds_dead tells Opens index table t (Scan name low high) old new (looks.dies refl).0)
+      (does_failed tells Opens index table t (OnTable (Scan name low high)) old new alive (failed_by_look tells Opens index t old new alive (holds alive) looks), holds_dead tells Opens index table t (OnTable (Scan name low high)) old new (looks.dies refl).0)
   scanned (Err NoMemory) looks cause seen = unscanned NoMemory refl (alive, tt) looks
   scanned (Err (Damaged bad)) looks cause seen = unscanned (Damaged bad) refl (alive, tt, cause) looks
   scanned (Err Dead) looks cause seen = absurd cause

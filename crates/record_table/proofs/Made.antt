@@ -11,7 +11,8 @@ use Rattle.array_shape.specs.Places.{data_len}
 use Rattle.eaw_face.specs.State.{State, listed, count_on}
 use Rattle.eaw_face.specs.StoreView.{LeavesOnly}
 use Rattle.eaw_face.specs.Causes.{IsAlive}
-use Rattle.history.specs.declared.call.Call.TheVariants.{Abort}
+use Rattle.history.specs.declared.call.Call.TheVariants.{Control}
+use Rattle.history.specs.declared.call.Control.TheVariants.{Abort}
 use Rattle.history.specs.declared.call.Reply.TheVariants.{Fine}
 use Rattle.record_slots.specs.Fresh.{fresh_page}
 use Rattle.record_slots.specs.Names.{names_in, with_last, with_entries}
@@ -414,7 +415,7 @@ module _ (tells : Bool) (Opens : List ℕ → List ℕ → Type 0) (index : Inde
         written new does =
             let r : Result (Unit {0}) PageFault = Ok tt in
             let out = does.done.outline in
-            let both = ends tells Opens index (page.end 0 false) 0 0 Abort far new far_holds (λ alive. abort_is tells index laws far (far_holds alive) 0 0) (Unit {0}) (λ done. Fine) r does (λ f e ne. absurd (cc)) (λ told. refl) in
+            let both = ends tells Opens index (page.end 0 false) 0 0 (Control Abort) far new far_holds (λ alive. abort_is tells index laws far (far_holds alive) 0 0) (Unit {0}) (λ done. Fine) r does (λ f e ne. absurd (cc)) (λ told. refl) in
             let done = both.0 in
             let next : IsTrue tells → next_page now.store.state.bytes ≡ next_page old.store.state.bytes = λ told. ap (λ (k : Keys). k.next_page) (ready.keys told) in
             let bytes_are : IsTrue tells → new.store.state.bytes ≡ applied parts now.store.state.bytes = λ told. both.0.quiet told refl tt ∙ far_is told in (
@@ -441,7 +442,7 @@ module _ (tells : Bool) (Opens : List ℕ → List ℕ → Type 0) (index : Inde
                     ∙ (facts told).indexes table root (subst (λ (ts : List TableEntry). option_map (λ entry. entry.root) (slice_get ts table) ≡ Some root) (sym (ready.tables told)) is)
                     ∙ ready.indexes told table root is;
                 keys = λ told. ap (keys_of index) (bytes_are told) ∙ (facts told).keys ∙ ap with_page (ready.keys told);
-                state = λ told. done.done told ∙ ap (calls.after 0 Abort Fine) (far_state told ∙ ready.state told);
+                state = λ told. done.done told ∙ ap (calls.after 0 (Control Abort) Fine) (far_state told ∙ ready.state told);
                 free = (ap (λ (o : Outline). o.ranges 0) out ∙ with_here far.store.ranges 0 None, ap (λ (o : Outline). o.counts 0) out ∙ with_here far.counts 0 []);
                 same_tables = λ told _. tt;
                 same_keys = λ told _. tt;
