@@ -25,4 +25,4 @@ returns g c =
     let e = c.call_wait.ensures in
     let other = same_false the_type _ _ (sym c.if-eq.ensures) in
     tells_quiet _ _ _ _ (adds_one _ _ _ _ e.same e.told e.table e.asked e.busy _
-    (ends_alone c.args.end _ _ other (_, rw c.end_call-call.ensures refl, c.end_outcome.ensures), end_none c.args.spot.now.caller c.args.spot.now.nth c.args.end _ other))
+    (ends_alone c.args.end _ _ other (_, rw c.end_call.ensures refl, c.end_outcome.ensures), end_none c.args.spot.now.caller c.args.spot.now.nth c.args.end _ other))
