@@ -264,6 +264,8 @@ impl<M: Media, D: Depth> EawStore for Eaw<M, D> {
 
     ghost shaped = { λ s. s.sound.shaped };
 
+    ghost few_wait = { λ s. s.sound.ready.fit.few };
+
     ghost long = { λ s told. length-shown M.tells (M.view s.media) s.shape s.logs.items s.late s.is_dead s.sound told };
 
     ghost outlines = { λ s t told alive. outlines s.shape s.late (M.view s.media).content s.logs.items t (s.sound.told told alive) };

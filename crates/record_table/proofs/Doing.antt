@@ -70,6 +70,7 @@ module _ (tells : Bool) (Opens : List ℕ → List ℕ → Type 0) (index : Inde
       → (IsTrue tells → IsQuiet index old t c → new.store.state.bytes ≡ old.store.state.bytes) → OnOk r (length (old.counts t) ≡ saves_after c (length (old.counts t))) → Does tells Opens index table t c old new r
   does_moved r alive well moved cause stays indexed quiet saves = record {
     shape = moved.shape;
+    depth = moved.depth;
     mirrors = moved.mirrors;
     cause = cause;
     faults = λ _. (moved.dead, moved.faults);
@@ -92,6 +93,7 @@ module _ (tells : Bool) (Opens : List ℕ → List ℕ → Type 0) (index : Inde
   pub does_failed : IsAlive old.store → Failed tells Opens index t old new → Does tells Opens index table t c old new (Err Media)
   does_failed alive failed = record {
     shape = failed.shape;
+    depth = failed.depth;
     mirrors = failed.mirrors;
     cause = alive;
     faults = λ well. absurd (false≢true (sym well));
@@ -114,7 +116,8 @@ module _ (tells : Bool) (Opens : List ℕ → List ℕ → Type 0) (index : Inde
   does_dead_same : old.store.is_dead ≡ true → Does tells Opens index table t c old old (Err Dead)
   does_dead_same dead = record {
     shape = refl;
-    mirrors = none_sent tells old.store old.store refl refl (λ fine. fine) (λ told mirrors fine. refl);
+    depth = refl;
+    mirrors = none_sent tells old.store old.store refl refl refl (λ fine. fine) (λ told mirrors fine. refl);
     cause = dead;
     faults = λ _. (refl, refl);
     dies = λ failed. absurd (false≢true failed);
@@ -145,6 +148,7 @@ module _ (tells : Bool) (Opens : List ℕ → List ℕ → Type 0) (index : Inde
       → (IsTrue tells → IsQuiet index old t c → mid.store.state.bytes ≡ old.store.state.bytes) → length (old.counts t) ≡ saves_after c (length (old.counts t)) → Does tells Opens index table t c old new (Ok reply)
   does_wrote reply mid key slot value moved wrote cause replies one indexed quiet saves = record {
     shape = wrote.shape ∙ moved.shape;
+    depth = wrote.depth ∙ moved.depth;
     mirrors = sent_then tells old.store mid.store new.store moved.mirrors wrote.mirrors;
     cause = cause;
     faults = λ _. (wrote.dead ∙ moved.dead, wrote.faults ∙ moved.faults);

@@ -115,6 +115,7 @@ module _ (tells : Bool) (Opens : List ℕ → List ℕ → Type 0) (index : Inde
       let now = λ (told : IsTrue tells). does.done.state told in (
         record {
           shape = does.shape;
+          depth = does.depth;
           mirrors = does.mirrors;
           cause = (alive, is.may_save does.cause.1, λ told. is.fits);
           faults = λ _. (does.done.alive ∙ sym alive, does.kept);
@@ -145,6 +146,7 @@ module _ (tells : Bool) (Opens : List ℕ → List ℕ → Type 0) (index : Inde
       let is = call alive in (
         record {
           shape = does.shape;
+          depth = does.depth;
           mirrors = does.mirrors;
           cause = alive;
           faults = λ well. absurd (false≢true (sym well));
@@ -170,7 +172,8 @@ module _ (tells : Bool) (Opens : List ℕ → List ℕ → Type 0) (index : Inde
       let alive = does.cause.0 in (
         subst (λ (v : PagesView). Does tells Opens index table t c old v (Err SavesFull)) (sym e) (record {
           shape = refl;
-          mirrors = none_sent tells old.store old.store refl refl (λ fine. fine) (λ told mirrors fine. refl);
+          depth = refl;
+          mirrors = none_sent tells old.store old.store refl refl refl (λ fine. fine) (λ told mirrors fine. refl);
           cause = (alive, (call alive).saved_out does.cause.1);
           faults = λ _. (refl, refl);
           dies = λ failed. absurd (false≢true failed);

@@ -101,6 +101,7 @@ module _ (tells : Bool) (Opens : List ℕ → List ℕ → Type 0) (index : Inde
   pub record Ready (old now : PagesView) : Type 0 where
     pub alive : IsAlive old.store
     pub shape : now.store.shape ≡ old.store.shape
+    pub depth : now.store.depth ≡ old.store.depth
     pub dead : now.store.is_dead ≡ old.store.is_dead
     pub faults : now.store.faults ≡ old.store.faults
     pub counts : now.counts ≡ old.counts
@@ -125,6 +126,7 @@ module _ (tells : Bool) (Opens : List ℕ → List ℕ → Type 0) (index : Inde
       → ((u : ℕ) → u ≢ 0 → (new.store.ranges u ≡ old.store.ranges u) × (new.counts u ≡ old.counts u)) → (IsTrue tells → Either old new) → Makes tells Opens index name old new (Err unmade.Media)
   failed old new alive shape mirrors dies others time = record {
     shape = shape;
+    depth = mirrors.depth;
     mirrors = mirrors;
     cause = alive;
     faults = λ well. absurd (false≢true (sym well));
@@ -150,7 +152,8 @@ module _ (tells : Bool) (Opens : List ℕ → List ℕ → Type 0) (index : Inde
   was_dead : (old : PagesView) → old.store.is_dead ≡ true → Makes tells Opens index name old old (Err unmade.Dead)
   was_dead old dead = record {
     shape = refl;
-    mirrors = none_sent tells old.store old.store refl refl (λ fine. fine) (λ told mirrors fine. refl);
+    depth = refl;
+    mirrors = none_sent tells old.store old.store refl refl refl (λ fine. fine) (λ told mirrors fine. refl);
     cause = dead;
     faults = λ _. (refl, refl);
     dies = λ failed. absurd (false≢true failed);
@@ -179,6 +182,7 @@ module _ (tells : Bool) (Opens : List ℕ → List ℕ → Type 0) (index : Inde
       → (IsTrue tells → OnlyUpgrades old.store.state.bytes now.store.state.bytes (Err f)) → Makes tells Opens index name old now (Err f)
   refused_by old now f well shape mirrors dead faults counts ranges others tables keys state quiet time only = record {
     shape = shape;
+    depth = mirrors.depth;
     mirrors = mirrors;
     cause = well.1;
     faults = λ _. (dead, faults);
@@ -245,6 +249,7 @@ module _ (tells : Bool) (Opens : List ℕ → List ℕ → Type 0) (index : Inde
         record {
           alive = up.cause;
           shape = looks.shape ∙ up.shape;
+          depth = looks.depth ∙ up.depth;
           mirrors = sent_then tells old.store mid.store now.store up.mirrors looks.mirrors;
           dead = still.dead ∙ (up.faults refl).0;
           faults = still.faults ∙ (up.faults refl).1;
@@ -416,6 +421,7 @@ module _ (tells : Bool) (Opens : List ℕ → List ℕ → Type 0) (index : Inde
             let bytes_are : IsTrue tells → new.store.state.bytes ≡ applied parts now.store.state.bytes = λ told. both.0.quiet told refl tt ∙ far_is told in (
               record {
                 shape = does.shape ∙ acts.shape ∙ ready.shape;
+                depth = does.depth ∙ acts.depth ∙ ready.depth;
                 mirrors = sent_then tells old.store far.store new.store (sent_then tells old.store now.store far.store ready.mirrors acts.mirrors) does.mirrors;
                 cause = (
                   ready.alive,

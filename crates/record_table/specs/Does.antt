@@ -89,6 +89,7 @@ IsQuiet index old t call = Unit {0}
 -- the names that the tables have, and in version 2 if the data is.
 pub record Does (tells : Bool) (Opens : List ℕ → List ℕ → Type 0) (index : Index) (table t : ℕ) (call : Call) (old new : PagesView) (result : Result Reply TableFault) : Type 0 where
   pub shape : new.store.shape ≡ old.store.shape
+  pub depth : new.store.depth ≡ old.store.depth
   pub cause : Cause tells index table t call old result
   pub faults : IsFalse (is_failed result) → (new.store.is_dead ≡ old.store.is_dead) × (new.store.faults ≡ old.store.faults)
   pub dies : IsTrue (is_failed result) → (new.store.is_dead ≡ true) × Rose old.store.faults new.store.faults

@@ -90,6 +90,7 @@ OnlyUpgrades old new result = Unit {0}
 -- that opens with the records that there were, under the names that there were, or under those and the new one.
 pub record Makes (tells : Bool) (Opens : List ℕ → List ℕ → Type 0) (index : Index) (name : List ℕ) (old new : PagesView) (result : Result ℕ MakeFault) : Type 0 where
   pub shape : new.store.shape ≡ old.store.shape
+  pub depth : new.store.depth ≡ old.store.depth
   pub cause : MakeCause tells name old.store result
   pub faults : IsFalse (is_make_failed result) → (new.store.is_dead ≡ old.store.is_dead) × (new.store.faults ≡ old.store.faults)
   pub dies : IsTrue (is_make_failed result) → (new.store.is_dead ≡ true) × Rose old.store.faults new.store.faults
