@@ -6,7 +6,7 @@ ghost use Rattle.eaw_face.specs.Causes.{IsAlive};
 ghost use Rattle.eaw_face.specs.Mirroring.{Mirrors, GivesUp};
 ghost use Rattle.page_store.specs.Shown.{counts_in, pages_of};
 ghost use Rattle.history.specs.Locks.{touched, has_table};
-ghost use Rattle.history.specs.declared.call.Call.TheVariants.{Begin, Table as OnTable, Control};
+ghost use Rattle.history.specs.declared.call.Call.TheVariants.{Begin, Table as OnTable, Control as Controls};
 ghost use Rattle.history.specs.declared.call.Control.TheVariants as control;
 ghost use Rattle.history.specs.declared.locks.Mode.TheVariants.{Shared, Exclusive};
 ghost use Rattle.history.specs.declared.call.Reply.TheVariants.{Dead};
@@ -233,7 +233,7 @@ impl<S: EawStore, K: KeyIndex, H: Keeper> Core<S, K, H> {
         requires inside { caller < (S.view self.old.records.store).shape.numbers }
         requires alive { IsAlive (S.view self.old.records.store) }
         requires unoffered { offers_in self.old.seats caller ≡ unoffered }
-        ensures steps { Steps S.tells caller (Control control.Commit) (core_of S.opens K.index (S.view self.old.records.store) self.old)
+        ensures steps { Steps S.tells caller (Controls control.Commit) (core_of S.opens K.index (S.view self.old.records.store) self.old)
             (core_of S.opens K.index (S.view self.new.records.store) self.new) result }
         ensures sends { Mirrors S.tells (S.view self.old.records.store) (S.view self.new.records.store) }
         ensures not_busy { IsFalse (is_busy result) }
@@ -268,7 +268,7 @@ impl<S: EawStore, K: KeyIndex, H: Keeper> Core<S, K, H> {
         requires inside { caller < (S.view self.old.records.store).shape.numbers }
         requires alive { IsAlive (S.view self.old.records.store) }
         requires unoffered { offers_in self.old.seats caller ≡ unoffered }
-        ensures steps { Steps S.tells caller (Control control.Abort) (core_of S.opens K.index (S.view self.old.records.store) self.old)
+        ensures steps { Steps S.tells caller (Controls control.Abort) (core_of S.opens K.index (S.view self.old.records.store) self.old)
             (core_of S.opens K.index (S.view self.new.records.store) self.new) result }
         ensures sends { Mirrors S.tells (S.view self.old.records.store) (S.view self.new.records.store) }
         ensures not_busy { IsFalse (is_busy result) }
@@ -291,7 +291,7 @@ impl<S: EawStore, K: KeyIndex, H: Keeper> Core<S, K, H> {
         requires inside { caller < (S.view self.old.records.store).shape.numbers }
         requires alive { IsAlive (S.view self.old.records.store) }
         requires unoffered { offers_in self.old.seats caller ≡ unoffered }
-        ensures steps { Steps S.tells caller (Control control.Offer) (core_of S.opens K.index (S.view self.old.records.store) self.old)
+        ensures steps { Steps S.tells caller (Controls control.Offer) (core_of S.opens K.index (S.view self.old.records.store) self.old)
             (core_of S.opens K.index (S.view self.new.records.store) self.new) result }
         ensures sends { Mirrors S.tells (S.view self.old.records.store) (S.view self.new.records.store) }
         ensures not_busy { IsFalse (is_busy result) }
@@ -310,7 +310,7 @@ impl<S: EawStore, K: KeyIndex, H: Keeper> Core<S, K, H> {
         requires inside { caller < (S.view self.old.records.store).shape.numbers }
         requires alive { IsAlive (S.view self.old.records.store) }
         requires unoffered { offers_in self.old.seats caller ≡ unoffered }
-        ensures steps { Steps S.tells caller (Control control.Purge) (core_of S.opens K.index (S.view self.old.records.store) self.old)
+        ensures steps { Steps S.tells caller (Controls control.Purge) (core_of S.opens K.index (S.view self.old.records.store) self.old)
             (core_of S.opens K.index (S.view self.new.records.store) self.new) result }
         ensures cause { PurgeCause (core_of S.opens K.index (S.view self.old.records.store) self.old).state caller result }
         ensures sends { Mirrors S.tells (S.view self.old.records.store) (S.view self.new.records.store) }
@@ -336,7 +336,7 @@ impl<S: EawStore, K: KeyIndex, H: Keeper> Core<S, K, H> {
         requires locked { locks ≡ Held → IsLocked (core_of S.opens K.index (S.view self.old.records.store) self.old).state caller call.now }
         ensures steps { Steps S.tells caller call.now (core_of S.opens K.index (S.view self.old.records.store) self.old)
             (core_of S.opens K.index (S.view self.new.records.store) self.new) result }
-        ensures purge { call.now ≡ Control control.Purge → PurgeCause (core_of S.opens K.index (S.view self.old.records.store) self.old).state caller result }
+        ensures purge { call.now ≡ Controls control.Purge → PurgeCause (core_of S.opens K.index (S.view self.old.records.store) self.old).state caller result }
         ensures sends { Mirrors S.tells (S.view self.old.records.store) (S.view self.new.records.store) }
         ensures not_busy { locks ≡ Held → IsFalse (is_busy result) }
         ensures tabled { IsFalse (is_refusal result) → IsTrue (finds_table self.old.seats.names call.now) }
@@ -360,7 +360,7 @@ impl<S: EawStore, K: KeyIndex, H: Keeper> Core<S, K, H> {
         requires inside { caller < (S.view self.old.records.store).shape.numbers }
         requires alive { IsAlive (S.view self.old.records.store) }
         requires offered { offers_in self.old.seats caller ≡ offered }
-        ensures steps { Steps S.tells caller (Control control.Settle) (core_of S.opens K.index (S.view self.old.records.store) self.old)
+        ensures steps { Steps S.tells caller (Controls control.Settle) (core_of S.opens K.index (S.view self.old.records.store) self.old)
             (core_of S.opens K.index (S.view self.new.records.store) self.new) result }
         ensures sends { Mirrors S.tells (S.view self.old.records.store) (S.view self.new.records.store) }
         ensures not_busy { IsFalse (is_busy result) }
@@ -401,7 +401,7 @@ impl<S: EawStore, K: KeyIndex, H: Keeper> Core<S, K, H> {
             (core_of S.opens K.index (S.view self.new.records.store) self.new) result }
         ensures sends { Mirrors S.tells (S.view self.old.records.store) (S.view self.new.records.store) }
         ensures not_busy { IsFalse (is_busy result) }
-        ensures purge { call.now ≡ Control control.Purge → PurgeCause (core_of S.opens K.index (S.view self.old.records.store) self.old).state caller result }
+        ensures purge { call.now ≡ Controls control.Purge → PurgeCause (core_of S.opens K.index (S.view self.old.records.store) self.old).state caller result }
     {
         match call {
             Call::Begin => Reply::Already,
@@ -425,7 +425,7 @@ impl<S: EawStore, K: KeyIndex, H: Keeper> Core<S, K, H> {
             (core_of S.opens K.index (S.view self.new.records.store) self.new) result }
         ensures sends { Mirrors S.tells (S.view self.old.records.store) (S.view self.new.records.store) }
         ensures not_busy { IsFalse (is_busy result) }
-        ensures purge { call.now ≡ Control control.Purge → PurgeCause (core_of S.opens K.index (S.view self.old.records.store) self.old).state caller result }
+        ensures purge { call.now ≡ Controls control.Purge → PurgeCause (core_of S.opens K.index (S.view self.old.records.store) self.old).state caller result }
     {
         match call {
             Call::Begin => Reply::Already,
@@ -446,7 +446,7 @@ impl<S: EawStore, K: KeyIndex, H: Keeper> Core<S, K, H> {
             (core_of S.opens K.index (S.view self.new.records.store) self.new) result }
         ensures sends { Mirrors S.tells (S.view self.old.records.store) (S.view self.new.records.store) }
         ensures dead { IsTrue (S.view self.old.records.store).is_dead → (result ≡ Dead) × (self.new ≡ self.old) }
-        ensures purge { call.now ≡ Control control.Purge → PurgeCause (core_of S.opens K.index (S.view self.old.records.store) self.old).state caller result }
+        ensures purge { call.now ≡ Controls control.Purge → PurgeCause (core_of S.opens K.index (S.view self.old.records.store) self.old).state caller result }
         ensures not_busy { locks ≡ Held → IsFalse (is_busy result) }
         ensures tabled { IsFalse (is_refusal result) → IsTrue (finds_table self.old.seats.names call.now) }
     {
