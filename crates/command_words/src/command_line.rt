@@ -11,16 +11,19 @@ use std::alloc::{AllocError, Global};
 pub fn command_line<'a>(alloc: Global) -> Result<Command<'a>, AllocError>
     ensures { IfOk result (λ command. app_of command ≡ command_line) }
 {
-    no_commands(alloc)
-        .subcommand(run_command(alloc)?)?
-        .subcommand(eaw_command(alloc)?)?
-        .subcommand(Command::new(alloc, "dump"))?
-        .subcommand(format_command(alloc)?)?
-        .subcommand(drill_command(alloc)?)?
-        .subcommand(callers_command(alloc)?)?
-        .subcommand(make_command(alloc)?)?
-        .subcommand(Command::new(alloc, "purge"))?
-        .subcommand(Command::new(alloc, "follow"))
+    let commands = vec![
+        in alloc;
+        run_command(alloc)?,
+        eaw_command(alloc)?,
+        Command::new(alloc, "dump"),
+        format_command(alloc)?,
+        drill_command(alloc)?,
+        callers_command(alloc)?,
+        make_command(alloc)?,
+        Command::new(alloc, "purge"),
+        Command::new(alloc, "follow"),
+    ]?;
+    no_commands(alloc).subcommands(commands)
 }
 
 fn no_commands<'a>(alloc: Global) -> Command<'a>
@@ -37,9 +40,8 @@ fn run_command<'a>(alloc: Global) -> Result<Command<'a>, AllocError>
     ensures shape { IfOk result (λ command. shape_of command ≡ subcommand (codes "run") (option_of (codes "late") ∷ flag_of (codes "frames") ∷ [])) }
     ensures local { IfOk result (λ command. (out-Command command).has_globals ≡ false) }
 {
-    Command::new(alloc, "run")
-        .arg(option(alloc, "late"))?
-        .arg(flag(alloc, "frames"))
+    let options = vec![in alloc; option(alloc, "late"), flag(alloc, "frames")]?;
+    Command::new(alloc, "run").args(options)
 }
 
 fn eaw_command<'a>(alloc: Global) -> Result<Command<'a>, AllocError>
@@ -53,32 +55,41 @@ fn format_command<'a>(alloc: Global) -> Result<Command<'a>, AllocError>
     ensures shape { IfOk result (λ command. shape_of command ≡ subcommand (codes "format") (map option_of (codes "loggers" ∷ codes "numbers" ∷ codes "entries" ∷ codes "pages" ∷ []))) }
     ensures local { IfOk result (λ command. (out-Command command).has_globals ≡ false) }
 {
-    Command::new(alloc, "format")
-        .arg(option(alloc, "loggers"))?
-        .arg(option(alloc, "numbers"))?
-        .arg(option(alloc, "entries"))?
-        .arg(option(alloc, "pages"))
+    let options = vec![
+        in alloc;
+        option(alloc, "loggers"),
+        option(alloc, "numbers"),
+        option(alloc, "entries"),
+        option(alloc, "pages"),
+    ]?;
+    Command::new(alloc, "format").args(options)
 }
 
 fn drill_command<'a>(alloc: Global) -> Result<Command<'a>, AllocError>
     ensures shape { IfOk result (λ command. shape_of command ≡ subcommand (codes "drill") (new_rule (codes "seed") ∷ new_rule (codes "count") ∷ option_of (codes "late") ∷ [])) }
     ensures local { IfOk result (λ command. (out-Command command).has_globals ≡ false) }
 {
-    Command::new(alloc, "drill")
-        .arg(Arg::new(alloc, "seed"))?
-        .arg(Arg::new(alloc, "count"))?
-        .arg(option(alloc, "late"))
+    let words = vec![
+        in alloc;
+        Arg::new(alloc, "seed"),
+        Arg::new(alloc, "count"),
+        option(alloc, "late"),
+    ]?;
+    Command::new(alloc, "drill").args(words)
 }
 
 fn callers_command<'a>(alloc: Global) -> Result<Command<'a>, AllocError>
     ensures shape { IfOk result (λ command. shape_of command ≡ subcommand (codes "callers") (new_rule (codes "callers") ∷ option_of (codes "tries") ∷ option_of (codes "late") ∷ option_of (codes "readers") ∷ [])) }
     ensures local { IfOk result (λ command. (out-Command command).has_globals ≡ false) }
 {
-    Command::new(alloc, "callers")
-        .arg(Arg::new(alloc, "callers"))?
-        .arg(option(alloc, "tries"))?
-        .arg(option(alloc, "late"))?
-        .arg(option(alloc, "readers"))
+    let words = vec![
+        in alloc;
+        Arg::new(alloc, "callers"),
+        option(alloc, "tries"),
+        option(alloc, "late"),
+        option(alloc, "readers"),
+    ]?;
+    Command::new(alloc, "callers").args(words)
 }
 
 fn make_command<'a>(alloc: Global) -> Result<Command<'a>, AllocError>

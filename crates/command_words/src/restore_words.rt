@@ -57,14 +57,17 @@ pub fn read_restore_words<'a>(
 fn restore_line<'a>(alloc: Global) -> Result<Command<'a>, AllocError>
     ensures { IfOk result (λ command. app_of command ≡ restore_line) }
 {
-    bare_line(alloc)
-        .arg(Arg::new(alloc, "image"))?
-        .arg(option(alloc, "loggers"))?
-        .arg(option(alloc, "numbers"))?
-        .arg(option(alloc, "entries"))?
-        .arg(option(alloc, "pages"))?
-        .arg(option(alloc, "fill"))?
-        .arg(flag(alloc, "replace"))
+    let words = vec![
+        in alloc;
+        Arg::new(alloc, "image"),
+        option(alloc, "loggers"),
+        option(alloc, "numbers"),
+        option(alloc, "entries"),
+        option(alloc, "pages"),
+        option(alloc, "fill"),
+        flag(alloc, "replace"),
+    ]?;
+    bare_line(alloc).args(words)
 }
 
 fn bare_line<'a>(alloc: Global) -> Command<'a>

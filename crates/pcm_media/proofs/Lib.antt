@@ -6,3 +6,4 @@ mod MemoryLemmas
 mod ChoiceLemmas
 mod CallLemmas
 mod FusedLemmas
+mod Promised

@@ -1,6 +1,8 @@
-use Rattle.std.proofs.Common.{◌≡◌, ℕ, false, inr, List, [], ◌∷◌, ◌++◌, refl, sym, ap, subst, append-nil}
+use Rattle.std.proofs.Common.{◌≡◌, ◌+◌, ℕ, cond, false, inr, List, [], ◌∷◌, ◌++◌, refl, sym, ap, subst, append-nil, arith}
 use Rattle.std.specs.Prelude.{IsTrue}
+use Rattle.std.proofs.lemmas.Bool.{ne_eqb}
 use Rattle.std.proofs.lemmas.Result.{on_ok_weaker}
+use Rattle.mars_base.proofs.Costing.{costs_err, costs_then}
 use Rattle.mars_base.proofs.Going.{then, weaker}
 use Rattle.pcm_media.specs.Images.{IsOutside}
 use Rattle.array_shape.specs.Logged.{Part, applied, places_of}
@@ -8,6 +10,10 @@ use Rattle.array_image.specs.Standing.{StandsFor}
 use Rattle.array_image.proofs.Calls.{ends_with, hands_on, none_yet}
 use Rattle.commit_queue.specs.Queue.{Commit}
 use Rattle.commit_queue.specs.Between.{IsAtRest}
+use Rattle.array_shape.specs.declared.shape.Shape.{Shape}
+use Rattle.row_bytes.specs.declared.ballot.Ballot.{Ballot}
+use Rattle.coordinator.specs.declared.cells.Cells.{Cells}
+use Rattle.coordinator.specs.Costs.{commit_calls, decide_calls, write_back_calls}
 use Rattle.coordinator.specs.Commits.{Names, commit_of, parts_named}
 use Rattle.coordinator.specs.Places.{commit_places, row_places}
 use Rattle.coordinator.proofs.Applying.{all_same, none_named}
@@ -70,3 +76,17 @@ returns-clause-rows g c told =
     on_ok_weaker c.write_back.result
     (cleared_again c.args.shape.now c.args.ballot c.args.cells.now (g.M.Media.view c.args.media.now).content.bytes (g.M.Media.view c.decide.new.media).content.bytes (g.M.Media.view c.write_back.new.media).content.bytes (c.in_ok-decide.ensures.rows told))
     (c.write_back.ensures.rows told)
+
+-- where some logger takes part, a commit is decided and written back
+both : (shape : Shape) (ballot : Ballot) (cells : List Cells) → (ballot.mask ≡ 0 → ⊥) → commit_calls shape ballot cells ≡ decide_calls shape ballot + write_back_calls shape ballot cells
+both shape ballot cells some = ap (λ b. cond b 0 (decide_calls shape ballot + write_back_calls shape ballot cells)) (ne_eqb ballot.mask 0 some)
+
+pub returns-in_err-decide-clause-costs : goal.returns-in_err-decide-clause-costs
+returns-in_err-decide-clause-costs g c =
+    costs_err g.M.Media.tells _ _ _ c.from_residual.result c.from_residual.ensures.0 (omega (arith, c.decide.ensures.costs.most, both c.args.shape.now c.args.ballot c.args.cells.now (λ none. omega (arith, none, c.if-ballot-eq0.false))))
+
+pub returns-clause-costs : goal.returns-clause-costs
+returns-clause-costs g c =
+    let all = both c.args.shape.now c.args.ballot c.args.cells.now (λ none. omega (arith, none, c.if-ballot-eq0.false)) in
+    let decided = c.in_ok-decide.ensures.costs in
+    costs_then g.M.Media.tells _ _ _ _ _ _ c.write_back.result all (record { done = λ told. decided.done refl; most = decided.most }) c.write_back.ensures.costs

@@ -1,7 +1,9 @@
-use Rattle.std.proofs.Common.{◌≡◌, ℕ, true, List, ◌∙◌, sym, arith, ◌*◌, ◌<◌, length}
-use Rattle.std.specs.Prelude.{Option, Some, None, is_some, IfSome}
+use Rattle.std.proofs.Common.{◌≡◌, ℕ, true, List, [], ◌∙◌, ap, sym, arith, ◌*◌, ◌<◌, length}
+use Rattle.std.specs.Prelude.{Option, Some, None, is_ok, is_some, IfSome}
 use Rattle.std.proofs.lemmas.Bool.{false_from_ne_true, false≢true}
-use Rattle.array_image.specs.Decided.{decided, orders}
+use Rattle.array_image.specs.Decided.{all_decided, decided, orders}
+use Rattle.array_shape.specs.Logged.{places_of}
+use Rattle.pcm_media.proofs.Writing.{writes_on}
 use Rattle.array_shape.specs.declared.shape.Shape.{Shape}
 use Rattle.row_bytes.specs.declared.row.Row.{Row}
 use Rattle.device_recovery.specs.Table.{HasOrder, cells_in_order, decided_in}
@@ -43,3 +45,9 @@ pub returns-clause-costs : goal.returns-clause-costs
 returns-clause-costs g c =
     let calls = some_apply_calls _ (total (cells_in_order c.args.shape.now c.args.rows.now) orders) (found_some c.args.shape.now c.args.rows.now c.next_order.result c.if-is_none.ensures c.next_order.ensures.found) in
     costs_then g.M.Media.tells _ (2 * total (cells_in_order c.args.shape.now c.args.rows.now) orders) 1 _ _ _ c.barrier.result calls (record { done = λ told. c.in_ok-apply_all.ensures.costs.done told; most = c.in_ok-apply_all.ensures.costs.most }) (costs_one g.M.Media.tells _ _ _ c.barrier.ensures.ticks)
+
+pub returns-clause-does : goal.returns-clause-does
+returns-clause-does g c =
+    let view = g.M.Media.view in
+    let all = places_of c.args.shape.now (all_decided c.args.shape.now (view c.args.media.now).content.bytes) in
+    writes_on g.M.Media.tells all [] (view c.args.media.now) (view c.apply_all.new.media) (view c.barrier.new.self) c.apply_all.result c.barrier.result (ap is_ok c.in_ok-apply_all.was) (λ i out. tt) c.apply_all.ensures.does c.barrier.ensures.does

@@ -11,7 +11,7 @@ use Rattle.array_shape.proofs.Cutting.{parts_of_write-parts}
 use Rattle.logger.specs.Cells.{cell_writes}
 use Rattle.logger.specs.Staging.{staged_places}
 use Rattle.logger.proofs.Ranges.{writes_failed}
-use Rattle.logger.proofs.Dealing.{DealsAt, deals_first, deals_more, deals_next, part_within, logger_there}
+use Rattle.logger.proofs.Dealing.{DealsAt, deals_first, deals_more, deals_next, deals_last, part_within, logger_there, cell_there}
 use Rattle.logger.proofs.all_loggers.stage_write.Goals as goal
 
 pub loop-part-init : goal.loop-part-init
@@ -90,3 +90,17 @@ returns-in_err-put_cell-clause-costs g c =
 pub returns-clause-costs : goal.returns-clause-costs
 returns-clause-costs g c =
     costs_all true _ _ _ _ (omega (arith, c.loop-part.invariant.costs, ap length c.in-None.ensures.steps.0, as_many c.args.shape.now c.args.addr c.args.bytes.now))
+
+pub put_cell-requires-clause-entry : goal.put_cell-requires-clause-entry
+put_cell-requires-clause-entry g c =
+    let there = cell_there c.args.shape.now c.args.tid c.requires.tid c.args.held.now c.args.addr c.args.bytes.now g.M.Media.tells (g.M.Media.view c.args.media.now) c.requires.room (g.M.Media.view c.loop-part.media) c.loop-part.next c.in-Some.part c.loop-part.part-iterator c.next.new.self c.in-Some.ensures.steps c.loop-part.invariant.deals in
+    omega (arith, there, ap (slice_index c.loop-part.next) c.from-place.ensures, ap (λ (s : Shape). s.entries) c.new-logger.ensures.shape)
+
+pub overflow_add-next : goal.overflow_add-next
+overflow_add-next g c =
+    let there = cell_there c.args.shape.now c.args.tid c.requires.tid c.args.held.now c.args.addr c.args.bytes.now g.M.Media.tells (g.M.Media.view c.args.media.now) c.requires.room (g.M.Media.view c.loop-part.media) c.loop-part.next c.in-Some.part c.loop-part.part-iterator c.next.new.self c.in-Some.ensures.steps c.loop-part.invariant.deals in
+    omega (arith, there, ap (slice_index c.loop-part.next) c.from-place.ensures)
+
+pub returns-clause-holds : goal.returns-clause-holds
+returns-clause-holds g c =
+    deals_last c.args.shape.now c.args.tid c.requires.tid c.args.held.now c.args.addr c.args.bytes.now g.M.Media.tells (g.M.Media.view c.args.media.now) c.requires.room (g.M.Media.view c.loop-part.media) c.loop-part.next c.loop-part.part-iterator c.in-None.ensures.steps.0 c.loop-part.invariant.deals

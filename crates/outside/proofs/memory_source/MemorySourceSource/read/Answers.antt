@@ -1,5 +1,5 @@
 use Rattle.std.proofs.Common.{arith, ap, sym, ◌∙◌, ◌≡◌, ◌+◌, ◌-◌, ◌<◌, ◌≤◌, min, [], ◌++◌, length, take, drop, ℕ, List}
-use Rattle.std.proofs.lemmas.List.{take_at, take-append-drop, take_rest, drop-drop, length-take-le, length-take, length-drop, length-append, nil_from_length}
+use Rattle.std.proofs.lemmas.List.{take_at, take-append-drop, take_rest, drop-drop, length-take-le, length-take, length-drop, length-append, nil_from_length, drop_at}
 use Rattle.outside.proofs.memory_source.MemorySourceSource.read.Goals as goal
 
 -- the n bytes from a place on were copied to the front of a buffer
@@ -22,3 +22,6 @@ returns-clause-bytes c =
     rw (← c.self.view_is) (took c.self.inside.bytes.items c.copy_from_slice.new.self (drop c.min-count.result c.args.buf.now) c.self.inside.at c.min-count.result
     (rw same at c.copy_from_slice.ensures.after)
     (omega (arith, rw same at c.min-count.ensures, c.copy_from_slice.ensures.len, length-take c.min-count.result c.args.buf.now, length-drop c.min-count.result c.args.buf.now, length-append c.copy_from_slice.new.self (drop c.min-count.result c.args.buf.now))))
+
+pub returns-clause-behind : goal.returns-clause-behind
+returns-clause-behind c = drop_at c.copy_from_slice.new.self (drop c.min-count.result c.args.buf.now) c.min-count.result (omega (arith, c.min-count.ensures, c.copy_from_slice.ensures.len, length-take c.min-count.result c.args.buf.now))

@@ -5,6 +5,7 @@ use Rattle.mars_base.specs.Bytes.{put}
 use Rattle.pcm_media.specs.Images.{Content}
 use Rattle.pcm_media.specs.Memory.{content_of, Memory}
 use Rattle.pcm_media.proofs.MemoryLemmas.{Suits, does, tells_done, tells_failed, failed_spent, stays_of, content_done, content_lost, bytes_failed, step_written, written_back}
+use Rattle.pcm_media.proofs.Promised.{keeps_promise}
 use Rattle.pcm_media.proofs.memory_media.MemoryMediaMedia.write.Goals as goal
 
 -- the range lies within the bytes that a read gives
@@ -59,3 +60,11 @@ returns-in_err-make-clause-lost c =
     let p = err_from_is_err_and c.from_residual.result c.from_residual.ensures.1 in
     rw (p.1, ← c.self.view_is) (λ room low. content_lost c.self.inside.start.items c.self.inside.journal c.make.new.self (Write c.args.at (length c.args.bytes.now)) c.args.bytes.now c.self.inside.bytes.items c.self.invariant
     (fits c.args.self.now _ c.args.at c.args.bytes.now c.self.inside.bytes.items c.self.view_is c.self.invariant.bytes c.requires) _ c.in_err-make.ensures.made room.0 low)
+
+pub returns-in_err-make-clause-steady : goal.returns-in_err-make-clause-steady
+returns-in_err-make-clause-steady c =
+    let p = err_from_is_err_and c.from_residual.result c.from_residual.ensures.1 in
+    rw (p.1, ← c.self.view_is) (λ calls more. keeps_promise c.self.inside.journal c.make.new.self (Write c.args.at (length c.args.bytes.now)) c.args.bytes.now _ c.in_err-make.ensures.made c.in_err-make.ensures.listed calls more (length c.args.bytes.now + more) refl)
+
+pub returns-clause-steady : goal.returns-clause-steady
+returns-clause-steady c = rw (← c.self.view_is) (λ calls more. keeps_promise c.self.inside.journal c.make.new.self (Write c.args.at (length c.args.bytes.now)) c.args.bytes.now _ c.in_ok-make.ensures.made c.in_ok-make.ensures.listed calls more (length c.args.bytes.now + more) refl)
