@@ -6,4 +6,4 @@ use Rattle.btree_pages.proofs.node.fetch_node.Goals as goal
 pub returns-clause-some : goal.returns-clause-some
 returns-clause-some g c = λ inner.
     subst (λ (ps : List Pair). 1 ≤ length ps) (sym c.read_pairs.ensures.pairs)
-    (inner_some c.read_node.new.bytes c.in-Ok.ensures.head.node (λ e. inner (c.in-Ok.ensures.head.level ∙ e)))
+    (inner_some c.read_node.new.bytes c.in_ok-head.ensures.head.node (λ e. inner (c.in_ok-head.ensures.head.level ∙ e)))
