@@ -129,17 +129,17 @@ returns-then-head-eq0-clause-some g c = tt
 pub returns-in_err-head-clause-reaches : goal.returns-in_err-head-clause-reaches
 returns-in_err-head-clause-reaches g c =
     let exit = err_from_is_err_and c.from_residual.result c.from_residual.ensures.1 in
-    rw (exit.1, exit.2) (λ told. tt)
+    rw (exit.1) (λ told. tt)
 
 pub returns-in_err-head-clause-end : goal.returns-in_err-head-clause-end
 returns-in_err-head-clause-end g c =
     let exit = err_from_is_err_and c.from_residual.result c.from_residual.ensures.1 in
-    rw (exit.1, exit.2) (λ told. tt)
+    rw (exit.1) (λ told. tt)
 
 pub returns-in_err-head-clause-some : goal.returns-in_err-head-clause-some
 returns-in_err-head-clause-some g c =
     let exit = err_from_is_err_and c.from_residual.result c.from_residual.ensures.1 in
-    rw (exit.1, exit.2) (tt)
+    rw (exit.1) tt
 
 pub returns-clause-reaches : goal.returns-clause-reaches
 returns-clause-reaches g c = λ told. tt
