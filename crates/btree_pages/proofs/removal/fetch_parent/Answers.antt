@@ -28,7 +28,7 @@ loop-node-preserved g c =
     let v2 = pages_of (V c.fetch_child.new.pages.store) c.fetch_child.new.pages in
     let top = c.args.top in
     let at = c.loop-node.node in
-    let child = c.in_ok-node.child in
+    let child = c.in_ok-node.node in
     let inner : c.loop-node.node.level ≢ 0 = λ e. omega (arith, e, c.loop-node-test.true) in
     record {
       comes = comes_down g.S.EawStore.tells g.S.EawStore.opens c.args.root c.args.key v0 v1 at.page at.level at.pairs.items c.loop-node.invariant.comes v2 c.in_ok-node.ensures.looks child.page child.level child.pairs.items
