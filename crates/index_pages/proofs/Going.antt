@@ -21,7 +21,7 @@ use Rattle.page_store.specs.declared.fault.PageFault.TheVariants as page
 use Rattle.page_store.specs.declared.index_fault.IndexFault.{IndexFault}
 use Rattle.page_store.specs.declared.index_fault.IndexFault.TheVariants as index
 use Rattle.index_pages.specs.Acts.{Acts}
-use Rattle.index_pages.specs.Faults.{as_index}
+use Rattle.page_store.specs.Faults.{as_index}
 
 pub nothing_touched : (ix : Index) (root : ℕ) (bytes : List ℕ) → IsUntouched ix root bytes bytes
 nothing_touched ix root bytes = record { pairs = refl; level = refl; pages = λ x on. (on, refl) }
