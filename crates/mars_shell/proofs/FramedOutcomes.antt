@@ -1,5 +1,5 @@
 -- What comes of lines with frames over an array that was opened.
-use Rattle.std.proofs.Common.{ℕ, ◌≤◌, List, Bool, true, false, Result, subst, arith}
+use Rattle.std.proofs.Common.{◌≡◌, ℕ, ◌≤◌, List, Bool, true, false, Result, subst, arith}
 use Rattle.std.specs.Prelude.{IsTrue}
 use Rattle.pcm_media.specs.Images.{MayLeave}
 use Rattle.pcm_media.specs.View.{View}

@@ -132,15 +132,21 @@ module _ (tells : Bool) (core last : CoreView) (callers readers tries : ℕ) (in
   caused : last.state.names ≡ core.state.names → (caller : ℕ) (less : caller < callers) → HaveCauses callers last.state.names his caller (its caller less).0
   unfolding its
   caused named caller less call holder there =
-      let c = worked.causes caller (within caller less) call holder there in
-      let among : holder < callers = omega (arith, c.among, counted) in record {
-        among = among;
-        other = c.other;
-        its = c.its;
-        planned = subst (λ (ps : List Plan). Contains (flat_map (λ (plan : Plan). plan.calls) ps) c.its) (planned_at holder among) c.planned;
-        stripe = c.stripe;
-        clashes = subst (λ (names : List (List ℕ)). IsTrue (clash (touches names call c.stripe) (touches names c.its c.stripe))) (sym named) c.clashes;
-      }
+      let made = worked.causes caller (within caller less) call holder there in
+      let asked = made.0 in
+      let c = made.2 in
+      let among : holder < callers = omega (arith, c.among, counted) in (
+        asked,
+        made.1,
+        record {
+          among = among;
+          other = c.other;
+          its = c.its;
+          planned = subst (λ (ps : List Plan). Contains (flat_map (λ (plan : Plan). plan.calls) ps) c.its) (planned_at holder among) c.planned;
+          stripe = c.stripe;
+          clashes = subst (λ (names : List (List ℕ)). IsTrue (clash (touches names asked c.stripe) (touches names c.its c.stripe))) (sym named) c.clashes;
+        },
+      )
 
   joint_work : last.state.names ≡ core.state.names → (ended : Ended) (cut : Bool) (text : List ℕ) → (ended ≢ ends.MediaFault → ended ≢ ends.NoMemory → end ≡ work.All) → (ended ≡ ends.MediaFault) ↔ (end ≡ work.MediaFault)
       → (ended ≢ ends.MediaFault → ended ≢ ends.NoMemory → AllAnswer last.state.names last.state.base last.state.history (keys_from 0 readers said) told)

@@ -1,5 +1,5 @@
 -- What comes of work over an array that was opened.
-use Rattle.std.proofs.Common.{ℕ, ◌≤◌, List, Bool, true, false, Result, Ok, Err}
+use Rattle.std.proofs.Common.{◌≡◌, ℕ, ◌≤◌, List, Bool, true, false, Result, Ok, Err}
 use Rattle.std.specs.Prelude.{IsTrue, nat_lt}
 use Rattle.pcm_media.specs.Images.{MayLeave}
 use Rattle.pcm_media.specs.View.{View}
