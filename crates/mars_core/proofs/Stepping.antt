@@ -32,11 +32,10 @@ use Rattle.record_table.specs.Shown.{state_of, pairs_of, keys_of, held_on, is_wr
 use Rattle.record_table.specs.Shown as shown
 use Rattle.caller_steps.specs.State as state
 use Rattle.caller_steps.specs.State.{State, Index, unoffered, calls_of, commits_of, records_of, view_of}
-use Rattle.caller_steps.specs.Offers.{takes_calls, may_do}
 use Rattle.caller_steps.proofs.Able.{takes_within}
 use Rattle.caller_steps.specs.Room.{Limits, IsShown, HasEntry, IndexesAt, Indexes}
-use Rattle.caller_steps.specs.Step.{Asks, StepAt, StepBy, StepIf, Acts, Step, most_saves}
-use Rattle.caller_steps.specs.Fate.{Moves, is_refusal, is_media, is_committed, committed_by, live_with, offer_with}
+use Rattle.caller_steps.specs.Step.{Asks, StepAt, StepBy, StepIf, Acts, most_saves}
+use Rattle.caller_steps.specs.Fate.{Moves, is_refusal, is_media, is_committed, committed_by, live_with}
 use Rattle.caller_steps.specs.Prefix.{HasPrefix, HasPrefixOf}
 use Rattle.caller_steps.specs.Core.{IsSafe, Steps}
 use Rattle.caller_steps.specs.Cause.{ReplyCause}
