@@ -27,8 +27,8 @@ same_shape a b loggers numbers entries pages =
 same_pages : (l p q : ℕ) → 1 ≤ l → l * p ≡ l * q → p ≡ q
 same_pages l p q some is = sym (mul-div_cancel_left p some) ∙ ap (λ n. n / l) is ∙ mul-div_cancel_left q some
 
-pub same_limits : (index : Index) (a b : Shape) → limits_of index a ≡ limits_of index b → a ≡ b
-same_limits index a b is =
+pub same_limits : (index : Index) (a b : Shape) (few many : ℕ) → limits_of index a few ≡ limits_of index b many → a ≡ b
+same_limits index a b few many is =
     let loggers : a.loggers ≡ b.loggers = ap (λ (l : Limits). l.loggers) is in
     let all : 4 * (a.loggers * a.pages) ≡ 4 * (b.loggers * b.pages) = ap (λ (l : Limits). l.slots) is in
     let each : a.loggers * a.pages ≡ b.loggers * b.pages = omega (arith, all) in

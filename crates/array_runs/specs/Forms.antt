@@ -30,6 +30,7 @@ index_in shape media = index_at (settled_data shape media.content.bytes)
 pub record SaysForm (tells : Bool) (Opens : List ℕ → List ℕ → Type 0) (form : ℕ) (old new : StoreView) : Type 0 where
   pub is : IsTrue tells → form_said (page_bytes old.state.bytes 0) ≡ form
   pub shape : new.shape ≡ old.shape
+  pub depth : new.depth ≡ old.depth
   pub ranges : (t : ℕ) → new.ranges t ≡ old.ranges t
   pub alive : IsAlive new
   pub faults : new.faults ≡ old.faults

@@ -38,6 +38,7 @@ pub fn open<S: Source, M: Media, D: Depth>(
     ensures unopened { IsTrue M.tells → IfErr result (λ ended. Unopened (M.view media) ended.0 (M.view ended.1)) }
     ensures attached { IfOk result (λ opened. Attached M.tells (M.view media) (⟦<Eaw<M, D> as EawStore>⟧.view opened.1)) }
     ensures keeps { IfOk result (λ opened. KeepsData M.tells (M.view media) (⟦<Eaw<M, D> as EawStore>⟧.view opened.1).moment (⟦<Eaw<M, D> as EawStore>⟧.view opened.1).left_since) }
+    ensures limit { IfOk result (λ opened. (⟦<Eaw<M, D> as EawStore>⟧.view opened.1).depth ≡ depth) }
 {
     let input = match read_if(alloc, reads, source) {
         Ok(input) => input,
@@ -72,6 +73,7 @@ pub fn open_for<S: Source, M: Media, D: Depth>(
     ensures outcome { IsTrue M.tells → IfErr result (λ ended. OverRecords true callers (λ none. ⊥) (M.view media) ended.0 (M.view ended.1) false []) }
     ensures attached { IfOk result (λ opened. Attached M.tells (M.view media) (⟦<Eaw<M, D> as EawStore>⟧.view opened.2)) }
     ensures keeps { IfOk result (λ opened. KeepsData M.tells (M.view media) (⟦<Eaw<M, D> as EawStore>⟧.view opened.2).moment (⟦<Eaw<M, D> as EawStore>⟧.view opened.2).left_since) }
+    ensures limit { IfOk result (λ opened. (⟦<Eaw<M, D> as EawStore>⟧.view opened.2).depth ≡ depth) }
     ensures enough { IfOk result (λ opened. callers ≤ (⟦<Eaw<M, D> as EawStore>⟧.view opened.2).shape.numbers) }
 {
     // The room is taken first, so that a lack of memory for it leaves the medium alone.
@@ -125,6 +127,7 @@ fn open_array<M: Media, D: Depth>(
     ensures unopened { IsTrue M.tells → IfErr result (λ ended. Unopened (M.view media) ended.0 (M.view ended.1)) }
     ensures attached { IfOk result (λ store. Attached M.tells (M.view media) (⟦<Eaw<M, D> as EawStore>⟧.view store)) }
     ensures keeps { IfOk result (λ store. KeepsData M.tells (M.view media) (⟦<Eaw<M, D> as EawStore>⟧.view store).moment (⟦<Eaw<M, D> as EawStore>⟧.view store).left_since) }
+    ensures limit { IfOk result (λ store. (⟦<Eaw<M, D> as EawStore>⟧.view store).depth ≡ depth) }
 {
     match Eaw::<M, D>::attach_late(alloc, media, depth) {
         Ok(store) => Ok(store),

@@ -5,8 +5,8 @@ use Rattle.std.specs.FinMap.{insert}
 use Rattle.history.specs.Key.{main_name, of_main}
 use Rattle.history.specs.Table.{Granted, left_by}
 use Rattle.history.specs.Writes.{Table}
-use Rattle.history.specs.declared.call.Call.{Call}
-use Rattle.history.specs.declared.call.Call.TheVariants.{Get, Put}
+use Rattle.history.specs.declared.call.TableCall.{TableCall}
+use Rattle.history.specs.declared.call.TableCall.TheVariants.{Get, Put}
 use Rattle.history.specs.declared.call.Reply.{Reply}
 use Rattle.history.specs.declared.call.Reply.TheVariants.{Fine, Found}
 use Rattle.caller_steps.specs.Core.{CoreView}
@@ -16,7 +16,7 @@ use Rattle.transactions.specs.Makes.{Holds}
 use Rattle.transactions.proofs.Reading.{read_is}
 use Rattle.bank.specs.Accounts.{Transfers}
 
-pub one_more : (caller : ℕ) (old new : CoreView) (calls : Granted) (call : Call) (reply : Reply) → old.state.live caller ≡ Some calls → Adds caller call reply old new → new.state.live caller ≡ Some (calls ++ (call, reply) ∷ [])
+pub one_more : (caller : ℕ) (old new : CoreView) (calls : Granted) (call : TableCall) (reply : Reply) → old.state.live caller ≡ Some calls → Adds caller call reply old new → new.state.live caller ≡ Some (calls ++ (call, reply) ∷ [])
 one_more caller old new calls call reply live adds = adds ∙ ap (λ (o : Option Granted). Some (unwrap_or o [] ++ (call, reply) ∷ [])) live
 
 pub paid_over : (caller from to amount paying paid less more : ℕ) (old first second third last : CoreView) → old.state.live caller ≡ Some [] → Stays caller old first → Stays caller old second
@@ -25,9 +25,9 @@ pub paid_over : (caller from to amount paying paid less more : ℕ) (old first s
     → amount ≤ paying → paying < 2 ^ 64 → paid + amount < 2 ^ 64 → less ≡ paying - amount → more ≡ paid + amount
     → Holds (λ calls. Transfers from to amount (records_of old.state) (left_by (records_of old.state) calls)) caller last
 paid_over caller from to amount paying paid less more old first second third last begun one two a b d e enough small fits less_is more_is =
-    let read_from : Call × Reply = (Get main_name from, Found (decimal paying)) in
-    let read_to : Call × Reply = (Get main_name to, Found (decimal paid)) in
-    let wrote_from : Call × Reply = (Put main_name from (decimal less), Fine) in
+    let read_from : TableCall × Reply = (Get main_name from, Found (decimal paying)) in
+    let read_to : TableCall × Reply = (Get main_name to, Found (decimal paid)) in
+    let wrote_from : TableCall × Reply = (Put main_name from (decimal less), Fine) in
     let live_first = one_more caller old first [] read_from.0 read_from.1 begun a in
     let live_second = one_more caller first second (read_from ∷ []) read_to.0 read_to.1 live_first b in
     let live_third = one_more caller second third (read_from ∷ read_to ∷ []) wrote_from.0 wrote_from.1 live_second d in

@@ -5,7 +5,7 @@ use Rattle.std.specs.FinMap.{get}
 use Rattle.history.specs.Key.{main_name, of_main}
 use Rattle.history.specs.Table.{Granted, begun, worked}
 use Rattle.history.specs.Writes.{Table}
-use Rattle.history.specs.declared.call.Call.TheVariants.{Get}
+use Rattle.history.specs.declared.call.TableCall.TheVariants.{Get}
 use Rattle.history.specs.declared.call.Reply.TheVariants.{Found}
 use Rattle.caller_steps.specs.Core.{CoreView}
 use Rattle.caller_steps.specs.State.{records_of}

@@ -4,7 +4,7 @@ use Rattle.std.specs.FinMap.{get}
 use Rattle.history.specs.Key.{main_name, of_main}
 use Rattle.history.specs.Table.{found}
 use Rattle.history.specs.Writes.{Table}
-use Rattle.history.specs.declared.call.Call.TheVariants.{Get}
+use Rattle.history.specs.declared.call.TableCall.TheVariants.{Get}
 use Rattle.caller_steps.specs.Core.{CoreView}
 use Rattle.caller_steps.specs.State.{State}
 use Rattle.transactions.specs.Adds.{Adds}

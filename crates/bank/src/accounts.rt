@@ -1,7 +1,7 @@
 // Accounts, and why a transfer is given up.
 ghost use Rattle.std.specs.Prelude.{◌≡◌, ◌<◌, ◌^◌, decimal, IsTrue, IfOk, IfErr};
 ghost use Rattle.history.specs.Key.{main_name};
-ghost use Rattle.history.specs.declared.call.Call.TheVariants.{Get, Put};
+ghost use Rattle.history.specs.declared.call.TableCall.TheVariants.{Get, Put};
 ghost use Rattle.history.specs.declared.call.Reply.TheVariants.{Fine, Found};
 ghost use Rattle.caller_steps.specs.Sound.{IsSound};
 ghost use Rattle.transactions.specs.Adds.{Stays, Adds};

@@ -19,7 +19,7 @@ use Rattle.page_store.specs.Shown.{Shown}
 use Rattle.page_store.specs.Works.{Step, front, onward, aside, acts, Spends, fronts_of, way_of, asides_of, actions_of, AreActs, ActsBy, IsAmong, IsMet, takes_of, Limits, is_done, blamed, blamed_index, insertion_limits, WorksFrom}
 use Rattle.page_store.specs.declared.fault.PageFault.{PageFault}
 use Rattle.page_store.specs.declared.index_fault.IndexFault.{IndexFault}
-use Rattle.index_pages.specs.Faults.{as_index}
+use Rattle.page_store.specs.Faults.{as_index}
 use Rattle.index_pages.specs.Fetched.{TestCause}
 use Rattle.index_pages.specs.Page.{level_said, pairs_said}
 use Rattle.index_pages.specs.Peeks.{Peeks, AreAsides}

@@ -21,7 +21,7 @@ use Rattle.page_store.specs.declared.fault.PageFault.{PageFault}
 use Rattle.page_store.specs.declared.fault.PageFault.TheVariants as faults
 use Rattle.page_store.specs.declared.index_fault.IndexFault.{IndexFault}
 use Rattle.page_store.specs.declared.index_fault.IndexFault.TheVariants as index
-use Rattle.index_pages.specs.Faults.{as_index}
+use Rattle.page_store.specs.Faults.{as_index}
 use Rattle.index_pages.specs.Page.{level_said, pairs_said}
 use Rattle.index_pages.specs.Peeks.{Peeks}
 use Rattle.index_pages.proofs.Working.{spends_none, spends_ill, spends_then, spends_onward, spends_act, asides_plain, onwards, asides_two, actions_two, acts_two, fronts_two, way_two, takes_two, met_later, met_first, works_of, blamed_same}

@@ -21,7 +21,7 @@ use Rattle.page_store.specs.declared.index_fault.IndexFault.{IndexFault}
 use Rattle.page_store.specs.declared.index_fault.IndexFault.TheVariants as index
 use Rattle.index_pages.specs.Acts.{Acts}
 use Rattle.index_pages.specs.Adding.{TakesPage}
-use Rattle.index_pages.specs.Faults.{as_index}
+use Rattle.page_store.specs.Faults.{as_index}
 use Rattle.index_pages.specs.Fetched.{TestCause, IsFront}
 use Rattle.index_pages.specs.Keys.{key_end}
 use Rattle.index_pages.specs.Page.{page_pairs, count_of, level_of}

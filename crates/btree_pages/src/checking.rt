@@ -25,8 +25,7 @@ use crate::page::read_node_head;
 use btree_laws::Root;
 use eaw_face::EawStore;
 use index_pages::{
-    HeldPage, LEVEL_MAX, PAGE_LEN, check_fault, check_lists, check_slot, check_super, fetch_page,
-    read_pair,
+    HeldPage, LEVEL_MAX, PAGE_LEN, check_lists, check_slot, check_super, fetch_page, read_pair,
 };
 use noted::{Keeper, NotedRows};
 use page_store::{CheckFault, Pages, TableRows};
@@ -61,14 +60,8 @@ pub fn check<S: EawStore, H: Keeper>(
         (S.view pages.old.store) (S.view pages.new.store) result }
     ensures dead { IsErrOf result CheckFault.Dead → pages.new ≡ pages.old }
 {
-    let front = match check_super(pages, FORM) {
-        Ok(front) => front,
-        Err(fault) => return Err(check_fault(fault)),
-    };
-    match check_lists(pages, &front) {
-        Ok(()) => {}
-        Err(fault) => return Err(fault),
-    }
+    let front = check_super(pages, FORM)?;
+    check_lists(pages, &front)?;
     check_tables(alloc, pages, tables, &front)
 }
 
@@ -100,14 +93,8 @@ fn check_tables<S: EawStore, H: Keeper>(
             return Err(CheckFault::Damaged { page: 0 });
         }
         let mut rows = NotedRows::new(alloc);
-        match check_tree(pages, &mut rows, front, Root { page, table }) {
-            Ok(()) => {}
-            Err(fault) => return Err(fault),
-        }
-        match tables.push(rows) {
-            Ok(()) => {}
-            Err(_) => return Err(CheckFault::NoMemory),
-        }
+        check_tree(pages, &mut rows, front, Root { page, table })?;
+        tables.push(rows)?;
     }
     Ok(())
 }
@@ -133,10 +120,7 @@ fn check_tree<S: EawStore, H: Keeper>(
 {
     let page = root.page;
     let mut bytes = [0; PAGE_LEN];
-    match fetch_page(pages, page, &mut bytes) {
-        Ok(()) => {}
-        Err(fault) => return Err(check_fault(fault)),
-    }
+    fetch_page(pages, page, &mut bytes)?;
     let level = level_in(&bytes);
     if level > LEVEL_MAX {
         return Err(CheckFault::Damaged { page });
@@ -179,10 +163,7 @@ fn check_under<S: EawStore, H: Keeper>(
     ensures dead { IsErrOf result CheckFault.Dead → ⊥ }
 {
     let mut bytes = [0; PAGE_LEN];
-    match fetch_page(pages, spot.page, &mut bytes) {
-        Ok(()) => {}
-        Err(fault) => return Err(check_fault(fault)),
-    }
+    fetch_page(pages, spot.page, &mut bytes)?;
     check_page(pages, rows, front, root, level, spot, &bytes)
 }
 
@@ -275,10 +256,7 @@ fn check_children<S: EawStore, H: Keeper>(
             low,
             high: end_of(bytes, count, i, high),
         };
-        match check_under(pages, rows, front, root, level - 1, spot) {
-            Ok(()) => {}
-            Err(fault) => return Err(fault),
-        }
+        check_under(pages, rows, front, root, level - 1, spot)?;
     }
     Ok(())
 }
@@ -408,10 +386,7 @@ fn check_slots<S: EawStore, H: Keeper>(
     let mut held = HeldPage::none();
     for i in 0..count {
         let pair = read_pair(bytes, i);
-        match check_slot(pages, &mut held, rows, table, page, pair, slots) {
-            Ok(()) => {}
-            Err(fault) => return Err(fault),
-        }
+        check_slot(pages, &mut held, rows, table, page, pair, slots)?;
     }
     Ok(())
 }

@@ -25,8 +25,7 @@ use crate::write::{add_pair, cut_page, grow_root, half_of};
 use btree_laws::Root;
 use eaw_face::EawStore;
 use index_pages::{
-    LEVEL_MAX, PAIRS_MAX, SLOTS_IN_PAGE, fetch_super, index_fault, index_page_count, take_page,
-    take_slot,
+    LEVEL_MAX, PAIRS_MAX, SLOTS_IN_PAGE, fetch_super, index_page_count, take_page, take_slot,
 };
 use page_store::{IndexFault, LeafPage, Pages};
 use record_slots::Super;
@@ -59,10 +58,7 @@ pub fn insert<S: EawStore>(
     ensures dead { IsErrOf result IndexFault.Dead → pages.new ≡ pages.old }
 {
     let count = index_page_count(pages);
-    let front = match fetch_super(pages, FORM) {
-        Ok(front) => front,
-        Err(fault) => return Err(index_fault(fault)),
-    };
+    let front = fetch_super(pages, FORM)?;
     if !is_slot_left(&front, count) {
         return Err(IndexFault::SlotsFull {
             slots: front.next_slot,
@@ -74,10 +70,7 @@ pub fn insert<S: EawStore>(
     if !is_index_page(root.page, count) {
         return Err(IndexFault::Damaged { page: 0 });
     }
-    let top = match fetch_node(pages, root.page) {
-        Ok(top) => top,
-        Err(fault) => return Err(index_fault(fault)),
-    };
+    let top = fetch_node(pages, root.page)?;
     if top.pairs.len() < PAIRS_MAX {
         return insert_below(pages, tid, root, key, front, top);
     }
@@ -122,18 +115,9 @@ fn insert_above<S: EawStore>(
     if !are_pages_left(&front, count, 2) {
         return Err(IndexFault::PagesFull { pages: count - 1 });
     }
-    let left = match take_page(pages, &front) {
-        Ok(left) => left,
-        Err(fault) => return Err(index_fault(fault)),
-    };
-    let right = match take_page(pages, &left.front) {
-        Ok(right) => right,
-        Err(fault) => return Err(index_fault(fault)),
-    };
-    match grow_root(pages, tid, left.number, &right, &top) {
-        Ok(()) => {}
-        Err(fault) => return Err(index_fault(fault)),
-    }
+    let left = take_page(pages, &front)?;
+    let right = take_page(pages, &left.front)?;
+    grow_root(pages, tid, left.number, &right, &top)?;
     let half = half_of(&top, left.number, right.number, key);
     insert_below(pages, tid, root, key, right.front, half)
 }
@@ -213,10 +197,7 @@ fn insert_below<S: EawStore>(
     let mut front = front;
     let mut node = node;
     while node.level > 0 {
-        let child = match fetch_child(pages, root, &node, key) {
-            Ok(child) => child,
-            Err(fault) => return Err(index_fault(fault)),
-        };
+        let child = fetch_child(pages, root, &node, key)?;
         if child.pairs.len() < PAIRS_MAX {
             node = child;
             continue;
@@ -224,23 +205,12 @@ fn insert_below<S: EawStore>(
         if !are_pages_left(&front, count, 1) {
             return Err(IndexFault::PagesFull { pages: count - 1 });
         }
-        let taken = match take_page(pages, &front) {
-            Ok(taken) => taken,
-            Err(fault) => return Err(index_fault(fault)),
-        };
-        match cut_page(pages, tid, &taken, &child, node) {
-            Ok(()) => {}
-            Err(fault) => return Err(index_fault(fault)),
-        }
+        let taken = take_page(pages, &front)?;
+        cut_page(pages, tid, &taken, &child, node)?;
         node = half_of(&child, child.page, taken.number, key);
         front = taken.front;
     }
-    let slot = match take_slot(pages, &front) {
-        Ok(slot) => slot,
-        Err(fault) => return Err(index_fault(fault)),
-    };
-    match add_pair(pages, tid, root.table, key, &slot, node) {
-        Ok(()) => Ok(slot.number),
-        Err(fault) => Err(index_fault(fault)),
-    }
+    let slot = take_slot(pages, &front)?;
+    add_pair(pages, tid, root.table, key, &slot, node)?;
+    Ok(slot.number)
 }

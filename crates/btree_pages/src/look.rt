@@ -139,10 +139,7 @@ fn descend<S: EawStore>(
     let mut behind = None;
     let mut full = false;
     for step in 0..start.most {
-        let head = match read_node(pages, page, bytes) {
-            Ok(head) => head,
-            Err(fault) => return Err(fault),
-        };
+        let head = read_node(pages, page, bytes)?;
         full = or_full(full, head.count);
         if head.level == 0 {
             return Ok(Leaf {
@@ -195,10 +192,7 @@ pub fn find<S: EawStore>(
         most: WAY_MAX,
     };
     let mut bytes = [0; PAGE_LEN];
-    let leaf = match descend(pages, root, start, &mut bytes) {
-        Ok(leaf) => leaf,
-        Err(fault) => return Err(fault),
-    };
+    let leaf = descend(pages, root, start, &mut bytes)?;
     let Some(slot) = slot_in(&bytes, leaf.count, key) else {
         return Ok(None);
     };
@@ -234,10 +228,7 @@ pub fn find_place<S: EawStore>(
         most: WAY_MAX,
     };
     let mut bytes = [0; PAGE_LEN];
-    let leaf = match descend(pages, root, start, &mut bytes) {
-        Ok(leaf) => leaf,
-        Err(fault) => return Err(fault),
-    };
+    let leaf = descend(pages, root, start, &mut bytes)?;
     let Leaf { page, full, .. } = leaf;
     if let Some(slot) = slot_in(&bytes, leaf.count, key) {
         if slot >= u64::from(SLOTS_IN_PAGE * count) {
@@ -287,10 +278,7 @@ fn reach<S: EawStore>(pages: &mut Pages<S>, root: Root, start: Start) -> Result<
 {
     let slots = SLOTS_IN_PAGE * index_page_count(pages);
     let mut bytes = [0; PAGE_LEN];
-    let leaf = match descend(pages, root, start, &mut bytes) {
-        Ok(leaf) => leaf,
-        Err(fault) => return Err(fault),
-    };
+    let leaf = descend(pages, root, start, &mut bytes)?;
     let Leaf {
         page,
         count,
@@ -339,10 +327,7 @@ pub fn next<S: EawStore>(
         key: from,
         most: WAY_MAX,
     };
-    let at = match reach(pages, root, start) {
-        Ok(at) => at,
-        Err(fault) => return Err(fault),
-    };
+    let at = reach(pages, root, start)?;
     let Reached { some, behind, .. } = at;
     if !some.is_empty() {
         return Ok(some);
@@ -350,8 +335,6 @@ pub fn next<S: EawStore>(
     let Some(next_start) = behind else {
         return Ok(some);
     };
-    match reach(pages, root, next_start) {
-        Ok(later) => begun(later),
-        Err(fault) => Err(fault),
-    }
+    let later = reach(pages, root, next_start)?;
+    begun(later)
 }

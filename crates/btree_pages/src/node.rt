@@ -45,10 +45,7 @@ pub fn fetch_node<S: EawStore>(pages: &mut Pages<S>, page: u32) -> Result<Node, 
     ensures dead { IsErrOf result PageFault.Dead → pages.new ≡ pages.old }
 {
     let mut bytes = [0; PAGE_LEN];
-    let head = match read_node(pages, page, &mut bytes) {
-        Ok(head) => head,
-        Err(fault) => return Err(fault),
-    };
+    let head = read_node(pages, page, &mut bytes)?;
     Ok(Node {
         page,
         level: head.level,
@@ -104,10 +101,7 @@ pub fn fetch_child<S: EawStore>(
     if page >= u64::from(count) {
         return Err(PageFault::Damaged { page: node.page });
     }
-    let child = match fetch_node(pages, page as u32) {
-        Ok(child) => child,
-        Err(fault) => return Err(fault),
-    };
+    let child = fetch_node(pages, page as u32)?;
     if child.level + 1 != node.level {
         return Err(PageFault::Damaged { page: child.page });
     }

@@ -59,17 +59,11 @@ pub fn remove<S: EawStore>(
     ensures dead { IsErrOf result PageFault.Dead → pages.new ≡ pages.old }
 {
     let count = index_page_count(pages);
-    let front = match fetch_super(pages, FORM) {
-        Ok(front) => front,
-        Err(fault) => return Err(fault),
-    };
+    let front = fetch_super(pages, FORM)?;
     if !is_index_page(root.page, count) {
         return Err(PageFault::Damaged { page: 0 });
     }
-    let top = match fetch_node(pages, root.page) {
-        Ok(top) => top,
-        Err(fault) => return Err(fault),
-    };
+    let top = fetch_node(pages, root.page)?;
     if top.level > 0 {
         return remove_below(pages, tid, root, key, &front, top);
     }
@@ -107,14 +101,8 @@ fn remove_below<S: EawStore>(
         (removal_actions (tree_removal (S.view pages.old.store).state.bytes root.page key)) (blamed result) (S.view pages.old.store) (S.view pages.new.store) }
     ensures dead { IsErrOf result PageFault.Dead → ⊥ }
 {
-    let parent = match fetch_parent(pages, root, key, top) {
-        Ok(parent) => parent,
-        Err(fault) => return Err(fault),
-    };
-    let leaf = match fetch_child(pages, root, &parent, key) {
-        Ok(leaf) => leaf,
-        Err(fault) => return Err(fault),
-    };
+    let parent = fetch_parent(pages, root, key, top)?;
+    let leaf = fetch_child(pages, root, &parent, key)?;
     let Some(slot) = release_slot(front, &leaf, key) else {
         return Err(PageFault::Damaged { page: leaf.page });
     };
@@ -158,10 +146,7 @@ fn fetch_parent<S: EawStore>(
 {
     let mut node = top;
     while node.level > 1 {
-        node = match fetch_child(pages, root, &node, key) {
-            Ok(child) => child,
-            Err(fault) => return Err(fault),
-        };
+        node = fetch_child(pages, root, &node, key)?;
     }
     Ok(node)
 }
@@ -222,10 +207,8 @@ fn lose_pair<S: EawStore>(
         link: NO_LINK,
         pairs,
     };
-    match remove_pair(pages, tid, key, slot, leaf) {
-        Ok(()) => Ok(true),
-        Err(fault) => Err(fault),
-    }
+    remove_pair(pages, tid, key, slot, leaf)?;
+    Ok(true)
 }
 
 // The leaf, which has no other pair, takes those of the page to its right.
@@ -262,10 +245,7 @@ fn join_right<S: EawStore>(
         (removal_actions (tree_removal (S.view pages.old.store).state.bytes root.page key)) (blamed result) (S.view pages.old.store) (S.view pages.new.store) }
     ensures dead { IsErrOf result PageFault.Dead → ⊥ }
 {
-    let right = match fetch_right(pages, root, key, &parent, place) {
-        Ok(right) => right,
-        Err(fault) => return Err(fault),
-    };
+    let right = fetch_right(pages, root, key, &parent, place)?;
     let Some(freed) = give_page(&slot.front, right.page) else {
         return Err(PageFault::Damaged { page: right.page });
     };
@@ -277,10 +257,8 @@ fn join_right<S: EawStore>(
         page: parent.page,
         pairs: without_place(parent.pairs, place),
     };
-    match join_leaves(pages, tid, slot, &freed, leaf, parent) {
-        Ok(()) => Ok(true),
-        Err(fault) => Err(fault),
-    }
+    join_leaves(pages, tid, slot, &freed, leaf, parent)?;
+    Ok(true)
 }
 
 // Reads the leaf to the right of that of the key, which this entry of their parent names.
@@ -317,10 +295,7 @@ fn fetch_right<S: EawStore>(
     if page >= u64::from(count) {
         return Err(PageFault::Damaged { page: parent.page });
     }
-    let right = match fetch_node(pages, page as u32) {
-        Ok(right) => right,
-        Err(fault) => return Err(fault),
-    };
+    let right = fetch_node(pages, page as u32)?;
     if right.level != 0 {
         return Err(PageFault::Damaged { page: right.page });
     }
@@ -366,8 +341,6 @@ fn leave_parent<S: EawStore>(
         page: parent.page,
         pairs: without_end(parent.pairs),
     };
-    match drop_leaf(pages, tid, slot, &freed, parent) {
-        Ok(()) => Ok(true),
-        Err(fault) => Err(fault),
-    }
+    drop_leaf(pages, tid, slot, &freed, parent)?;
+    Ok(true)
 }

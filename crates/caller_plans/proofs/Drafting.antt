@@ -7,7 +7,9 @@ use Rattle.std.proofs.lemmas.List.{append_assoc, append-nil, length-set}
 use Rattle.std.proofs.lemmas.Option.{slice_get_within}
 use Rattle.history.specs.declared.call.Call.{Call}
 use Rattle.history.specs.declared.key.Key.{Key}
-use Rattle.history.specs.declared.call.Call.TheVariants.{Begin, Settle, Purge}
+use Rattle.history.specs.declared.call.Call.TheVariants.{Begin, Control}
+use Rattle.history.specs.declared.call.TableCall.{TableCall}
+use Rattle.history.specs.declared.call.Control.TheVariants.{Settle, Purge}
 use Rattle.script_text.specs.declared.joint_line.JointLine.{JointLine}
 use Rattle.script_text.specs.declared.joint_line.JointLine.TheVariants.{Nothing, Told, Read, Bad}
 use Rattle.caller_plans.specs.Asks.{keys_by, keys_from, all_asked}
@@ -22,18 +24,19 @@ use Rattle.caller_plans.specs.Drafts.{empty_draft, is_within, one_within, are_wi
 -- a stray call begins and ends nothing, and is in no plan
 pub stray_within : (was : Bool) (call : Call) → is_stray was call ≡ true → within_after was call ≡ was
 stray_within true Begin stray = refl
-stray_within true Settle stray = refl
-stray_within true Purge stray = refl
+stray_within true (Control Settle) stray = refl
+stray_within true (Control Purge) stray = refl
 stray_within true call stray = cc
 stray_within false Begin stray = cc
+stray_within false (Control Settle) stray = refl
 stray_within false call stray = refl
 
-pub stray_planned : (made : Option (List Call)) (call : Call) (calls : List Call) → is_stray (is_some made) call ≡ true → planned made (call ∷ calls) ≡ planned made calls
+pub stray_planned : (made : Option (List TableCall)) (call : Call) (calls : List Call) → is_stray (is_some made) call ≡ true → planned made (call ∷ calls) ≡ planned made calls
 stray_planned None Begin calls stray = cc
 stray_planned None call calls stray = refl
 stray_planned (Some made) Begin calls stray = refl
-stray_planned (Some made) Settle calls stray = refl
-stray_planned (Some made) Purge calls stray = refl
+stray_planned (Some made) (Control Settle) calls stray = refl
+stray_planned (Some made) (Control Purge) calls stray = refl
 stray_planned (Some made) call calls stray = cc
 
 -- one draft was set: it says whether its caller is within a transaction, and the others are as they were

@@ -1,6 +1,7 @@
 -- What callers plan, as far as a script has been read.
 use Rattle.std.specs.Prelude.{ℕ, suc, ◌≡◌, ◌<◌, Bool, false, List, [], ◌∷◌, ◌++◌, length, slice_get, Option, Some, None, is_some, option_map, option_to_list}
 use Rattle.history.specs.declared.call.Call.{Call}
+use Rattle.history.specs.declared.call.TableCall.{TableCall}
 use Rattle.script_text.specs.declared.joint_line.JointLine.{JointLine}
 use Rattle.script_text.specs.declared.joint_line.JointLine.TheVariants.{Told, Read}
 use Rattle.caller_plans.specs.Asks.{all_asked}
@@ -24,7 +25,7 @@ abbrev pub drafted : Draft → List Call → List Plan
 drafted draft calls = draft.plans ++ planned draft.begun calls
 
 -- the plan of these calls, if there is one, with this end
-abbrev pub plan_ended : Option (List Call) → PlanEnd → List Plan
+abbrev pub plan_ended : Option (List TableCall) → PlanEnd → List Plan
 plan_ended begun end = option_to_list (option_map (λ calls. record { calls = calls; end = end }) begun)
 
 -- whether a caller is within a transaction; beyond the callers none is

@@ -1,8 +1,10 @@
 -- What each caller of a script plans.
-use Rattle.std.specs.Prelude.{ℕ, zero, suc, Bool, true, false, IsTrue, not, nat_eq, if◌then◌else◌, List, [], ◌∷◌, ◌++◌, All, Option, Some, None}
+use Rattle.std.specs.Prelude.{ℕ, zero, suc, Bool, true, false, not, nat_eq, if◌then◌else◌, List, [], ◌∷◌, ◌++◌, Option, Some, None}
 use Rattle.std.specs.List.{AllZip}
 use Rattle.history.specs.declared.call.Call.{Call}
-use Rattle.history.specs.declared.call.Call.TheVariants.{Begin, Commit, Abort, Offer, Settle, Purge}
+use Rattle.history.specs.declared.call.Call.TheVariants.{Begin, Table, Control}
+use Rattle.history.specs.declared.call.TableCall.{TableCall}
+use Rattle.history.specs.declared.call.Control.TheVariants.{Commit, Abort, Offer, Settle, Purge}
 use Rattle.script_text.specs.declared.joint_line.JointLine.{JointLine}
 use Rattle.script_text.specs.declared.joint_line.JointLine.TheVariants.{Nothing, Told, Read, Bad}
 use Rattle.script_text.specs.JointLine.{JointLineSays}
@@ -13,32 +15,32 @@ use Rattle.caller_plans.specs.declared.fate.LineFault.TheVariants as fault
 
 -- The transactions that a caller's calls make, from outside a transaction or after these calls of one that has begun. A call outside a
 -- transaction is passed over, and so are a begin within one, each settle and each purge: what is offered is settled without a call.
-abbrev pub planned : Option (List Call) → List Call → List Plan
+abbrev pub planned : Option (List TableCall) → List Call → List Plan
 planned None [] = []
 planned (Some made) [] = record { calls = made; end = end.Unended } ∷ []
 planned None (Begin ∷ calls) = planned (Some []) calls
 planned None (call ∷ calls) = planned None calls
 planned (Some made) (Begin ∷ calls) = planned (Some made) calls
-planned (Some made) (Commit ∷ calls) = record { calls = made; end = end.Commit } ∷ planned None calls
-planned (Some made) (Abort ∷ calls) = record { calls = made; end = end.Abort } ∷ planned None calls
-planned (Some made) (Offer ∷ calls) = record { calls = made; end = end.Offer } ∷ planned None calls
-planned (Some made) (Settle ∷ calls) = planned (Some made) calls
-planned (Some made) (Purge ∷ calls) = planned (Some made) calls
-planned (Some made) (call ∷ calls) = planned (Some (made ++ call ∷ [])) calls
+planned (Some made) (Table call ∷ calls) = planned (Some (made ++ call ∷ [])) calls
+planned (Some made) (Control Commit ∷ calls) = record { calls = made; end = end.Commit } ∷ planned None calls
+planned (Some made) (Control Abort ∷ calls) = record { calls = made; end = end.Abort } ∷ planned None calls
+planned (Some made) (Control Offer ∷ calls) = record { calls = made; end = end.Offer } ∷ planned None calls
+planned (Some made) (Control Settle ∷ calls) = planned (Some made) calls
+planned (Some made) (Control Purge ∷ calls) = planned (Some made) calls
 
 -- whether a caller is within a transaction after a call, given whether it was before
 abbrev pub within_after : Bool → Call → Bool
 within_after was Begin = true
-within_after was Commit = false
-within_after was Abort = false
-within_after was Offer = false
+within_after was (Control Commit) = false
+within_after was (Control Abort) = false
+within_after was (Control Offer) = false
 within_after was call = was
 
 -- a call outside a transaction, a begin within one, a settle, or a purge
 abbrev pub is_stray : Bool → Call → Bool
 is_stray within Begin = within
-is_stray within Settle = true
-is_stray within Purge = true
+is_stray within (Control Settle) = true
+is_stray within (Control Purge) = true
 is_stray within call = not within
 
 -- the calls of a caller, in order
@@ -64,21 +66,3 @@ AllSay callers readers lines said = AllZip (JointLineSays callers readers) lines
 abbrev pub plans_from : ℕ → ℕ → List JointLine → List (List Plan)
 plans_from caller zero lines = []
 plans_from caller (suc n) lines = planned None (calls_by caller lines) ∷ plans_from (suc caller) n lines
-
--- a call of a transaction: no begin, no end and no purge
-abbrev pub is_of_table : Call → Bool
-is_of_table Begin = false
-is_of_table Commit = false
-is_of_table Abort = false
-is_of_table Offer = false
-is_of_table Settle = false
-is_of_table Purge = false
-is_of_table call = true
-
--- the plan has only calls of a table between begin and end
-abbrev pub IsPlain : Plan → Type 0
-IsPlain plan = All (λ call. IsTrue (is_of_table call)) plan.calls
-
--- each plan has only calls of a table between begin and end
-abbrev pub ArePlain : List Plan → Type 0
-ArePlain plans = All IsPlain plans

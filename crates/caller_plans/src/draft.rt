@@ -5,7 +5,7 @@ ghost use Rattle.caller_plans.specs.Plans.{is_stray, within_after};
 ghost use Rattle.caller_plans.specs.Drafts.{empty_draft, drafted, is_within, plan_ended};
 
 use crate::plan::{Asked, Plan, PlanEnd, Plans};
-use history::Call;
+use history::{Call, Control, TableCall};
 use mars_base::NoMemory;
 use std::alloc::Global;
 
@@ -32,8 +32,8 @@ impl Draft {
     {
         match call {
             Call::Begin => self.begun.is_some(),
-            Call::Settle => true,
-            Call::Purge => true,
+            Call::Control(Control::Settle) => true,
+            Call::Control(Control::Purge) => true,
             _ => self.begun.is_none(),
         }
     }
@@ -46,10 +46,12 @@ impl Draft {
     {
         match call {
             Call::Begin => self.begin(alloc),
-            Call::Commit => self.end(PlanEnd::Commit),
-            Call::Abort => self.end(PlanEnd::Abort),
-            Call::Offer => self.end(PlanEnd::Offer),
-            _ => self.ask(call),
+            Call::Table(asked) => self.ask(asked),
+            Call::Control(Control::Commit) => self.end(PlanEnd::Commit),
+            Call::Control(Control::Abort) => self.end(PlanEnd::Abort),
+            Call::Control(Control::Offer) => self.end(PlanEnd::Offer),
+            // Both are stray.
+            Call::Control(Control::Settle | Control::Purge) => Ok(()),
         }
     }
 
@@ -61,7 +63,7 @@ impl Draft {
         Ok(())
     }
 
-    fn ask(&mut self, call: &Call) -> Result<(), NoMemory>
+    fn ask(&mut self, call: &TableCall) -> Result<(), NoMemory>
         ensures plans { self.new.plans ≡ self.old.plans }
         ensures begun { OnOk result (self.new.begun ≡ option_map (λ made. made ++ call.now ∷ []) self.old.begun) }
     {

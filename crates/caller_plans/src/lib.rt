@@ -10,5 +10,5 @@ mod plan;
 mod script;
 
 pub use fate::{Fate, LineFault, LineFaults};
-pub use plan::{Asked, Keys, Plan, PlanEnd, Plans, are_plain};
+pub use plan::{Asked, Keys, Plan, PlanEnd, Plans};
 pub use script::{Script, read_script};

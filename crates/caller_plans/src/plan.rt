@@ -1,12 +1,9 @@
 // What a caller plans.
-ghost use Rattle.std.specs.Prelude.{◌≡◌, ◌↔◌, IsTrue};
-ghost use Rattle.caller_plans.specs.Plans.{is_of_table, IsPlain, ArePlain};
-
-use history::{Call, Key};
+use history::{Key, TableCall};
 use mars_base::Listed;
 
-/// Calls in the order in which a caller makes them.
-pub type Asked = Listed<Call>;
+/// The calls within a transaction, in the order in which a caller makes them.
+pub type Asked = Listed<TableCall>;
 
 /// Keys in the order in which a reader asks for them.
 pub type Keys = Listed<Key>;
@@ -30,29 +27,4 @@ pub enum PlanEnd {
 pub struct Plan {
     pub calls: Asked,
     pub end: PlanEnd,
-}
-
-impl Plan {
-    /// Whether none of its calls begins or ends a transaction, or is a purge.
-    pub fn is_plain(&self) -> bool
-        ensures { IsTrue result ↔ IsPlain self.now }
-    {
-        self.calls.as_slice().iter().all(is_of_table)
-    }
-}
-
-fn is_of_table(call: &Call) -> bool
-    ensures { result ≡ is_of_table call.now }
-{
-    !matches!(
-        call,
-        Call::Begin | Call::Commit | Call::Abort | Call::Offer | Call::Settle | Call::Purge
-    )
-}
-
-/// Whether no plan has a call that begins or ends a transaction, or is a purge. Plans that `read_script` returns have none.
-pub fn are_plain(plans: &Plans) -> bool
-    ensures { IsTrue result ↔ ArePlain plans.now }
-{
-    plans.as_slice().iter().all(Plan::is_plain)
 }

@@ -2,10 +2,10 @@
 use Rattle.std.proofs.Common.{◌≡◌, ◌⊎◌, ℕ, inl, inr, Bool, true, false, ◌&&◌, ◌||◌, Some, None, refl, sym, ap, ◌∙◌}
 use Rattle.std.specs.Prelude.{IsTrue, IsFalse, not, is_some}
 use Rattle.std.proofs.lemmas.Bool.{true≢false}
-use Rattle.history.specs.Table.{Granted, Work, Answers}
+use Rattle.history.specs.Table.{Granted}
 use Rattle.history.specs.declared.call.Call.{Call}
-use Rattle.history.specs.declared.call.Call.TheVariants.{Begin, Settle, Purge}
-use Rattle.history.specs.declared.call.Reply.{Reply}
+use Rattle.history.specs.declared.call.Call.TheVariants.{Begin, Control}
+use Rattle.history.specs.declared.call.Control.TheVariants.{Settle, Purge}
 use Rattle.caller_steps.specs.State.{State, unoffered}
 use Rattle.caller_steps.specs.Offers.{is_unoffered, takes_calls, is_engaged, may_do}
 
@@ -18,13 +18,6 @@ module _ (s : State) (caller : ℕ) where
   pub free_outside : s.offers caller ≡ unoffered → s.live caller ≡ None → not (is_engaged s caller) ≡ true
   free_outside un none = λ i. not (is_some (none i) || not (is_unoffered (un i)))
 
-  -- a call that the one-thread table answers
-  pub able_answered : (work : Work) (call : Call) (reply : Reply) → Answers work call reply → may_do s caller call ≡ takes_calls s caller
-  able_answered work Begin reply answers = absurd answers
-  able_answered work Settle reply answers = absurd answers
-  able_answered work Purge reply answers = absurd answers
-  able_answered work _ reply answers = refl
-
   takes_none : is_unoffered (s.offers caller) ≡ false → takes_calls s caller ≡ false
   takes_none closed = ap (λ (b : Bool). b && is_some (s.live caller)) closed
 
@@ -36,15 +29,15 @@ module _ (s : State) (caller : ℕ) where
   free_none closed = ap (λ (b : Bool). not (is_some (s.live caller) || not b)) closed ∙ or_true (is_some (s.live caller))
 
   -- What is offered takes no call but its settle.
-  pub able_closed : (call : Call) → IsFalse (is_unoffered (s.offers caller)) → IsTrue (may_do s caller call) → call ≡ Settle
+  pub able_closed : (call : Call) → IsFalse (is_unoffered (s.offers caller)) → IsTrue (may_do s caller call) → call ≡ Control Settle
   able_closed Begin closed able = absurd (true≢false (sym able ∙ free_none closed))
-  able_closed Purge closed able = absurd (true≢false (sym able ∙ free_none closed))
-  able_closed Settle closed able = refl
+  able_closed (Control Purge) closed able = absurd (true≢false (sym able ∙ free_none closed))
+  able_closed (Control Settle) closed able = refl
   able_closed _ closed able = absurd (true≢false (sym able ∙ takes_none closed))
 
   -- Without a transaction that takes calls there are three calls.
-  pub able_takes : (call : Call) → IsTrue (may_do s caller call) → IsTrue (takes_calls s caller) ⊎ ((call ≡ Begin) ⊎ ((call ≡ Settle) ⊎ (call ≡ Purge)))
+  pub able_takes : (call : Call) → IsTrue (may_do s caller call) → IsTrue (takes_calls s caller) ⊎ ((call ≡ Begin) ⊎ ((call ≡ Control Settle) ⊎ (call ≡ Control Purge)))
   able_takes Begin able = inr (inl refl)
-  able_takes Settle able = inr (inr (inl refl))
-  able_takes Purge able = inr (inr (inr refl))
+  able_takes (Control Settle) able = inr (inr (inl refl))
+  able_takes (Control Purge) able = inr (inr (inr refl))
   able_takes _ able = inl able

@@ -7,7 +7,7 @@ use Rattle.std.proofs.lemmas.Bool.{cases_eq}
 use Rattle.history.specs.Writes.{Table}
 use Rattle.history.specs.Table.{Granted, IsRight}
 use Rattle.history.specs.Locks.{Touch, touches, touched, clash, AreApart}
-use Rattle.history.specs.declared.call.Call.{Call}
+use Rattle.history.specs.declared.call.TableCall.{TableCall}
 use Rattle.history.specs.declared.call.Reply.{Reply}
 use Rattle.history.specs.declared.transaction.Done.{Done}
 use Rattle.history.proofs.OneMore.{touched-push}
@@ -28,7 +28,7 @@ apart_turned : (names : List (List ℕ)) (one other : Granted) → AreApart name
 apart_turned names one other apart stripe = clash_turned (touched names other stripe) (touched names one stripe) ∙ apart stripe
 
 -- one more call clashes nowhere if neither it nor the others do
-pub apart_more : (names : List (List ℕ)) (calls other : Granted) (call : Call) (reply : Reply) → AreApart names calls other → ((stripe : ℕ) → clash (touches names call stripe) (touched names other stripe) ≡ false)
+pub apart_more : (names : List (List ℕ)) (calls other : Granted) (call : TableCall) (reply : Reply) → AreApart names calls other → ((stripe : ℕ) → clash (touches names call stripe) (touched names other stripe) ≡ false)
     → AreApart names (calls ++ (call, reply) ∷ []) other
 apart_more names calls other call reply before own stripe =
     ap (λ (t : Touch). clash t (touched names other stripe)) (touched-push names calls call reply stripe)

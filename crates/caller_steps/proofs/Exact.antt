@@ -3,7 +3,10 @@ use Rattle.std.proofs.Common.{◌≡◌, ℕ, inl, inr, Bool, true, false, Optio
 use Rattle.std.proofs.lemmas.Bool.{true≢false, both_ways, cases_order}
 use Rattle.history.specs.Table.{Granted, Work, has_save, Answers}
 use Rattle.history.specs.declared.call.Call.{Call}
-use Rattle.history.specs.declared.call.Call.TheVariants.{Begin, Get, Put, Del, Scan, Save, Back, Commit, Abort, Offer, Settle, Purge}
+use Rattle.history.specs.declared.call.Call.TheVariants.{Begin, Table, Control}
+use Rattle.history.specs.declared.call.TableCall.{TableCall}
+use Rattle.history.specs.declared.call.TableCall.TheVariants.{Get, Put, Del, Scan, Save, Back}
+use Rattle.history.specs.declared.call.Control.TheVariants.{Commit, Settle, Purge}
 use Rattle.history.specs.declared.call.Reply.{Reply}
 use Rattle.history.specs.declared.call.Reply.TheVariants.{Busy}
 use Rattle.history.specs.Locks.{has_table}
@@ -11,22 +14,21 @@ use Rattle.caller_steps.specs.State as state
 use Rattle.caller_steps.specs.State.{State, unoffered, offered, unsettled, view_of}
 use Rattle.caller_steps.specs.Locked.{IsFree, IsBusyWith}
 use Rattle.caller_steps.specs.Room.{Limits, Fits, Lacks}
-use Rattle.caller_steps.specs.Step.{Asks, AsksTable, StepAt, StepBy, StepIf, Step}
+use Rattle.caller_steps.specs.Step.{Asks, AsksTable, AsksWithin, StepAt, StepBy, StepIf, Step}
 use Rattle.caller_steps.specs.Fate.{is_by_chance}
 use Rattle.caller_steps.proofs.Full.{fits_none, lacks_one}
 
 -- the one-thread table has one reply to each call
-answers_one : (work : Work) (call : Call) (one other : Reply) → Answers work call one → Answers work call other → one ≡ other
+answers_one : (work : Work) (call : TableCall) (one other : Reply) → Answers work call one → Answers work call other → one ≡ other
 answers_one work (Get name key) one other a b = a ∙ sym b
 answers_one work (Put name key value) one other a b = a ∙ sym b
 answers_one work (Del name key) one other a b = a ∙ sym b
 answers_one work (Scan name low high) one other a b = a ∙ sym b
 answers_one work Save one other a b = a ∙ sym b
 answers_one work (Back n) one other a b = a.1 ∙ sym b.1
-answers_one work _ one other a b = absurd a
 
 -- and only one holder is the lowest
-pub busy_one : (old : State) (caller : ℕ) (call : Call) (one other : ℕ) → IsBusyWith old caller call one → IsBusyWith old caller call other → one ≡ other
+pub busy_one : (old : State) (caller : ℕ) (call : TableCall) (one other : ℕ) → IsBusyWith old caller call one → IsBusyWith old caller call other → one ≡ other
 busy_one old caller call one other a b = elim (cases_order one other) [
   | inl is ↦ is
   | inr apart ↦ elim apart [
@@ -36,7 +38,7 @@ busy_one old caller call one other a b = elim (cases_order one other) [
 ]
 
 -- the locks, the table or the full array give the reply
-data Ours (limits : Limits) (old : State) (caller : ℕ) (call : Call) (reply : Reply) : Type 0 where
+data Ours (limits : Limits) (old : State) (caller : ℕ) (call : TableCall) (reply : Reply) : Type 0 where
   held : (holder : ℕ) → IsBusyWith old caller call holder → reply ≡ Busy holder → Ours limits old caller call reply
   free : IsFree old caller call → Answers (view_of old caller) call reply → Fits limits old caller call → Ours limits old caller call reply
   refused : IsFree old caller call → Lacks limits old caller call reply → Ours limits old caller call reply
@@ -45,14 +47,14 @@ module _ (limits : Limits) (old : State) (caller : ℕ) where
   not_of_array : (reply answer : Reply) (P : Type 0) → is_by_chance reply ≡ false → is_by_chance answer ≡ true → reply ≡ answer → P
   not_of_array reply answer P ours theirs e = absurd (true≢false (sym theirs ∙ sym (ap is_by_chance e) ∙ ours))
 
-  ours : (calls : Granted) (call : Call) (reply : Reply) (new : State) → is_by_chance reply ≡ false → Asks limits calls old caller call reply new → Ours limits old caller call reply
+  ours : (calls : Granted) (call : TableCall) (reply : Reply) (new : State) → is_by_chance reply ≡ false → Asks limits calls old caller call reply new → Ours limits old caller call reply
   ours calls call reply new ok (inl short) = absurd (true≢false (sym (ap is_by_chance short.0) ∙ ok))
   ours calls call reply new ok (inr (inl is)) = held is.0 is.1 is.2.0
   ours calls call reply new ok (inr (inr (is, inl grants))) = free is grants.0 grants.1
   ours calls call reply new ok (inr (inr (is, inr (inl refuses)))) = refused is refuses.0
   ours calls call reply new ok (inr (inr (is, inr (inr fails)))) = absurd (true≢false (sym (ap is_by_chance fails.1.0) ∙ ok))
 
-  ours_one : (call : Call) (one other : Reply) → Ours limits old caller call one → Ours limits old caller call other → one ≡ other
+  ours_one : (call : TableCall) (one other : Reply) → Ours limits old caller call one → Ours limits old caller call other → one ≡ other
   ours_one call one other (held h busy is) (held k busy' is') = is ∙ ap Busy (busy_one old caller call h k busy busy') ∙ sym is'
   ours_one call one other (held h busy is) (free is' answers fits) = absurd (is' h busy.0)
   ours_one call one other (held h busy is) (refused is' lacks) = absurd (is' h busy.0)
@@ -63,74 +65,54 @@ module _ (limits : Limits) (old : State) (caller : ℕ) where
   ours_one call one other (refused is lacks) (free is' answers fits) = absurd (fits_none limits old caller call one fits lacks)
   ours_one call one other (refused is lacks) (refused is' lacks') = lacks_one limits old caller call one other lacks lacks'
 
-  asks_one : (calls : Granted) (call : Call) (one other : Reply) (new next : State) → is_by_chance one ≡ false → is_by_chance other ≡ false
+  asks_one : (calls : Granted) (call : TableCall) (one other : Reply) (new next : State) → is_by_chance one ≡ false → is_by_chance other ≡ false
       → Asks limits calls old caller call one new → Asks limits calls old caller call other next → one ≡ other
   asks_one calls call one other new next ok ok' a b = ours_one call one other (ours calls call one new ok a) (ours calls call other next ok' b)
 
-  tabled_one : (calls : Granted) (call : Call) (one other : Reply) (new next : State) → is_by_chance one ≡ false → is_by_chance other ≡ false
+  tabled_one : (calls : Granted) (call : TableCall) (one other : Reply) (new next : State) → is_by_chance one ≡ false → is_by_chance other ≡ false
       → AsksTable limits calls old caller call one new → AsksTable limits calls old caller call other next → one ≡ other
   tabled_one calls call one other new next ok ok' (inl (none, a)) (inl (none', b)) = a.0 ∙ sym b.0
   tabled_one calls call one other new next ok ok' (inl (none, a)) (inr (some, b)) = absurd (both_ways (has_table old.names call) none some)
   tabled_one calls call one other new next ok ok' (inr (some, a)) (inl (none, b)) = absurd (both_ways (has_table old.names call) none some)
   tabled_one calls call one other new next ok ok' (inr (some, a)) (inr (some', b)) = asks_one calls call one other new next ok ok' a b
 
+  within_one : (calls : Granted) (call : TableCall) (one other : Reply) (new next : State) → is_by_chance one ≡ false → is_by_chance other ≡ false
+      → AsksWithin limits calls old caller call one new → AsksWithin limits calls old caller call other next → one ≡ other
+  within_one calls Save one other new next ok ok' (inl (full, a)) (inl (full', b)) = a.0 ∙ sym b.0
+  within_one calls Save one other new next ok ok' (inl (full, a)) (inr (room, b)) = absurd (omega (arith, full, room))
+  within_one calls Save one other new next ok ok' (inr (room, a)) (inl (full, b)) = absurd (omega (arith, full, room))
+  within_one calls Save one other new next ok ok' (inr (room, a)) (inr (room', b)) = asks_one calls Save one other new next ok ok' a b
+  within_one calls (Back n) one other new next ok ok' (inl (none, a)) (inl (none', b)) = a.0 ∙ sym b.0
+  within_one calls (Back n) one other new next ok ok' (inl (none, a)) (inr (some, b)) = absurd (both_ways (has_save (view_of old caller).saves n) none some)
+  within_one calls (Back n) one other new next ok ok' (inr (some, a)) (inl (none, b)) = absurd (both_ways (has_save (view_of old caller).saves n) none some)
+  within_one calls (Back n) one other new next ok ok' (inr (some, a)) (inr (some', b)) = asks_one calls (Back n) one other new next ok ok' a b
+  within_one calls call one other new next ok ok' a b = tabled_one calls call one other new next ok ok' a b
+
   one_at : (live : Option Granted) (call : Call) (one other : Reply) (new next : State) → is_by_chance one ≡ false → is_by_chance other ≡ false
       → StepAt limits live old caller call one new → StepAt limits live old caller call other next → one ≡ other
   one_at None Begin one other new next ok ok' a b = a.0 ∙ sym b.0
-  one_at None Purge one other new next ok ok' (inl a) b = absurd (true≢false (sym (ap is_by_chance a.1) ∙ ok))
-  one_at None Purge one other new next ok ok' (inr a) b = absurd (true≢false (sym (ap is_by_chance a.0) ∙ ok))
+  one_at None (Control Purge) one other new next ok ok' (inl a) b = absurd (true≢false (sym (ap is_by_chance a.1) ∙ ok))
+  one_at None (Control Purge) one other new next ok ok' (inr a) b = absurd (true≢false (sym (ap is_by_chance a.0) ∙ ok))
   one_at None _ one other new next ok ok' a b = a.0 ∙ sym b.0
-  one_at (Some calls) Begin one other new next ok ok' a b = a.0 ∙ sym b.0
-  one_at (Some calls) Commit one other new next ok ok' (inr (inl a)) (inr (inl b)) = a.0 ∙ sym b.0
-  one_at (Some calls) Commit one other new next ok ok' (inl a) b = absurd (true≢false (sym (ap is_by_chance a.0) ∙ ok))
-  one_at (Some calls) Commit one other new next ok ok' (inr (inr a)) b = absurd (true≢false (sym (ap is_by_chance a.1) ∙ ok))
-  one_at (Some calls) Commit one other new next ok ok' (inr (inl a)) (inl b) = absurd (true≢false (sym (ap is_by_chance b.0) ∙ ok'))
-  one_at (Some calls) Commit one other new next ok ok' (inr (inl a)) (inr (inr b)) = absurd (true≢false (sym (ap is_by_chance b.1) ∙ ok'))
-  one_at (Some calls) Abort one other new next ok ok' a b = a.0 ∙ sym b.0
-  one_at (Some calls) Offer one other new next ok ok' a b = a.0 ∙ sym b.0
-  one_at (Some calls) Settle one other new next ok ok' a b = a.0 ∙ sym b.0
-  one_at (Some calls) Purge one other new next ok ok' a b = a.0 ∙ sym b.0
-  one_at (Some calls) Save one other new next ok ok' (inl (full, a)) (inl (full', b)) = a.0 ∙ sym b.0
-  one_at (Some calls) Save one other new next ok ok' (inl (full, a)) (inr (room, b)) = absurd (omega (arith, full, room))
-  one_at (Some calls) Save one other new next ok ok' (inr (room, a)) (inl (full, b)) = absurd (omega (arith, full, room))
-  one_at (Some calls) Save one other new next ok ok' (inr (room, a)) (inr (room', b)) = asks_one calls Save one other new next ok ok' a b
-  one_at (Some calls) (Back n) one other new next ok ok' (inl (none, a)) (inl (none', b)) = a.0 ∙ sym b.0
-  one_at (Some calls) (Back n) one other new next ok ok' (inl (none, a)) (inr (some, b)) = absurd (both_ways (has_save (view_of old caller).saves n) none some)
-  one_at (Some calls) (Back n) one other new next ok ok' (inr (some, a)) (inl (none, b)) = absurd (both_ways (has_save (view_of old caller).saves n) none some)
-  one_at (Some calls) (Back n) one other new next ok ok' (inr (some, a)) (inr (some', b)) = asks_one calls (Back n) one other new next ok ok' a b
-  one_at (Some calls) call one other new next ok ok' a b = tabled_one calls call one other new next ok ok' a b
+  one_at (Some calls) (Control Commit) one other new next ok ok' (inr (inl a)) (inr (inl b)) = a.0 ∙ sym b.0
+  one_at (Some calls) (Control Commit) one other new next ok ok' (inl a) b = absurd (true≢false (sym (ap is_by_chance a.0) ∙ ok))
+  one_at (Some calls) (Control Commit) one other new next ok ok' (inr (inr a)) b = absurd (true≢false (sym (ap is_by_chance a.1) ∙ ok))
+  one_at (Some calls) (Control Commit) one other new next ok ok' (inr (inl a)) (inl b) = absurd (true≢false (sym (ap is_by_chance b.0) ∙ ok'))
+  one_at (Some calls) (Control Commit) one other new next ok ok' (inr (inl a)) (inr (inr b)) = absurd (true≢false (sym (ap is_by_chance b.1) ∙ ok'))
+  one_at (Some calls) (Table call) one other new next ok ok' a b = within_one calls call one other new next ok ok' a b
+  one_at (Some calls) _ one other new next ok ok' a b = a.0 ∙ sym b.0
 
   one_by : (offer : state.Offer) (call : Call) (one other : Reply) (new next : State) → is_by_chance one ≡ false → is_by_chance other ≡ false
       → StepBy limits offer old caller call one new → StepBy limits offer old caller call other next → one ≡ other
   one_by unoffered call one other new next ok ok' a b = one_at (old.live caller) call one other new next ok ok' a b
-  one_by offered Settle one other new next ok ok' (inl a) b = absurd (true≢false (sym (ap is_by_chance a.0) ∙ ok))
-  one_by offered Settle one other new next ok ok' (inr (inside, inr a)) b = absurd (true≢false (sym (ap is_by_chance a.1) ∙ ok))
-  one_by offered Settle one other new next ok ok' (inr (inside, inl a)) (inl b) = absurd (true≢false (sym (ap is_by_chance b.0) ∙ ok'))
-  one_by offered Settle one other new next ok ok' (inr (inside, inl a)) (inr (inside', inr b)) = absurd (true≢false (sym (ap is_by_chance b.1) ∙ ok'))
-  one_by offered Settle one other new next ok ok' (inr (inside, inl a)) (inr (inside', inl b)) = a.0 ∙ sym b.0
-  one_by offered Begin one other new next ok ok' a b = a.0 ∙ sym b.0
-  one_by offered (Get name key) one other new next ok ok' a b = a.0 ∙ sym b.0
-  one_by offered (Put name key value) one other new next ok ok' a b = a.0 ∙ sym b.0
-  one_by offered (Del name key) one other new next ok ok' a b = a.0 ∙ sym b.0
-  one_by offered (Scan name low high) one other new next ok ok' a b = a.0 ∙ sym b.0
-  one_by offered Save one other new next ok ok' a b = a.0 ∙ sym b.0
-  one_by offered (Back n) one other new next ok ok' a b = a.0 ∙ sym b.0
-  one_by offered Commit one other new next ok ok' a b = a.0 ∙ sym b.0
-  one_by offered Abort one other new next ok ok' a b = a.0 ∙ sym b.0
-  one_by offered Offer one other new next ok ok' a b = a.0 ∙ sym b.0
-  one_by offered Purge one other new next ok ok' a b = a.0 ∙ sym b.0
-  one_by (unsettled n) Begin one other new next ok ok' a b = a.0 ∙ sym b.0
-  one_by (unsettled n) (Get name key) one other new next ok ok' a b = a.0 ∙ sym b.0
-  one_by (unsettled n) (Put name key value) one other new next ok ok' a b = a.0 ∙ sym b.0
-  one_by (unsettled n) (Del name key) one other new next ok ok' a b = a.0 ∙ sym b.0
-  one_by (unsettled n) (Scan name low high) one other new next ok ok' a b = a.0 ∙ sym b.0
-  one_by (unsettled n) Save one other new next ok ok' a b = a.0 ∙ sym b.0
-  one_by (unsettled n) (Back m) one other new next ok ok' a b = a.0 ∙ sym b.0
-  one_by (unsettled n) Commit one other new next ok ok' a b = a.0 ∙ sym b.0
-  one_by (unsettled n) Abort one other new next ok ok' a b = a.0 ∙ sym b.0
-  one_by (unsettled n) Offer one other new next ok ok' a b = a.0 ∙ sym b.0
-  one_by (unsettled n) Settle one other new next ok ok' a b = a.0 ∙ sym b.0
-  one_by (unsettled n) Purge one other new next ok ok' a b = a.0 ∙ sym b.0
+  one_by offered (Control Settle) one other new next ok ok' (inl a) b = absurd (true≢false (sym (ap is_by_chance a.0) ∙ ok))
+  one_by offered (Control Settle) one other new next ok ok' (inr (inside, inr a)) b = absurd (true≢false (sym (ap is_by_chance a.1) ∙ ok))
+  one_by offered (Control Settle) one other new next ok ok' (inr (inside, inl a)) (inl b) = absurd (true≢false (sym (ap is_by_chance b.0) ∙ ok'))
+  one_by offered (Control Settle) one other new next ok ok' (inr (inside, inl a)) (inr (inside', inr b)) = absurd (true≢false (sym (ap is_by_chance b.1) ∙ ok'))
+  one_by offered (Control Settle) one other new next ok ok' (inr (inside, inl a)) (inr (inside', inl b)) = a.0 ∙ sym b.0
+  one_by offered _ one other new next ok ok' a b = a.0 ∙ sym b.0
+  one_by (unsettled n) (Control Settle) one other new next ok ok' a b = a.0 ∙ sym b.0
+  one_by (unsettled n) _ one other new next ok ok' a b = a.0 ∙ sym b.0
 
   one_if : (dead : Bool) (call : Call) (one other : Reply) (new next : State) → is_by_chance one ≡ false → is_by_chance other ≡ false
       → StepIf limits dead old caller call one new → StepIf limits dead old caller call other next → one ≡ other

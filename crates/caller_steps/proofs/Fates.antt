@@ -11,7 +11,10 @@ use Rattle.history.specs.Key.{of_table}
 use Rattle.history.specs.declared.key.Key.{Key}
 use Rattle.history.specs.Table.{Granted, Work, found, removed, Answers}
 use Rattle.history.specs.declared.call.Call.{Call}
-use Rattle.history.specs.declared.call.Call.TheVariants.{Begin, Get, Put, Del, Scan, Save, Back, Commit, Abort, Offer, Settle, Purge}
+use Rattle.history.specs.declared.call.Call.TheVariants.{Begin, Table, Control}
+use Rattle.history.specs.declared.call.TableCall.{TableCall}
+use Rattle.history.specs.declared.call.TableCall.TheVariants.{Get, Put, Del, Scan, Save, Back}
+use Rattle.history.specs.declared.call.Control.TheVariants.{Commit, Abort, Offer, Settle, Purge}
 use Rattle.history.specs.declared.call.Reply.{Reply}
 use Rattle.history.specs.declared.call.Reply.TheVariants.{Fine, Committed, Purged, NoTransaction, NoTable, Already, NoSave, SavesFull, Busy, LogFull, SlotsFull, PagesFull, Media, Dead, NoMemory}
 use Rattle.caller_steps.specs.State as state
@@ -20,8 +23,8 @@ use Rattle.caller_steps.specs.Offers.{is_offered, is_unoffered, may_do, offerers
 use Rattle.caller_steps.specs.Locked.{IsFree}
 use Rattle.caller_steps.specs.Room.{Limits, Lacks, LacksAt}
 use Rattle.caller_steps.proofs.Offering.{offers_here, offers_apart, is_in, more_theirs, group_without, group_with, group_mine, offerers_once, offerer_has, offerer_is, group_history, group_names, group_base, group_dead, group_apart, group_ends, without_history, without_names, without_base, without_apart, without_ends}
-use Rattle.caller_steps.proofs.Able.{takes_within, free_outside, able_answered}
-use Rattle.caller_steps.specs.Step.{Says, Asks, AsksTable, StepAt, StepBy, StepIf, Acts, Step, Runs}
+use Rattle.caller_steps.proofs.Able.{takes_within, free_outside}
+use Rattle.caller_steps.specs.Step.{Says, Asks, AsksTable, AsksWithin, StepAt, StepBy, StepIf, Acts, Step, Runs}
 use Rattle.caller_steps.specs.Own.{is_commit}
 use Rattle.caller_steps.specs.Fate.{is_refusal, is_media, is_committed, is_of_array, committed_by, history_after, live_with, offer_with, Stays, EndsWith, Moves}
 
@@ -31,23 +34,23 @@ pub data Fate (callers : ℕ) (old : State) (caller : ℕ) (call : Call) (reply 
   failed : is_commit call ≡ false → reply ≡ Media → (index : Index) → new ≡ record old { index = index; is_dead = true } → Fate callers old caller call reply new
   began : old.offers caller ≡ unoffered → old.live caller ≡ None → call ≡ Begin → reply ≡ Fine → new ≡ with_live old caller (Some []) → Fate callers old caller call reply new
   -- the reply is that of the one-thread table
-  granted : (calls : Granted) → old.offers caller ≡ unoffered → old.live caller ≡ Some calls → IsFree old caller call → Answers (view_of old caller) call reply
-      → (index : Index) → new ≡ record (with_live old caller (Some (calls ++ (call, reply) ∷ []))) { index = index } → Fate callers old caller call reply new
-  committed : (calls : Granted) → old.offers caller ≡ unoffered → call ≡ Commit → reply ≡ Committed (length old.history + 1) → old.live caller ≡ Some calls
+  granted : (asked : TableCall) (calls : Granted) → old.offers caller ≡ unoffered → call ≡ Table asked → old.live caller ≡ Some calls → IsFree old caller asked → Answers (view_of old caller) asked reply
+      → (index : Index) → new ≡ record (with_live old caller (Some (calls ++ (asked, reply) ∷ []))) { index = index } → Fate callers old caller call reply new
+  committed : (calls : Granted) → old.offers caller ≡ unoffered → call ≡ Control Commit → reply ≡ Committed (length old.history + 1) → old.live caller ≡ Some calls
       → (index : Index) → new ≡ record (with_live old caller None) { history = old.history ++ done_by old caller calls ∷ []; index = index } → Fate callers old caller call reply new
-  doubted : (calls : Granted) → old.offers caller ≡ unoffered → call ≡ Commit → reply ≡ Media → old.live caller ≡ Some calls → (index : Index)
+  doubted : (calls : Granted) → old.offers caller ≡ unoffered → call ≡ Control Commit → reply ≡ Media → old.live caller ≡ Some calls → (index : Index)
       → new ≡ record (with_live old caller None) { doubt = done_by old caller calls ∷ []; index = index; is_dead = true } → Fate callers old caller call reply new
-  aborted : (calls : Granted) → old.offers caller ≡ unoffered → call ≡ Abort → reply ≡ Fine → old.live caller ≡ Some calls → new ≡ with_live old caller None → Fate callers old caller call reply new
+  aborted : (calls : Granted) → old.offers caller ≡ unoffered → call ≡ Control Abort → reply ≡ Fine → old.live caller ≡ Some calls → new ≡ with_live old caller None → Fate callers old caller call reply new
   -- the transaction takes no more calls
-  given : (calls : Granted) → old.offers caller ≡ unoffered → call ≡ Offer → reply ≡ Fine → old.live caller ≡ Some calls → new ≡ with_offer old caller offered → Fate callers old caller call reply new
+  given : (calls : Granted) → old.offers caller ≡ unoffered → call ≡ Control Offer → reply ≡ Fine → old.live caller ≡ Some calls → new ≡ with_offer old caller offered → Fate callers old caller call reply new
   -- all that were offered are committed, or in doubt
-  settled : caller < callers → old.offers caller ≡ offered → call ≡ Settle → reply ≡ Committed (number_among (length old.history + 1) (offerers callers old) caller) → (index : Index)
+  settled : caller < callers → old.offers caller ≡ offered → call ≡ Control Settle → reply ≡ Committed (number_among (length old.history + 1) (offerers callers old) caller) → (index : Index)
       → new ≡ record (with_offer (committed_group old (offerers callers old)) caller unoffered) { index = index } → Fate callers old caller call reply new
-  unsure : caller < callers → old.offers caller ≡ offered → call ≡ Settle → reply ≡ Media → (index : Index) → new ≡ record (doubted_group old (offerers callers old)) { index = index } → Fate callers old caller call reply new
+  unsure : caller < callers → old.offers caller ≡ offered → call ≡ Control Settle → reply ≡ Media → (index : Index) → new ≡ record (doubted_group old (offerers callers old)) { index = index } → Fate callers old caller call reply new
   -- the number of a transaction that a group has committed is told
-  told : (n : ℕ) → old.offers caller ≡ unsettled n → call ≡ Settle → reply ≡ Committed n → new ≡ with_offer (with_live old caller None) caller unoffered → Fate callers old caller call reply new
+  told : (n : ℕ) → old.offers caller ≡ unsettled n → call ≡ Control Settle → reply ≡ Committed n → new ≡ with_offer (with_live old caller None) caller unoffered → Fate callers old caller call reply new
   -- keys without records were taken out of the index
-  purged : (n : ℕ) → old.offers caller ≡ unoffered → old.live caller ≡ None → call ≡ Purge → reply ≡ Purged n → (index : Index) → new ≡ record old { index = index } → Fate callers old caller call reply new
+  purged : (n : ℕ) → old.offers caller ≡ unoffered → old.live caller ≡ None → call ≡ Control Purge → reply ≡ Purged n → (index : Index) → new ≡ record old { index = index } → Fate callers old caller call reply new
 
 -- a refusal for lack of room is a reply of the array
 pub lacks_at_of_array : (limits : Limits) (old : State) (caller : ℕ) (key : Key) (slot : Option ℕ) (reply : Reply) → LacksAt limits old caller key slot reply → is_of_array reply ≡ true
@@ -57,7 +60,7 @@ lacks_at_of_array limits old caller key None (PagesFull n) lacks = refl
 lacks_at_of_array limits old caller key None (LogFull g h n) lacks = refl
 lacks_at_of_array limits old caller key _ _ lacks = absurd lacks
 
-pub lacks_of_array : (limits : Limits) (old : State) (caller : ℕ) (call : Call) (reply : Reply) → Lacks limits old caller call reply → is_of_array reply ≡ true
+pub lacks_of_array : (limits : Limits) (old : State) (caller : ℕ) (call : TableCall) (reply : Reply) → Lacks limits old caller call reply → is_of_array reply ≡ true
 lacks_of_array limits old caller (Put name key value) reply lacks = lacks_at_of_array limits old caller (of_table name key) (old.index.slot_of (of_table name key)) reply lacks
 lacks_of_array limits old caller (Del name key) reply lacks = lacks_at_of_array limits old caller (of_table name key) (Some lacks.1) reply lacks.3
 lacks_of_array limits old caller _ reply lacks = absurd lacks
@@ -69,7 +72,7 @@ lacks_at_refusal limits old caller key None (PagesFull n) lacks = (refl, refl)
 lacks_at_refusal limits old caller key None (LogFull g h n) lacks = (refl, refl)
 lacks_at_refusal limits old caller key _ _ lacks = absurd lacks
 
-lacks_refusal : (limits : Limits) (old : State) (caller : ℕ) (call : Call) (reply : Reply) → Lacks limits old caller call reply → (is_refusal reply ≡ true) × (is_media reply ≡ false)
+lacks_refusal : (limits : Limits) (old : State) (caller : ℕ) (call : TableCall) (reply : Reply) → Lacks limits old caller call reply → (is_refusal reply ≡ true) × (is_media reply ≡ false)
 lacks_refusal limits old caller (Put name key value) reply lacks = lacks_at_refusal limits old caller (of_table name key) (old.index.slot_of (of_table name key)) reply lacks
 lacks_refusal limits old caller (Del name key) reply lacks = lacks_at_refusal limits old caller (of_table name key) (Some lacks.1) reply lacks.3
 lacks_refusal limits old caller _ reply lacks = absurd lacks
@@ -78,76 +81,51 @@ module _ (limits : Limits) (old : State) (caller : ℕ) (new : State) where
   says : (call : Call) (reply answer : Reply) → is_refusal answer ≡ true → is_media answer ≡ false → Says answer old reply new → Fate limits.callers old caller call reply new
   says call reply answer refusal sure is = refused (ap is_refusal is.0 ∙ refusal) (ap is_media is.0 ∙ sure) old.index is.1
 
-  asks : (calls : Granted) (call : Call) (reply : Reply) → is_commit call ≡ false → old.offers caller ≡ unoffered → old.live caller ≡ Some calls → Asks limits calls old caller call reply new → Fate limits.callers old caller call reply new
-  asks calls call reply apart un is (inl short) = says call reply NoMemory refl refl short
-  asks calls call reply apart un is (inr (inl held)) = says call reply (Busy held.0) refl refl held.2
-  asks calls call reply apart un is (inr (inr (free, inl (answers, fits, index, indexes, e)))) = granted calls un is free answers index e
-  asks calls call reply apart un is (inr (inr (free, inr (inl (lacks, index, indexes, e))))) = let both = lacks_refusal limits old caller call reply lacks in refused both.0 both.1 index e
-  asks calls call reply apart un is (inr (inr (free, inr (inr (uses, (re, index, e)))))) = failed apart re index e
+  asks : (calls : Granted) (asked : TableCall) (reply : Reply) → old.offers caller ≡ unoffered → old.live caller ≡ Some calls → Asks limits calls old caller asked reply new → Fate limits.callers old caller (Table asked) reply new
+  asks calls asked reply un is (inl short) = says (Table asked) reply NoMemory refl refl short
+  asks calls asked reply un is (inr (inl held)) = says (Table asked) reply (Busy held.0) refl refl held.2
+  asks calls asked reply un is (inr (inr (free, inl (answers, fits, index, indexes, e)))) = granted asked calls un refl is free answers index e
+  asks calls asked reply un is (inr (inr (free, inr (inl (lacks, index, indexes, e))))) = let both = lacks_refusal limits old caller asked reply lacks in refused both.0 both.1 index e
+  asks calls asked reply un is (inr (inr (free, inr (inr (uses, (re, index, e)))))) = failed refl re index e
 
-  tabled : (calls : Granted) (call : Call) (reply : Reply) → is_commit call ≡ false → old.offers caller ≡ unoffered → old.live caller ≡ Some calls → AsksTable limits calls old caller call reply new → Fate limits.callers old caller call reply new
-  tabled calls call reply apart un is (inl (none, s)) = says call reply NoTable refl refl s
-  tabled calls call reply apart un is (inr (some, a)) = asks calls call reply apart un is a
+  tabled : (calls : Granted) (asked : TableCall) (reply : Reply) → old.offers caller ≡ unoffered → old.live caller ≡ Some calls → AsksTable limits calls old caller asked reply new → Fate limits.callers old caller (Table asked) reply new
+  tabled calls asked reply un is (inl (none, s)) = says (Table asked) reply NoTable refl refl s
+  tabled calls asked reply un is (inr (some, a)) = asks calls asked reply un is a
+
+  within : (calls : Granted) (asked : TableCall) (reply : Reply) → old.offers caller ≡ unoffered → old.live caller ≡ Some calls → AsksWithin limits calls old caller asked reply new → Fate limits.callers old caller (Table asked) reply new
+  within calls Save reply un is (inl (full, s)) = says (Table Save) reply SavesFull refl refl s
+  within calls Save reply un is (inr (room, a)) = asks calls Save reply un is a
+  within calls (Back n) reply un is (inl (none, s)) = says (Table (Back n)) reply (NoSave n) refl refl s
+  within calls (Back n) reply un is (inr (some, a)) = asks calls (Back n) reply un is a
+  within calls asked reply un is a = tabled calls asked reply un is a
 
   fate_at : (live : Option Granted) (call : Call) (reply : Reply) → old.offers caller ≡ unoffered → old.live caller ≡ live → StepAt limits live old caller call reply new → Fate limits.callers old caller call reply new
   fate_at None Begin reply un is (re, e) = began un is refl re e
-  fate_at None (Get name key) reply un is s = says (Get name key) reply NoTransaction refl refl s
-  fate_at None (Put name key value) reply un is s = says (Put name key value) reply NoTransaction refl refl s
-  fate_at None (Del name key) reply un is s = says (Del name key) reply NoTransaction refl refl s
-  fate_at None (Scan name low high) reply un is s = says (Scan name low high) reply NoTransaction refl refl s
-  fate_at None Save reply un is s = says Save reply NoTransaction refl refl s
-  fate_at None (Back n) reply un is s = says (Back n) reply NoTransaction refl refl s
-  fate_at None Commit reply un is s = says Commit reply NoTransaction refl refl s
-  fate_at None Abort reply un is s = says Abort reply NoTransaction refl refl s
-  fate_at None Offer reply un is s = says Offer reply NoTransaction refl refl s
-  fate_at None Settle reply un is s = says Settle reply NoTransaction refl refl s
-  fate_at None Purge reply un is (inl (n, re, purges)) = purged n un is refl re purges.index purges.same
-  fate_at None Purge reply un is (inr (re, index, e)) = failed refl re index e
+  fate_at None (Control Purge) reply un is (inl (n, re, purges)) = purged n un is refl re purges.index purges.same
+  fate_at None (Control Purge) reply un is (inr (re, index, e)) = failed refl re index e
+  fate_at None call reply un is s = says call reply NoTransaction refl refl s
   fate_at (Some calls) Begin reply un is s = says Begin reply Already refl refl s
-  fate_at (Some calls) (Get name key) reply un is a = tabled calls (Get name key) reply refl un is a
-  fate_at (Some calls) (Put name key value) reply un is a = tabled calls (Put name key value) reply refl un is a
-  fate_at (Some calls) (Del name key) reply un is a = tabled calls (Del name key) reply refl un is a
-  fate_at (Some calls) (Scan name low high) reply un is a = tabled calls (Scan name low high) reply refl un is a
-  fate_at (Some calls) Save reply un is (inl (full, s)) = says Save reply SavesFull refl refl s
-  fate_at (Some calls) Save reply un is (inr (room, a)) = asks calls Save reply refl un is a
-  fate_at (Some calls) (Back n) reply un is (inl (none, s)) = says (Back n) reply (NoSave n) refl refl s
-  fate_at (Some calls) (Back n) reply un is (inr (some, a)) = asks calls (Back n) reply refl un is a
-  fate_at (Some calls) Commit reply un is (inl short) = says Commit reply NoMemory refl refl short
-  fate_at (Some calls) Commit reply un is (inr (inl (re, index, settles, e))) = committed calls un refl re is index e
-  fate_at (Some calls) Commit reply un is (inr (inr (wrote, re, index, e))) = doubted calls un refl re is index e
-  fate_at (Some calls) Abort reply un is (re, e) = aborted calls un refl re is e
-  fate_at (Some calls) Offer reply un is (re, e) = given calls un refl re is e
-  fate_at (Some calls) Settle reply un is s = says Settle reply NoTransaction refl refl s
-  fate_at (Some calls) Purge reply un is s = says Purge reply Already refl refl s
+  fate_at (Some calls) (Table asked) reply un is a = within calls asked reply un is a
+  fate_at (Some calls) (Control Commit) reply un is (inl short) = says (Control Commit) reply NoMemory refl refl short
+  fate_at (Some calls) (Control Commit) reply un is (inr (inl (re, index, settles, e))) = committed calls un refl re is index e
+  fate_at (Some calls) (Control Commit) reply un is (inr (inr (wrote, re, index, e))) = doubted calls un refl re is index e
+  fate_at (Some calls) (Control Abort) reply un is (re, e) = aborted calls un refl re is e
+  fate_at (Some calls) (Control Offer) reply un is (re, e) = given calls un refl re is e
+  fate_at (Some calls) (Control Settle) reply un is s = says (Control Settle) reply NoTransaction refl refl s
+  fate_at (Some calls) (Control Purge) reply un is s = says (Control Purge) reply Already refl refl s
 
   fate_by : (offer : state.Offer) (call : Call) (reply : Reply) → old.offers caller ≡ offer → StepBy limits offer old caller call reply new → Fate limits.callers old caller call reply new
   fate_by unoffered call reply is s = fate_at (old.live caller) call reply is refl s
   fate_by offered Begin reply is s = says Begin reply Already refl refl s
-  fate_by offered (Get name key) reply is s = says (Get name key) reply NoTransaction refl refl s
-  fate_by offered (Put name key value) reply is s = says (Put name key value) reply NoTransaction refl refl s
-  fate_by offered (Del name key) reply is s = says (Del name key) reply NoTransaction refl refl s
-  fate_by offered (Scan name low high) reply is s = says (Scan name low high) reply NoTransaction refl refl s
-  fate_by offered Save reply is s = says Save reply NoTransaction refl refl s
-  fate_by offered (Back n) reply is s = says (Back n) reply NoTransaction refl refl s
-  fate_by offered Commit reply is s = says Commit reply NoTransaction refl refl s
-  fate_by offered Abort reply is s = says Abort reply NoTransaction refl refl s
-  fate_by offered Offer reply is s = says Offer reply NoTransaction refl refl s
-  fate_by offered Purge reply is s = says Purge reply Already refl refl s
-  fate_by offered Settle reply is (inl short) = says Settle reply NoMemory refl refl short
-  fate_by offered Settle reply is (inr (inside, inl (re, index, settles, e))) = settled inside is refl re index e
-  fate_by offered Settle reply is (inr (inside, inr (wrote, re, index, e))) = unsure inside is refl re index e
+  fate_by offered (Control Purge) reply is s = says (Control Purge) reply Already refl refl s
+  fate_by offered (Control Settle) reply is (inl short) = says (Control Settle) reply NoMemory refl refl short
+  fate_by offered (Control Settle) reply is (inr (inside, inl (re, index, settles, e))) = settled inside is refl re index e
+  fate_by offered (Control Settle) reply is (inr (inside, inr (wrote, re, index, e))) = unsure inside is refl re index e
+  fate_by offered call reply is s = says call reply NoTransaction refl refl s
   fate_by (unsettled n) Begin reply is s = says Begin reply Already refl refl s
-  fate_by (unsettled n) (Get name key) reply is s = says (Get name key) reply NoTransaction refl refl s
-  fate_by (unsettled n) (Put name key value) reply is s = says (Put name key value) reply NoTransaction refl refl s
-  fate_by (unsettled n) (Del name key) reply is s = says (Del name key) reply NoTransaction refl refl s
-  fate_by (unsettled n) (Scan name low high) reply is s = says (Scan name low high) reply NoTransaction refl refl s
-  fate_by (unsettled n) Save reply is s = says Save reply NoTransaction refl refl s
-  fate_by (unsettled n) (Back m) reply is s = says (Back m) reply NoTransaction refl refl s
-  fate_by (unsettled n) Commit reply is s = says Commit reply NoTransaction refl refl s
-  fate_by (unsettled n) Abort reply is s = says Abort reply NoTransaction refl refl s
-  fate_by (unsettled n) Offer reply is s = says Offer reply NoTransaction refl refl s
-  fate_by (unsettled n) Settle reply is (re, e) = told n is refl re e
-  fate_by (unsettled n) Purge reply is s = says Purge reply Already refl refl s
+  fate_by (unsettled n) (Control Purge) reply is s = says (Control Purge) reply Already refl refl s
+  fate_by (unsettled n) (Control Settle) reply is (re, e) = told n is refl re e
+  fate_by (unsettled n) call reply is s = says call reply NoTransaction refl refl s
 
   fate_if : (dead : Bool) (call : Call) (reply : Reply) → StepIf limits dead old caller call reply new → Fate limits.callers old caller call reply new
   fate_if true call reply s = says call reply Dead refl refl s
@@ -179,23 +157,13 @@ removed_plain : (o : Option (List ℕ)) (reply : Reply) → reply ≡ removed o 
 removed_plain None reply e = record { done = ap is_refusal e; uncommitted = ap is_committed e; sure = ap is_media e }
 removed_plain (Some v) reply e = record { done = ap is_refusal e; uncommitted = ap is_committed e; sure = ap is_media e }
 
-pub answer_plain : (work : Work) (call : Call) (reply : Reply) → Answers work call reply → IsPlain reply
+pub answer_plain : (work : Work) (call : TableCall) (reply : Reply) → Answers work call reply → IsPlain reply
 answer_plain work (Get name key) reply answers = found_plain (get work.table (of_table name key)) reply answers
 answer_plain work (Put name key value) reply answers = record { done = ap is_refusal answers; uncommitted = ap is_committed answers; sure = ap is_media answers }
 answer_plain work (Del name key) reply answers = removed_plain (get work.table (of_table name key)) reply answers
 answer_plain work (Scan name low high) reply answers = record { done = ap is_refusal answers; uncommitted = ap is_committed answers; sure = ap is_media answers }
 answer_plain work Save reply answers = record { done = ap is_refusal answers; uncommitted = ap is_committed answers; sure = ap is_media answers }
 answer_plain work (Back n) reply answers = record { done = ap is_refusal answers.1; uncommitted = ap is_committed answers.1; sure = ap is_media answers.1 }
-answer_plain work _ reply answers = absurd answers
-
-answered_live : (calls : Granted) (work : Work) (call : Call) (reply : Reply) → Answers work call reply → Some (calls ++ (call, reply) ∷ []) ≡ live_with calls call reply
-answered_live calls work Begin reply answers = absurd answers
-answered_live calls work Commit reply answers = absurd answers
-answered_live calls work Abort reply answers = absurd answers
-answered_live calls work Offer reply answers = absurd answers
-answered_live calls work Settle reply answers = absurd answers
-answered_live calls work Purge reply answers = absurd answers
-answered_live calls work _ reply answers = refl
 
 or_true : (b : Bool) → (b || true) ≡ true
 or_true true = refl
@@ -204,10 +172,6 @@ or_true false = refl
 or_none : (b : Bool) → (b || false) ≡ b
 or_none true = refl
 or_none false = refl
-
-answered_offer : (work : Work) (call : Call) (reply : Reply) → Answers work call reply → unoffered ≡ offer_with call
-answered_offer work Offer reply answers = absurd answers
-answered_offer work _ reply answers = refl
 
 module _ (callers : ℕ) (old : State) (caller : ℕ) (call : Call) (reply : Reply) (new : State) where
   live_moved : (other : ℕ) (calls : Option Granted) → other ≢ caller → new.live ≡ update nat_eq old.live caller calls → new.live other ≡ old.live other
@@ -245,7 +209,7 @@ module _ (callers : ℕ) (old : State) (caller : ℕ) (call : Call) (reply : Rep
   dead_now media e = e ∙ sym (ap (λ (b : Bool). old.is_dead || b) media ∙ or_true old.is_dead)
 
   -- what a settle commits, by what its caller has offered
-  settles_as : (offer : state.Offer) → call ≡ Settle → old.offers caller ≡ offer
+  settles_as : (offer : state.Offer) → call ≡ Control Settle → old.offers caller ≡ offer
       → committed_by callers old caller call ≡ (if is_offered offer then group_in old (group_end old (offerers callers old)) (offerers callers old) else [])
   settles_as offer c is = ap (committed_by callers old caller) c ∙ ap (λ (o : state.Offer). if is_offered o then group_in old (group_end old (offerers callers old)) (offerers callers old) else []) is
 
@@ -284,20 +248,20 @@ module _ (callers : ℕ) (old : State) (caller : ℕ) (call : Call) (reply : Rep
     others = others_live (Some []) (ap (λ (s : State). s.live) e) (ap (λ (s : State). s.offers) e) (none_more (ap (λ (s : State). s.history) e));
     refused = λ re ok. absurd (true≢false (sym re ∙ ap is_refusal r));
   }
-  fate_moves (granted calls un l free answers index e) =
-      let plain : IsPlain reply = answer_plain (view_of old caller) call reply answers in
+  fate_moves (granted asked calls un c l free answers index e) =
+      let plain : IsPlain reply = answer_plain (view_of old caller) asked reply answers in
       record {
         names = ap (λ (s : State). s.names) e;
         base = ap (λ (s : State). s.base) e;
         history = same_history plain.uncommitted (ap (λ (s : State). s.history) e);
         dead = alive_same plain.sure (ap (λ (s : State). s.is_dead) e);
-        able = λ done. able_answered old caller (view_of old caller) call reply answers ∙ takes_within old caller calls un l;
+        able = λ done. ap (may_do old caller) c ∙ takes_within old caller calls un l;
         own = λ done. (
-          live_set (Some (calls ++ (call, reply) ∷ [])) (ap (λ (s : State). s.live) e)
-              ∙ ap (λ (cs : Granted). Some (cs ++ (call, reply) ∷ [])) (sym (ap (λ (o : Option Granted). unwrap_or o []) l)) ∙ answered_live (calls_of old caller) (view_of old caller) call reply answers,
-          offer_none un (ap (λ (s : State). s.offers) e) (answered_offer (view_of old caller) call reply answers),
+          live_set (Some (calls ++ (asked, reply) ∷ [])) (ap (λ (s : State). s.live) e)
+              ∙ ap (λ (cs : Granted). Some (cs ++ (asked, reply) ∷ [])) (sym (ap (λ (o : Option Granted). unwrap_or o []) l)) ∙ ap (λ (x : Call). live_with (calls_of old caller) x reply) (sym c),
+          offer_none un (ap (λ (s : State). s.offers) e) (ap offer_with (sym c)),
         );
-        others = others_live (Some (calls ++ (call, reply) ∷ [])) (ap (λ (s : State). s.live) e) (ap (λ (s : State). s.offers) e) (none_more (ap (λ (s : State). s.history) e));
+        others = others_live (Some (calls ++ (asked, reply) ∷ [])) (ap (λ (s : State). s.live) e) (ap (λ (s : State). s.offers) e) (none_more (ap (λ (s : State). s.history) e));
         refused = λ re ok. absurd (true≢false (sym re ∙ plain.done));
       }
   fate_moves (committed calls un c r l index e) = record {

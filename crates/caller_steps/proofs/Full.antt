@@ -4,8 +4,8 @@ use Rattle.std.proofs.lemmas.Bool.{cases_order}
 use Rattle.mars_base.specs.Room.{HaveRoom, IsFirstFull}
 use Rattle.history.specs.Key.{of_table}
 use Rattle.history.specs.declared.key.Key.{Key}
-use Rattle.history.specs.declared.call.Call.{Call}
-use Rattle.history.specs.declared.call.Call.TheVariants.{Begin, Get, Put, Del, Scan, Save, Back, Commit, Abort, Offer, Settle, Purge}
+use Rattle.history.specs.declared.call.TableCall.{TableCall}
+use Rattle.history.specs.declared.call.TableCall.TheVariants.{Put, Del}
 use Rattle.history.specs.declared.call.Reply.{Reply}
 use Rattle.history.specs.declared.call.Reply.TheVariants.{SlotsFull, PagesFull, LogFull}
 use Rattle.caller_steps.specs.State.{State}
@@ -95,13 +95,13 @@ module _ (limits : Limits) (old : State) (caller : ℕ) where
   at_one key (Some slot) (LogFull g h n) _ a b = absurd b
   at_one key (Some slot) _ other a b = absurd a
 
-  pub fits_none : (call : Call) (reply : Reply) → Fits limits old caller call → Lacks limits old caller call reply → ⊥
+  pub fits_none : (call : TableCall) (reply : Reply) → Fits limits old caller call → Lacks limits old caller call reply → ⊥
   fits_none (Put name key value) reply fits lacks = fits_at (of_table name key) (old.index.slot_of (of_table name key)) reply fits lacks
   fits_none (Del name key) reply fits (seen, slot, is, lacks) =
       fits_at (of_table name key) (Some slot) reply (subst (λ (n : ℕ). HasEntry limits old caller (of_table name key) n) (ap (λ (o : Option ℕ). unwrap_or o old.index.due) is) (fits seen)) lacks
   fits_none _ reply fits lacks = lacks
 
-  pub lacks_one : (call : Call) (one other : Reply) → Lacks limits old caller call one → Lacks limits old caller call other → one ≡ other
+  pub lacks_one : (call : TableCall) (one other : Reply) → Lacks limits old caller call one → Lacks limits old caller call other → one ≡ other
   lacks_one (Put name key value) one other a b = at_one (of_table name key) (old.index.slot_of (of_table name key)) one other a b
   lacks_one (Del name key) one other (seen, slot, is, a) (seen', slot', is', b) =
       at_one (of_table name key) (Some slot) one other a (subst (λ (n : ℕ). LacksAt limits old caller (of_table name key) (Some n) other) (some_one slot' slot (sym is' ∙ is)) b)

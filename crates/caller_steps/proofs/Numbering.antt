@@ -5,7 +5,8 @@ use Rattle.history.specs.Legal.{AreNumberedFrom}
 use Rattle.history.specs.declared.transaction.Done.{Done}
 use Rattle.std.proofs.lemmas.List.{append-nil}
 use Rattle.history.specs.declared.call.Call.{Call}
-use Rattle.history.specs.declared.call.Call.TheVariants.{Settle}
+use Rattle.history.specs.declared.call.Call.TheVariants.{Control}
+use Rattle.history.specs.declared.call.Control.TheVariants.{Settle}
 use Rattle.history.specs.declared.call.Reply.{Reply}
 use Rattle.caller_steps.specs.State.{State, calls_of, done_by}
 use Rattle.caller_steps.specs.Offers.{is_offered, offerers, done_in, with_done, with_group, group_in, group_end}
@@ -33,7 +34,7 @@ settled_numbered old callers true h = subst (λ (l : List Done). AreNumberedFrom
 settled_numbered old callers false h = subst (λ (l : List Done). AreNumberedFrom 1 l) (sym (append-nil old.history)) h
 
 committed_numbered : (callers : ℕ) (old : State) (caller : ℕ) (call : Call) → AreNumberedFrom 1 old.history → AreNumberedFrom 1 (old.history ++ committed_by callers old caller call)
-committed_numbered callers old caller Settle h = settled_numbered old (offerers callers old) (is_offered (old.offers caller)) h
+committed_numbered callers old caller (Control Settle) h = settled_numbered old (offerers callers old) (is_offered (old.offers caller)) h
 committed_numbered callers old caller call h = one_more 1 old.history (done_by old caller (calls_of old caller)) h (omega arith)
 
 step_numbered : (callers : ℕ) (old : State) (caller : ℕ) (call : Call) (reply : Reply) → AreNumberedFrom 1 old.history → AreNumberedFrom 1 (history_after callers old caller call reply)

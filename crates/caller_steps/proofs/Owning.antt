@@ -12,6 +12,7 @@ use Rattle.std.proofs.lemmas.List.Elements.{All-nil, All-cons}
 use Rattle.history.specs.Table.{Granted}
 use Rattle.history.specs.declared.call.Call.{Call}
 use Rattle.history.specs.declared.call.Call.TheVariants as call
+use Rattle.history.specs.declared.call.Control.TheVariants as control
 use Rattle.history.specs.declared.call.Reply.{Reply}
 use Rattle.history.specs.declared.call.Reply.TheVariants.{Committed}
 use Rattle.history.specs.declared.transaction.Done.{Done}
@@ -20,7 +21,7 @@ use Rattle.caller_steps.specs.Offers.{is_offered, is_unoffered, offerers, group_
 use Rattle.caller_steps.specs.Room.{Limits}
 use Rattle.caller_steps.specs.Step.{Step}
 use Rattle.caller_steps.specs.Fate.{is_refusal, is_media, is_committed, live_with, offer_with, Stays, EndsWith, Moves}
-use Rattle.caller_steps.specs.Run.{Turn, Goes, GoesAlong, AreOf, turns_of}
+use Rattle.caller_steps.specs.Run.{Turn, Heard, Goes, GoesAlong, AreOf, turns_of}
 use Rattle.caller_steps.specs.Own.{is_commit, number_of, Own, nothing_own, own_after, as_told, told_of, calls_among, live_in, mine_in, doubt_in, KnowsLive}
 use Rattle.caller_steps.proofs.Offering.{offers_here, is_in, offerers_once, offerer_has, offerer_is, more_mine, more_theirs, group_history, group_mine, group_with, group_without, group_doubt, without_history, without_apart, without_ends}
 use Rattle.caller_steps.proofs.Able.{able_closed}
@@ -42,7 +43,7 @@ is_none _ is = absurd (true≢false (sym is))
 
 -- an offer that one call leaves
 with_waits : (call : Call) → (is_offered (offer_with call) ≡ true) × (offer_with call ≡ offered) ⊎ (is_offered (offer_with call) ≡ false) × (offer_with call ≡ unoffered)
-with_waits call.Offer = inl (refl, refl)
+with_waits (call.Control control.Offer) = inl (refl, refl)
 with_waits _ = inr (refl, refl)
 
 module _ (caller : ℕ) (own : Own) (call : Call) (reply : Reply) where
@@ -181,7 +182,7 @@ module _ (limits : Limits) (old : State) (caller : ℕ) (new : State) (own : Own
   live_faulted media (failed apart r index e) was = subst (λ (o : Own). KnowsLive caller o new) (sym (own_failed caller own call reply media (ap is_committed r) apart))
       (live_stays limits old caller new own (ap (λ (s : State). s.live caller) e) (ap (λ (s : State). s.offers caller) e) (λ _ living. absurd (true≢false (sym (ap (λ (s : State). s.is_dead) e) ∙ living))) was)
   live_faulted media (began un l c r e) was = absurd (true≢false (sym media ∙ ap is_media r))
-  live_faulted media (granted calls un l free answers index e) was = absurd (true≢false (sym media ∙ (answer_plain _ call reply answers).sure))
+  live_faulted media (granted asked calls un c l free answers index e) was = absurd (true≢false (sym media ∙ (answer_plain _ asked reply answers).sure))
   live_faulted media (committed calls un c r l index e) was = absurd (true≢false (sym media ∙ ap is_media r))
   live_faulted media (doubted calls un c r l index e) was = live_ended limits old caller new upon
       (ap (λ (s : State). s.live caller) e ∙ update_here old.live caller None) (ap (λ (s : State). s.offers caller) e ∙ un)
@@ -274,8 +275,8 @@ module _ (limits : Limits) (old : State) (caller : ℕ) (new : State) (own : Own
   mine_own (refused refusal sure index e) mine = ap (λ (s : State). told_of caller s.history) e ∙ mine ∙ (λ i. mine_in caller (sym (own_refused caller own call reply refusal sure) i) (sym (ap (λ (s : State). s.offers caller) e) i))
   mine_own (failed apart r index e) mine = ap (λ (s : State). told_of caller s.history) e ∙ mine ∙ (λ i. mine_in caller (sym (own_failed caller own call reply (ap is_media r) (ap is_committed r) apart) i) (sym (ap (λ (s : State). s.offers caller) e) i))
   mine_own (began un l c r e) mine = mine_same (ap (λ (s : State). s.history) e) (ap is_committed r) (mine ∙ ap (mine_in caller own) un) (ap (mine_in caller after) (ap (λ (s : State). s.offers caller) e ∙ un))
-  mine_own (granted calls un l free answers index e) mine =
-      mine_same (ap (λ (s : State). s.history) e) (answer_plain _ call reply answers).uncommitted (mine ∙ ap (mine_in caller own) un) (ap (mine_in caller after) (ap (λ (s : State). s.offers caller) e ∙ un))
+  mine_own (granted asked calls un c l free answers index e) mine =
+      mine_same (ap (λ (s : State). s.history) e) (answer_plain _ asked reply answers).uncommitted (mine ∙ ap (mine_in caller own) un) (ap (mine_in caller after) (ap (λ (s : State). s.offers caller) e ∙ un))
   mine_own (committed calls un c r l index e) mine =
       ap (λ (s : State). told_of caller s.history) e ∙ told_mine caller old.history (done_by old caller calls) refl
       ∙ (λ i. (mine ∙ ap (mine_in caller own) un) i ++ record { caller = caller; calls = (ap (λ (o : Option Granted). unwrap_or o []) (sym l) ∙ own_calls un) i; at = sym (ap number_of r) i; last = sym (ap number_of r) i } ∷ [])
@@ -345,7 +346,7 @@ sure_same : (limits : Limits) (old : State) (caller : ℕ) (new : State) (call :
 sure_same limits old caller new call reply sure (refused refusal none index e) = ap (λ (s : State). s.doubt) e
 sure_same limits old caller new call reply sure (failed apart r index e) = ap (λ (s : State). s.doubt) e
 sure_same limits old caller new call reply sure (began un l c r e) = ap (λ (s : State). s.doubt) e
-sure_same limits old caller new call reply sure (granted calls un l free answers index e) = ap (λ (s : State). s.doubt) e
+sure_same limits old caller new call reply sure (granted asked calls un c l free answers index e) = ap (λ (s : State). s.doubt) e
 sure_same limits old caller new call reply sure (committed calls un c r l index e) = ap (λ (s : State). s.doubt) e
 sure_same limits old caller new call reply sure (doubted calls un c r l index e) = absurd (true≢false (sym (ap is_media r) ∙ sure))
 sure_same limits old caller new call reply sure (aborted calls un c r l e) = ap (λ (s : State). s.doubt) e
@@ -365,7 +366,7 @@ module _ (limits : Limits) (old : State) (caller : ℕ) (new : State) (own : Own
   doubt_own call reply media (failed apart r index e) =
       ap (λ (s : State). calls_among caller s.doubt) e ∙ doubt ∙ (λ i. doubt_in (sym (own_failed caller own call reply media (ap is_committed r) apart) i) (sym (ap (λ (s : State). s.offers caller) e) i))
   doubt_own call reply media (began un l c r e) = absurd (true≢false (sym media ∙ ap is_media r))
-  doubt_own call reply media (granted calls un l free answers index e) = absurd (true≢false (sym media ∙ (answer_plain _ call reply answers).sure))
+  doubt_own call reply media (granted asked calls un c l free answers index e) = absurd (true≢false (sym media ∙ (answer_plain _ asked reply answers).sure))
   doubt_own call reply media (committed calls un c r l index e) = absurd (true≢false (sym media ∙ ap is_media r))
   doubt_own call reply media (doubted calls un c r l index e) =
       ap (λ (s : State). calls_among caller s.doubt) e ∙ one_calls caller (done_by old caller calls) refl
@@ -395,7 +396,7 @@ module _ (limits : Limits) (old : State) (caller : ℕ) (new : State) (own : Own
   doubt_other turn ne media (refused refusal sure index e) = absurd (true≢false (sym media ∙ sure))
   doubt_other turn ne media (failed apart r index e) = ap (λ (s : State). calls_among caller s.doubt) e ∙ doubt ∙ ap (doubt_in own) (sym (ap (λ (s : State). s.offers caller) e))
   doubt_other turn ne media (began un l c r e) = absurd (true≢false (sym media ∙ ap is_media r))
-  doubt_other turn ne media (granted calls un l free answers index e) = absurd (true≢false (sym media ∙ (answer_plain _ turn.1 turn.2 answers).sure))
+  doubt_other turn ne media (granted asked calls un c l free answers index e) = absurd (true≢false (sym media ∙ (answer_plain _ asked turn.2 answers).sure))
   doubt_other turn ne media (committed calls un c r l index e) = absurd (true≢false (sym media ∙ ap is_media r))
   doubt_other turn ne media (doubted calls un c r l index e) =
       theirs (ap (λ (s : State). calls_among caller s.doubt) e ∙ none_calls caller (done_by old turn.0 calls) (λ same. ne (sym same))) (ap (λ (s : State). s.offers caller) e)
@@ -506,10 +507,10 @@ module _ (tells : Bool) (limits : Limits) (caller : ℕ) where
 
   same_line : (own : Own) (turn : Turn) (turns : List Turn) → turn.0 ≡ caller → own_from own (turn ∷ turns) ≡ own_from (own_after caller own (turn.1, turn.2)) turns
   same_line own turn turns is =
-      ap (λ (l : Granted). fold (own_after caller) own l) (subst (λ (n : ℕ). turns_of n (turn ∷ turns) ≡ (turn.1, turn.2) ∷ turns_of n turns) is (line_here turn.0 turn.1 turn.2 turns))
+      ap (λ (l : Heard). fold (own_after caller) own l) (subst (λ (n : ℕ). turns_of n (turn ∷ turns) ≡ (turn.1, turn.2) ∷ turns_of n turns) is (line_here turn.0 turn.1 turn.2 turns))
 
   other_line : (own : Own) (turn : Turn) (turns : List Turn) → turn.0 ≢ caller → own_from own (turn ∷ turns) ≡ own_from own turns
-  other_line own turn turns ne = ap (λ (l : Granted). fold (own_after caller) own l) (line_apart caller turn turns ne)
+  other_line own turn turns ne = ap (λ (l : Heard). fold (own_after caller) own l) (line_apart caller turn turns ne)
 
   alive_before : (first now : State) (turns : List Turn) → GoesAlong tells limits first turns now → now.is_dead ≡ false → first.is_dead ≡ false
   alive_before first now turns a alive = (or_parts first.is_dead _ (sym (turns_dead tells limits first now turns a) ∙ alive)).0
@@ -595,19 +596,19 @@ pub turns_owner : (limits : Limits) (callers : ℕ) (first now : State) (turns :
     → All (λ (done : Done). done.caller < callers) now.doubt
 turns_owner limits callers first now turns a all free certain = owners callers now.doubt (λ caller le.
     let known = turns_doubt limits caller first now turns nothing_own a (fresh_doubt caller first (free caller).0 (free caller).1 certain) in
-    let own : own_from true limits caller nothing_own turns ≡ nothing_own = ap (λ (l : Granted). fold (own_after caller) nothing_own l) (none_beyond callers caller turns all le) in
+    let own : own_from true limits caller nothing_own turns ≡ nothing_own = ap (λ (l : Heard). fold (own_after caller) nothing_own l) (none_beyond callers caller turns all le) in
     let idle = subst (λ (o : Own). KnowsLive caller o now) own known.live in
     no_calls (commits_of caller now.doubt) (known.doubt ∙ ap (λ (o : Own). doubt_in o (now.offers caller)) own ∙ ap (doubt_in nothing_own) (idle.none refl)))
 
 -- the reply to a commit has the next number
-pub number_of_commit : (limits : Limits) (old : State) (caller : ℕ) (what : Call) (new : State) (reply : Reply) → (what ≡ call.Settle → ⊥) → Step limits old caller what reply new → is_committed reply ≡ true → reply ≡ Committed (length old.history + 1)
+pub number_of_commit : (limits : Limits) (old : State) (caller : ℕ) (what : Call) (new : State) (reply : Reply) → (what ≡ call.Control control.Settle → ⊥) → Step limits old caller what reply new → is_committed reply ≡ true → reply ≡ Committed (length old.history + 1)
 number_of_commit limits old caller what new reply plain step is = go (step_fate limits old caller new what reply step)
   where
     go : Fate limits.callers old caller what reply new → reply ≡ Committed (length old.history + 1)
     go (refused refusal sure index e) = absurd (true≢false (sym is ∙ refusal_none reply refusal))
     go (failed apart r index e) = absurd (true≢false (sym is ∙ ap is_committed r))
     go (began un l c r e) = absurd (true≢false (sym is ∙ ap is_committed r))
-    go (granted calls un l free answers index e) = absurd (true≢false (sym is ∙ (answer_plain (view_of old caller) what reply answers).uncommitted))
+    go (granted asked calls un c l free answers index e) = absurd (true≢false (sym is ∙ (answer_plain (view_of old caller) asked reply answers).uncommitted))
     go (committed calls un c r l index e) = r
     go (doubted calls un c r l index e) = absurd (true≢false (sym is ∙ ap is_committed r))
     go (aborted calls un c r l e) = absurd (true≢false (sym is ∙ ap is_committed r))

@@ -6,7 +6,10 @@ use Rattle.history.specs.Writes.{Write}
 use Rattle.history.specs.Table.{Granted, has_save}
 use Rattle.history.specs.Log.{Log, save_at, log_after, log_of}
 use Rattle.history.specs.declared.call.Call.{Call}
-use Rattle.history.specs.declared.call.Call.TheVariants.{Begin, Get, Put, Del, Scan, Save, Back, Commit, Abort, Offer, Settle, Purge}
+use Rattle.history.specs.declared.call.Call.TheVariants.{Table, Control}
+use Rattle.history.specs.declared.call.TableCall.{TableCall}
+use Rattle.history.specs.declared.call.TableCall.TheVariants.{Put, Del, Save, Back}
+use Rattle.history.specs.declared.call.Control.TheVariants.{Commit, Offer, Settle, Purge}
 use Rattle.history.specs.declared.call.Reply.{Reply}
 use Rattle.history.proofs.OneMore.{log_of-push}
 use Rattle.history.proofs.Saves.{save_is_front}
@@ -14,7 +17,7 @@ use Rattle.caller_steps.specs.State as state
 use Rattle.caller_steps.specs.State.{State, Index, unoffered, offered, unsettled, calls_of}
 use Rattle.caller_steps.specs.Offers.{offerers, group_writes}
 use Rattle.caller_steps.specs.Room.{Limits, Indexes}
-use Rattle.caller_steps.specs.Step.{Says, Asks, AsksTable, StepAt, StepBy, StepIf, Step, Runs}
+use Rattle.caller_steps.specs.Step.{Says, Asks, AsksTable, AsksWithin, StepAt, StepBy, StepIf, Step, Runs}
 use Rattle.caller_steps.specs.Fate.{is_refusal, is_media, live_with, Stays, EndsWith, Moves}
 use Rattle.caller_steps.specs.Run.{Turn, is_write, has_write}
 use Rattle.caller_steps.proofs.Fates.{step_moves}
@@ -41,68 +44,49 @@ module _ (calls : Granted) (none : HasNone calls) where
   back_none n true is = front_of_none (save_at (log_of calls).saved n) (log_of calls).writes (save_is_front calls n is).is none
   back_none n false is = none
 
-  log_none : (call : Call) (reply : Reply) → is_write call ≡ false → (log_after (log_of calls) call reply).writes ≡ []
+  log_none : (asked : TableCall) (reply : Reply) → is_write (Table asked) ≡ false → (log_after (log_of calls) asked reply).writes ≡ []
   log_none (Put name key value) reply reads = absurd (true≢false reads)
   log_none (Del name key) reply reads = absurd (true≢false reads)
   log_none (Back n) reply reads = back_none n (has_save (log_of calls).saved n) refl
-  log_none Purge reply reads = absurd (true≢false reads)
   log_none _ reply reads = none
 
-  more_none : (call : Call) (reply : Reply) → is_write call ≡ false → HasNone (calls ++ (call, reply) ∷ [])
-  more_none call reply reads = ap (λ (l : Log). l.writes) (log_of-push calls call reply) ∙ log_none call reply reads
-
   live_none : (call : Call) (reply : Reply) → is_write call ≡ false → HasNone (unwrap_or (live_with calls call reply) [])
-  live_none (Get name key) reply reads = more_none (Get name key) reply reads
-  live_none (Put name key value) reply reads = absurd (true≢false reads)
-  live_none (Del name key) reply reads = absurd (true≢false reads)
-  live_none (Scan name low high) reply reads = more_none (Scan name low high) reply reads
-  live_none Save reply reads = more_none Save reply reads
-  live_none (Back n) reply reads = more_none (Back n) reply reads
-  live_none Offer reply reads = none
-  live_none Purge reply reads = absurd (true≢false reads)
+  live_none (Table asked) reply reads = ap (λ (l : Log). l.writes) (log_of-push calls asked reply) ∙ log_none asked reply reads
+  live_none (Control Offer) reply reads = none
   live_none _ reply reads = refl
 
 module _ (limits : Limits) (old : State) (caller : ℕ) (new : State) (alive : new.is_dead ≡ false) where
   said : (answer reply : Reply) → Says answer old reply new → new.index ≡ old.index
   said answer reply s = ap (λ (s : State). s.index) s.1
 
-  asked : (calls : Granted) (call : Call) (reply : Reply) → ((index : Index) → Indexes limits call reply old.index index → index ≡ old.index) → Asks limits calls old caller call reply new → new.index ≡ old.index
+  asked : (calls : Granted) (call : TableCall) (reply : Reply) → ((index : Index) → Indexes limits call reply old.index index → index ≡ old.index) → Asks limits calls old caller call reply new → new.index ≡ old.index
   asked calls call reply same (inl short) = ap (λ (s : State). s.index) short.1
   asked calls call reply same (inr (inl held)) = ap (λ (s : State). s.index) held.2.1
   asked calls call reply same (inr (inr (free, inl (answers, fits, index, indexes, e)))) = ap (λ (s : State). s.index) e ∙ same index indexes
   asked calls call reply same (inr (inr (free, inr (inl (lacks, index, indexes, e))))) = ap (λ (s : State). s.index) e ∙ same index indexes
   asked calls call reply same (inr (inr (free, inr (inr (uses, (re, index, e)))))) = absurd (true≢false (sym (ap (λ (s : State). s.is_dead) e) ∙ alive))
 
-  tabled : (calls : Granted) (call : Call) (reply : Reply) → ((index : Index) → Indexes limits call reply old.index index → index ≡ old.index) → AsksTable limits calls old caller call reply new → new.index ≡ old.index
+  tabled : (calls : Granted) (call : TableCall) (reply : Reply) → ((index : Index) → Indexes limits call reply old.index index → index ≡ old.index) → AsksTable limits calls old caller call reply new → new.index ≡ old.index
   tabled calls call reply same (inl (none, s)) = ap (λ (s : State). s.index) s.1
   tabled calls call reply same (inr (some, a)) = asked calls call reply same a
 
+  within : (calls : Granted) (call : TableCall) (reply : Reply) → is_write (Table call) ≡ false → AsksWithin limits calls old caller call reply new → new.index ≡ old.index
+  within calls (Put name key value) reply reads a = absurd (true≢false reads)
+  within calls (Del name key) reply reads a = absurd (true≢false reads)
+  within calls Save reply reads (inl (full, s)) = ap (λ (s : State). s.index) s.1
+  within calls Save reply reads (inr (room, a)) = asked calls Save reply (λ index same. same) a
+  within calls (Back n) reply reads (inl (absent, s)) = ap (λ (s : State). s.index) s.1
+  within calls (Back n) reply reads (inr (there, a)) = asked calls (Back n) reply (λ index same. same) a
+  within calls call reply reads a = tabled calls call reply (λ index same. same) a
+
   read_at : (live : Option Granted) (call : Call) (reply : Reply) → HasNone (unwrap_or live []) → is_write call ≡ false → StepAt limits live old caller call reply new → new.index ≡ old.index
-  read_at live (Put name key value) reply none reads s = absurd (true≢false reads)
-  read_at live (Del name key) reply none reads s = absurd (true≢false reads)
-  read_at live Purge reply none reads s = absurd (true≢false reads)
-  read_at None Begin reply none reads s = ap (λ (s : State). s.index) s.1
-  read_at None (Get name key) reply none reads s = ap (λ (s : State). s.index) s.1
-  read_at None (Scan name low high) reply none reads s = ap (λ (s : State). s.index) s.1
-  read_at None Save reply none reads s = ap (λ (s : State). s.index) s.1
-  read_at None (Back n) reply none reads s = ap (λ (s : State). s.index) s.1
-  read_at None Commit reply none reads s = ap (λ (s : State). s.index) s.1
-  read_at None Abort reply none reads s = ap (λ (s : State). s.index) s.1
-  read_at None Offer reply none reads s = ap (λ (s : State). s.index) s.1
-  read_at None Settle reply none reads s = ap (λ (s : State). s.index) s.1
-  read_at (Some calls) Begin reply none reads s = ap (λ (s : State). s.index) s.1
-  read_at (Some calls) (Get name key) reply none reads a = tabled calls (Get name key) reply (λ index same. same) a
-  read_at (Some calls) (Scan name low high) reply none reads a = tabled calls (Scan name low high) reply (λ index same. same) a
-  read_at (Some calls) Save reply none reads (inl (full, s)) = ap (λ (s : State). s.index) s.1
-  read_at (Some calls) Save reply none reads (inr (room, a)) = asked calls Save reply (λ index same. same) a
-  read_at (Some calls) (Back n) reply none reads (inl (absent, s)) = ap (λ (s : State). s.index) s.1
-  read_at (Some calls) (Back n) reply none reads (inr (there, a)) = asked calls (Back n) reply (λ index same. same) a
-  read_at (Some calls) Commit reply none reads (inl short) = ap (λ (s : State). s.index) short.1
-  read_at (Some calls) Commit reply none reads (inr (inl (re, index, settles, e))) = ap (λ (s : State). s.index) e ∙ settles.none none
-  read_at (Some calls) Commit reply none reads (inr (inr (wrote, re, index, e))) = absurd (true≢false (sym (ap (λ (s : State). s.is_dead) e) ∙ alive))
-  read_at (Some calls) Abort reply none reads s = ap (λ (s : State). s.index) s.1
-  read_at (Some calls) Offer reply none reads s = ap (λ (s : State). s.index) s.1
-  read_at (Some calls) Settle reply none reads s = ap (λ (s : State). s.index) s.1
+  read_at live (Control Purge) reply none reads s = absurd (true≢false reads)
+  read_at None _ reply none reads s = ap (λ (s : State). s.index) s.1
+  read_at (Some calls) (Table call) reply none reads a = within calls call reply reads a
+  read_at (Some calls) (Control Commit) reply none reads (inl short) = ap (λ (s : State). s.index) short.1
+  read_at (Some calls) (Control Commit) reply none reads (inr (inl (re, index, settles, e))) = ap (λ (s : State). s.index) e ∙ settles.none none
+  read_at (Some calls) (Control Commit) reply none reads (inr (inr (wrote, re, index, e))) = absurd (true≢false (sym (ap (λ (s : State). s.is_dead) e) ∙ alive))
+  read_at (Some calls) _ reply none reads s = ap (λ (s : State). s.index) s.1
 
   -- a group of transactions that have written nothing has written nothing
   group_none : (callers : List ℕ) → ((other : ℕ) → HasNone (calls_of old other)) → group_writes old callers ≡ []
@@ -111,32 +95,12 @@ module _ (limits : Limits) (old : State) (caller : ℕ) (new : State) (alive : n
 
   read_by : (offer : state.Offer) (call : Call) (reply : Reply) → ((other : ℕ) → HasNone (calls_of old other)) → is_write call ≡ false → StepBy limits offer old caller call reply new → new.index ≡ old.index
   read_by unoffered call reply none reads s = read_at (old.live caller) call reply (none caller) reads s
-  read_by offered Settle reply none reads (inl short) = ap (λ (s : State). s.index) short.1
-  read_by offered Settle reply none reads (inr (inside, inl (re, index, settles, e))) = ap (λ (s : State). s.index) e ∙ settles.none (group_none (offerers limits.callers old) none)
-  read_by offered Settle reply none reads (inr (inside, inr (wrote, re, index, e))) = absurd (true≢false (sym (ap (λ (s : State). s.is_dead) e) ∙ alive))
-  read_by offered Begin reply none reads s = ap (λ (s : State). s.index) s.1
-  read_by offered (Get name key) reply none reads s = ap (λ (s : State). s.index) s.1
-  read_by offered (Put name key value) reply none reads s = ap (λ (s : State). s.index) s.1
-  read_by offered (Del name key) reply none reads s = ap (λ (s : State). s.index) s.1
-  read_by offered (Scan name low high) reply none reads s = ap (λ (s : State). s.index) s.1
-  read_by offered Save reply none reads s = ap (λ (s : State). s.index) s.1
-  read_by offered (Back n) reply none reads s = ap (λ (s : State). s.index) s.1
-  read_by offered Commit reply none reads s = ap (λ (s : State). s.index) s.1
-  read_by offered Abort reply none reads s = ap (λ (s : State). s.index) s.1
-  read_by offered Offer reply none reads s = ap (λ (s : State). s.index) s.1
-  read_by offered Purge reply none reads s = ap (λ (s : State). s.index) s.1
-  read_by (unsettled n) Begin reply none reads s = ap (λ (s : State). s.index) s.1
-  read_by (unsettled n) (Get name key) reply none reads s = ap (λ (s : State). s.index) s.1
-  read_by (unsettled n) (Put name key value) reply none reads s = ap (λ (s : State). s.index) s.1
-  read_by (unsettled n) (Del name key) reply none reads s = ap (λ (s : State). s.index) s.1
-  read_by (unsettled n) (Scan name low high) reply none reads s = ap (λ (s : State). s.index) s.1
-  read_by (unsettled n) Save reply none reads s = ap (λ (s : State). s.index) s.1
-  read_by (unsettled n) (Back m) reply none reads s = ap (λ (s : State). s.index) s.1
-  read_by (unsettled n) Commit reply none reads s = ap (λ (s : State). s.index) s.1
-  read_by (unsettled n) Abort reply none reads s = ap (λ (s : State). s.index) s.1
-  read_by (unsettled n) Offer reply none reads s = ap (λ (s : State). s.index) s.1
-  read_by (unsettled n) Settle reply none reads s = ap (λ (s : State). s.index) s.1
-  read_by (unsettled n) Purge reply none reads s = ap (λ (s : State). s.index) s.1
+  read_by offered (Control Settle) reply none reads (inl short) = ap (λ (s : State). s.index) short.1
+  read_by offered (Control Settle) reply none reads (inr (inside, inl (re, index, settles, e))) = ap (λ (s : State). s.index) e ∙ settles.none (group_none (offerers limits.callers old) none)
+  read_by offered (Control Settle) reply none reads (inr (inside, inr (wrote, re, index, e))) = absurd (true≢false (sym (ap (λ (s : State). s.is_dead) e) ∙ alive))
+  read_by offered _ reply none reads s = ap (λ (s : State). s.index) s.1
+  read_by (unsettled n) (Control Settle) reply none reads s = ap (λ (s : State). s.index) s.1
+  read_by (unsettled n) _ reply none reads s = ap (λ (s : State). s.index) s.1
 
   read_if : (dead : Bool) (call : Call) (reply : Reply) → ((other : ℕ) → HasNone (calls_of old other)) → is_write call ≡ false → StepIf limits dead old caller call reply new → new.index ≡ old.index
   read_if true call reply none reads s = ap (λ (s : State). s.index) s.1

@@ -1,5 +1,5 @@
 -- Why the refusals within a run stand, and which keys its index gains and loses.
-use Rattle.std.proofs.Common.{◌≡◌, ◌⊎◌, ◌||◌, ℕ, suc, ◌-◌, ◌≤◌, inl, inr, ⊎_elim, List, [], ◌∷◌, ◌++◌, Bool, true, false, Option, Some, None, refl, sym, ap, ◌∙◌, subst, arith}
+use Rattle.std.proofs.Common.{◌≡◌, ◌≢◌, ◌⊎◌, ◌||◌, ℕ, suc, ◌-◌, ◌≤◌, inl, inr, ⊎_elim, List, [], ◌∷◌, ◌++◌, Bool, true, false, Option, Some, None, refl, sym, ap, ◌∙◌, subst, arith}
 use Rattle.std.specs.Prelude.{IsTrue, IsFalse, IsSome, unwrap_or, if◌then◌else◌}
 use Rattle.std.specs.List.{list_any}
 use Rattle.std.specs.FinMap.{get}
@@ -12,7 +12,10 @@ use Rattle.history.specs.Writes.{Write}
 use Rattle.history.specs.Table.{Granted, Work, Answers, found, removed}
 use Rattle.history.specs.Locks.{touches, touched, clash}
 use Rattle.history.specs.declared.call.Call.{Call}
-use Rattle.history.specs.declared.call.Call.TheVariants.{Begin, Get, Put, Del, Scan, Save, Back, Commit, Abort, Offer, Settle, Purge}
+use Rattle.history.specs.declared.call.Call.TheVariants.{Begin, Table, Control}
+use Rattle.history.specs.declared.call.TableCall.{TableCall}
+use Rattle.history.specs.declared.call.TableCall.TheVariants.{Get, Put, Del, Scan, Save, Back}
+use Rattle.history.specs.declared.call.Control.TheVariants.{Commit, Abort, Offer, Settle, Purge}
 use Rattle.history.specs.declared.call.Reply.{Reply}
 use Rattle.history.specs.declared.call.Reply.TheVariants.{Fine, NoTransaction, NoTable, Already, NoSave, SavesFull, Busy, LogFull, SlotsFull, PagesFull, Media, Dead, NoMemory}
 use Rattle.caller_steps.specs.State as state
@@ -22,12 +25,12 @@ use Rattle.caller_steps.specs.Locked.{Blocks}
 use Rattle.caller_steps.specs.Purging.{Lost}
 use Rattle.caller_steps.specs.Room.{Limits, LacksAt, Lacks, GainsWithin, TakesWithin, Inserts, IndexesAt, Indexes, Settles}
 use Rattle.index_keys.specs.Keys.{KeepsKeys}
-use Rattle.caller_steps.specs.Step.{Says, Asks, AsksTable, StepAt, StepBy, StepIf, Step, Runs}
+use Rattle.caller_steps.specs.Step.{Says, Asks, AsksTable, AsksWithin, StepAt, StepBy, StepIf, Step, Runs}
 use Rattle.caller_steps.specs.Fate.{is_media}
 use Rattle.caller_steps.specs.Run.{Turn, Goes, GoesAlong, turns_of, has_fault, is_purge, has_purge, IsTurn}
 use Rattle.history.proofs.Modes.{clash_turned}
 use Rattle.caller_steps.specs.Own.{Own, nothing_own, own_of, live_by, live_in}
-use Rattle.caller_steps.specs.Shown.{is_put, AreAsked, Change, gain, loss, gained_in, lost_in, Changed, LacksPages, Shows}
+use Rattle.caller_steps.specs.Shown.{is_put, AreAsked, Change, gain, loss, gained_in, lost_in, Changed, LacksPages, Clashes, Shows}
 use Rattle.caller_steps.proofs.Running.{turns_cut, turns_names, turns_dead, turns_keep, turns_of_runs}
 use Rattle.caller_steps.proofs.Owning.{turns_live, fresh_live}
 use Rattle.caller_steps.proofs.Fates.{step_moves}
@@ -67,7 +70,7 @@ same_index limits call old new e = record {
   falls = λ _. ([], e);
 }
 
-lost_index : (limits : Limits) (keys : List Key) (old new : Index) → Lost old keys new → IndexMoves limits Purge old new
+lost_index : (limits : Limits) (keys : List Key) (old new : Index) → Lost old keys new → IndexMoves limits (Control Purge) old new
 lost_index limits keys old new lost = record { rises = λ plain. absurd (true≢false plain); falls = λ _. (keys, lost) }
 
 inserts : (limits : Limits) (key : Key) (reply : Reply) (old new : Index) → Inserts limits key reply old new
@@ -77,47 +80,27 @@ inserts limits key (LogFull g h n) old new i = (i.0, i.1)
 inserts limits key (PagesFull n) old new i = (i.0, inl i.1)
 inserts limits key _ old new i = (i.0, inl i.1)
 
-index_at : (limits : Limits) (name : List ℕ) (key : ℕ) (value : List ℕ) (slot : Option ℕ) (reply : Reply) (old new : Index) → old.slot_of (of_table name key) ≡ slot → IndexesAt limits (of_table name key) slot reply old new → IndexMoves limits (Put name key value) old new
-index_at limits name key value (Some slot) reply old new is e = same_index limits (Put name key value) old new e
+index_at : (limits : Limits) (name : List ℕ) (key : ℕ) (value : List ℕ) (slot : Option ℕ) (reply : Reply) (old new : Index) → old.slot_of (of_table name key) ≡ slot → IndexesAt limits (of_table name key) slot reply old new → IndexMoves limits (Table (Put name key value)) old new
+index_at limits name key value (Some slot) reply old new is e = same_index limits (Table (Put name key value)) old new e
 index_at limits name key value None reply old new is i =
     let both = inserts limits (of_table name key) reply old new i in
-    rising limits (Put name key value) old new refl (record {
+    rising limits (Table (Put name key value)) old new refl (record {
       pages = both.0.takes.used;
       levels = both.0.takes.levels;
       keys = ⊎_elim (λ keeps. inl keeps) (λ gains. inr (of_table name key, same_key (of_table name key) (of_table name key) refl, is, gains)) both.1;
     })
 
-index_moves : (limits : Limits) (call : Call) (reply : Reply) (old new : Index) → Indexes limits call reply old new → IndexMoves limits call old new
+index_moves : (limits : Limits) (asked : TableCall) (reply : Reply) (old new : Index) → Indexes limits asked reply old new → IndexMoves limits (Table asked) old new
 index_moves limits (Put name key value) reply old new i = index_at limits name key value (old.slot_of (of_table name key)) reply old new refl i
-index_moves limits Begin reply old new i = same_index limits Begin old new i
-index_moves limits (Get name key) reply old new i = same_index limits (Get name key) old new i
-index_moves limits (Del name key) reply old new i = same_index limits (Del name key) old new i
-index_moves limits (Scan name low high) reply old new i = same_index limits (Scan name low high) old new i
-index_moves limits Save reply old new i = same_index limits Save old new i
-index_moves limits (Back n) reply old new i = same_index limits (Back n) old new i
-index_moves limits Commit reply old new i = same_index limits Commit old new i
-index_moves limits Abort reply old new i = same_index limits Abort old new i
-index_moves limits Offer reply old new i = same_index limits Offer old new i
-index_moves limits Settle reply old new i = same_index limits Settle old new i
-index_moves limits Purge reply old new i = same_index limits Purge old new i
+index_moves limits asked reply old new i = same_index limits (Table asked) old new i
 
 -- if all slots are given out, no key is gained
 slots_stay : (limits : Limits) (call : Call) (old new : Index) → Rises limits call old new → old.used_slots ≡ limits.slots → new.used_slots ≡ limits.slots
 slots_stay limits call old new moves full = ⊎_elim (λ keeps. keeps.slots ∙ full) (λ gains. let l = gains.3.left in absurd (omega arith)) moves.keys
 
 pages_stay : (limits : Limits) (made call : Call) (n : ℕ) (old new : Index) → Rises limits call old new → LacksPages made n old → LacksPages made n new
-pages_stay limits (Put name key value) call n old new moves lacks = ⊎_elim (λ few. inl (let p = moves.pages in omega arith)) (λ high. inr (let l = moves.levels name in omega arith)) lacks
-pages_stay limits Begin call n old new moves lacks = tt
-pages_stay limits (Get name key) call n old new moves lacks = tt
-pages_stay limits (Del name key) call n old new moves lacks = tt
-pages_stay limits (Scan name low high) call n old new moves lacks = tt
-pages_stay limits Save call n old new moves lacks = tt
-pages_stay limits (Back m) call n old new moves lacks = tt
-pages_stay limits Commit call n old new moves lacks = tt
-pages_stay limits Abort call n old new moves lacks = tt
-pages_stay limits Offer call n old new moves lacks = tt
-pages_stay limits Settle call n old new moves lacks = tt
-pages_stay limits Purge call n old new moves lacks = tt
+pages_stay limits (Table (Put name key value)) call n old new moves lacks = ⊎_elim (λ few. inl (let p = moves.pages in omega arith)) (λ high. inr (let l = moves.levels name in omega arith)) lacks
+pages_stay limits _ call n old new moves lacks = tt
 
 changed_same : (first : Index) (changes : List Change) (old new : Index) → KeepsKeys (keys_of old) (keys_of new)
     → Changed first changes old → Changed first changes new
@@ -139,9 +122,14 @@ changed_lost first changes [] old new g lost = subst (Changed first changes) (sy
 changed_lost first changes (key ∷ keys) old new g (before, lost, loses) =
     (before, changed_lost first changes keys old before g lost, subst (λ (o : Option ℕ). IsSome o) (sym loses.due) refl, loses.slot_of, loses.slots)
 
+-- another caller's transaction stands in the way of the call
+abbrev pub IsBlocked : State → ℕ → Call → ℕ → Type 0
+IsBlocked old caller (Table asked) holder = Blocks old caller asked holder
+IsBlocked old caller call holder = ⊥
+
 -- what a reply says of the state before a step and of the index after it
 abbrev pub Told : Limits → State → ℕ → State → Call → Reply → Type 0
-Told limits old caller new call (Busy holder) = Blocks old caller call holder
+Told limits old caller new call (Busy holder) = IsBlocked old caller call holder
 Told limits old caller new call (SlotsFull n) = (n ≡ limits.slots) × (new.index.used_slots ≡ limits.slots)
 Told limits old caller new call (PagesFull n) = (n ≡ limits.index_pages - 1) × LacksPages call n new.index
 Told limits old caller new call Dead = IsTrue old.is_dead
@@ -172,17 +160,16 @@ module _ (limits : Limits) (old : State) (caller : ℕ) (new : State) where
   plain_removed call None reply e = subst (λ r. Told limits old caller new call r) (sym e) tt
   plain_removed call (Some v) reply e = subst (λ r. Told limits old caller new call r) (sym e) tt
 
-  plain : (work : Work) (call : Call) (reply : Reply) → Answers work call reply → T call reply
+  plain : (work : Work) (asked : TableCall) (reply : Reply) → Answers work asked reply → T (Table asked) reply
   unfolding T
-  plain work (Get name key) reply answers = plain_found (Get name key) (get work.table (of_table name key)) reply answers
-  plain work (Put name key value) reply answers = subst (λ r. Told limits old caller new (Put name key value) r) (sym answers) tt
-  plain work (Del name key) reply answers = plain_removed (Del name key) (get work.table (of_table name key)) reply answers
-  plain work (Scan name low high) reply answers = subst (λ r. Told limits old caller new (Scan name low high) r) (sym answers) tt
-  plain work Save reply answers = subst (λ r. Told limits old caller new Save r) (sym answers) tt
-  plain work (Back n) reply answers = subst (λ r. Told limits old caller new (Back n) r) (sym answers.1) tt
-  plain work _ reply answers = absurd answers
+  plain work (Get name key) reply answers = plain_found (Table (Get name key)) (get work.table (of_table name key)) reply answers
+  plain work (Put name key value) reply answers = subst (λ r. Told limits old caller new (Table (Put name key value)) r) (sym answers) tt
+  plain work (Del name key) reply answers = plain_removed (Table (Del name key)) (get work.table (of_table name key)) reply answers
+  plain work (Scan name low high) reply answers = subst (λ r. Told limits old caller new (Table (Scan name low high)) r) (sym answers) tt
+  plain work Save reply answers = subst (λ r. Told limits old caller new (Table Save) r) (sym answers) tt
+  plain work (Back n) reply answers = subst (λ r. Told limits old caller new (Table (Back n)) r) (sym answers.1) tt
 
-  put_lacks : (name : List ℕ) (key : ℕ) (value : List ℕ) (slot : Option ℕ) (reply : Reply) → LacksAt limits old caller (of_table name key) slot reply → IndexesAt limits (of_table name key) slot reply old.index new.index → T (Put name key value) reply
+  put_lacks : (name : List ℕ) (key : ℕ) (value : List ℕ) (slot : Option ℕ) (reply : Reply) → LacksAt limits old caller (of_table name key) slot reply → IndexesAt limits (of_table name key) slot reply old.index new.index → T (Table (Put name key value)) reply
   unfolding T
   put_lacks name key value (Some slot) (LogFull g h n) lacks index = tt
   put_lacks name key value None (SlotsFull n) lacks index = (lacks.1, index.1.slots ∙ lacks.0)
@@ -190,12 +177,12 @@ module _ (limits : Limits) (old : State) (caller : ℕ) (new : State) where
   put_lacks name key value None (LogFull g h n) lacks index = tt
   put_lacks name key value _ _ lacks index = absurd lacks
 
-  del_lacks : (name : List ℕ) (key : ℕ) (slot : ℕ) (reply : Reply) → LacksAt limits old caller (of_table name key) (Some slot) reply → T (Del name key) reply
+  del_lacks : (name : List ℕ) (key : ℕ) (slot : ℕ) (reply : Reply) → LacksAt limits old caller (of_table name key) (Some slot) reply → T (Table (Del name key)) reply
   unfolding T
   del_lacks name key slot (LogFull g h n) lacks = tt
   del_lacks name key slot _ lacks = absurd lacks
 
-  lacks_told : (call : Call) (reply : Reply) → Lacks limits old caller call reply → Indexes limits call reply old.index new.index → T call reply
+  lacks_told : (asked : TableCall) (reply : Reply) → Lacks limits old caller asked reply → Indexes limits asked reply old.index new.index → T (Table asked) reply
   lacks_told (Put name key value) reply lacks indexes = put_lacks name key value (old.index.slot_of (of_table name key)) reply lacks indexes
   lacks_told (Del name key) reply lacks indexes = del_lacks name key lacks.1 reply lacks.3
   lacks_told _ reply lacks indexes = absurd lacks
@@ -204,92 +191,68 @@ module _ (limits : Limits) (old : State) (caller : ℕ) (new : State) where
   unfolding T
   fails call reply re dead = record { told = subst (λ r. Told limits old caller new call r) (sym re) tt; index = λ alive. absurd (true≢false (sym dead ∙ alive)) }
 
-  asks : (calls : Granted) (call : Call) (reply : Reply) → Asks limits calls old caller call reply new → Left limits old caller new call reply
+  asks : (calls : Granted) (asked : TableCall) (reply : Reply) → Asks limits calls old caller asked reply new → Left limits old caller new (Table asked) reply
   unfolding T
-  asks calls call reply (inl short) = says call reply NoMemory tt short
-  asks calls call reply (inr (inl held)) = says call reply (Busy held.0) held.1.0 held.2
-  asks calls call reply (inr (inr (free, inl (answers, fits, index, indexes, e)))) =
-      record { told = plain (view_of old caller) call reply answers; index = λ alive. index_moves limits call reply old.index new.index (subst (λ i. Indexes limits call reply old.index i) (sym (ap (λ (s : State). s.index) e)) indexes) }
-  asks calls call reply (inr (inr (free, inr (inl (lacks, index, indexes, e))))) =
-      let now = subst (λ i. Indexes limits call reply old.index i) (sym (ap (λ (s : State). s.index) e)) indexes in
-      record { told = lacks_told call reply lacks now; index = λ alive. index_moves limits call reply old.index new.index now }
-  asks calls call reply (inr (inr (free, inr (inr (uses, (re, index, e)))))) = fails call reply re (ap (λ (s : State). s.is_dead) e)
+  asks calls asked reply (inl short) = says (Table asked) reply NoMemory tt short
+  asks calls asked reply (inr (inl held)) = says (Table asked) reply (Busy held.0) held.1.0 held.2
+  asks calls asked reply (inr (inr (free, inl (answers, fits, index, indexes, e)))) =
+      record { told = plain (view_of old caller) asked reply answers; index = λ alive. index_moves limits asked reply old.index new.index (subst (λ i. Indexes limits asked reply old.index i) (sym (ap (λ (s : State). s.index) e)) indexes) }
+  asks calls asked reply (inr (inr (free, inr (inl (lacks, index, indexes, e))))) =
+      let now = subst (λ i. Indexes limits asked reply old.index i) (sym (ap (λ (s : State). s.index) e)) indexes in
+      record { told = lacks_told asked reply lacks now; index = λ alive. index_moves limits asked reply old.index new.index now }
+  asks calls asked reply (inr (inr (free, inr (inr (uses, (re, index, e)))))) = fails (Table asked) reply re (ap (λ (s : State). s.is_dead) e)
 
-  tabled : (calls : Granted) (call : Call) (reply : Reply) → AsksTable limits calls old caller call reply new → Left limits old caller new call reply
+  tabled : (calls : Granted) (asked : TableCall) (reply : Reply) → AsksTable limits calls old caller asked reply new → Left limits old caller new (Table asked) reply
   unfolding T
-  tabled calls call reply (inl (none, s)) = says call reply NoTable tt s
-  tabled calls call reply (inr (some, a)) = asks calls call reply a
+  tabled calls asked reply (inl (none, s)) = says (Table asked) reply NoTable tt s
+  tabled calls asked reply (inr (some, a)) = asks calls asked reply a
+
+  within : (calls : Granted) (asked : TableCall) (reply : Reply) → AsksWithin limits calls old caller asked reply new → Left limits old caller new (Table asked) reply
+  unfolding T
+  within calls Save reply (inl (full, s)) = says (Table Save) reply SavesFull tt s
+  within calls Save reply (inr (room, a)) = asks calls Save reply a
+  within calls (Back n) reply (inl (none, s)) = says (Table (Back n)) reply (NoSave n) tt s
+  within calls (Back n) reply (inr (some, a)) = asks calls (Back n) reply a
+  within calls asked reply a = tabled calls asked reply a
 
   left_at : (live : Option Granted) (call : Call) (reply : Reply) → StepAt limits live old caller call reply new → Left limits old caller new call reply
   unfolding T
   left_at None Begin reply (re, e) = same Begin reply (subst (λ r. Told limits old caller new Begin r) (sym re) tt) (ap (λ (s : State). s.index) e)
-  left_at None (Get name key) reply s = says (Get name key) reply NoTransaction tt s
-  left_at None (Put name key value) reply s = says (Put name key value) reply NoTransaction tt s
-  left_at None (Del name key) reply s = says (Del name key) reply NoTransaction tt s
-  left_at None (Scan name low high) reply s = says (Scan name low high) reply NoTransaction tt s
-  left_at None Save reply s = says Save reply NoTransaction tt s
-  left_at None (Back n) reply s = says (Back n) reply NoTransaction tt s
-  left_at None Commit reply s = says Commit reply NoTransaction tt s
-  left_at None Abort reply s = says Abort reply NoTransaction tt s
-  left_at None Offer reply s = says Offer reply NoTransaction tt s
-  left_at None Settle reply s = says Settle reply NoTransaction tt s
-  left_at None Purge reply (inl (n, re, purges)) = record {
-    told = subst (λ r. Told limits old caller new Purge r) (sym re) tt;
+  left_at None (Control Purge) reply (inl (n, re, purges)) = record {
+    told = subst (λ r. Told limits old caller new (Control Purge) r) (sym re) tt;
     index = λ alive. let loses = purge_loses limits old n new purges in lost_index limits loses.0 old.index new.index loses.3;
   }
-  left_at None Purge reply (inr (re, index, e)) = fails Purge reply re (ap (λ (s : State). s.is_dead) e)
+  left_at None (Control Purge) reply (inr (re, index, e)) = fails (Control Purge) reply re (ap (λ (s : State). s.is_dead) e)
+  left_at None call reply s = says call reply NoTransaction tt s
   left_at (Some calls) Begin reply s = says Begin reply Already tt s
-  left_at (Some calls) (Get name key) reply a = tabled calls (Get name key) reply a
-  left_at (Some calls) (Put name key value) reply a = tabled calls (Put name key value) reply a
-  left_at (Some calls) (Del name key) reply a = tabled calls (Del name key) reply a
-  left_at (Some calls) (Scan name low high) reply a = tabled calls (Scan name low high) reply a
-  left_at (Some calls) Save reply (inl (full, s)) = says Save reply SavesFull tt s
-  left_at (Some calls) Save reply (inr (room, a)) = asks calls Save reply a
-  left_at (Some calls) (Back n) reply (inl (none, s)) = says (Back n) reply (NoSave n) tt s
-  left_at (Some calls) (Back n) reply (inr (some, a)) = asks calls (Back n) reply a
-  left_at (Some calls) Commit reply (inl short) = says Commit reply NoMemory tt short
-  left_at (Some calls) Commit reply (inr (inl (re, index, settles, e))) = record {
-    told = subst (λ r. Told limits old caller new Commit r) (sym re) tt;
-    index = λ alive. subst (λ (i : Index). IndexMoves limits Commit old.index i) (sym (ap (λ (s : State). s.index) e)) (settled_index limits Commit _ old.index index refl settles);
+  left_at (Some calls) (Table asked) reply a = within calls asked reply a
+  left_at (Some calls) (Control Commit) reply (inl short) = says (Control Commit) reply NoMemory tt short
+  left_at (Some calls) (Control Commit) reply (inr (inl (re, index, settles, e))) = record {
+    told = subst (λ r. Told limits old caller new (Control Commit) r) (sym re) tt;
+    index = λ alive. subst (λ (i : Index). IndexMoves limits (Control Commit) old.index i) (sym (ap (λ (s : State). s.index) e)) (settled_index limits (Control Commit) _ old.index index refl settles);
   }
-  left_at (Some calls) Commit reply (inr (inr (wrote, re, index, e))) = fails Commit reply re (ap (λ (s : State). s.is_dead) e)
-  left_at (Some calls) Abort reply (re, e) = same Abort reply (subst (λ r. Told limits old caller new Abort r) (sym re) tt) (ap (λ (s : State). s.index) e)
-  left_at (Some calls) Offer reply (re, e) = same Offer reply (subst (λ r. Told limits old caller new Offer r) (sym re) tt) (ap (λ (s : State). s.index) e)
-  left_at (Some calls) Settle reply s = says Settle reply NoTransaction tt s
-  left_at (Some calls) Purge reply s = says Purge reply Already tt s
+  left_at (Some calls) (Control Commit) reply (inr (inr (wrote, re, index, e))) = fails (Control Commit) reply re (ap (λ (s : State). s.is_dead) e)
+  left_at (Some calls) (Control Abort) reply (re, e) = same (Control Abort) reply (subst (λ r. Told limits old caller new (Control Abort) r) (sym re) tt) (ap (λ (s : State). s.index) e)
+  left_at (Some calls) (Control Offer) reply (re, e) = same (Control Offer) reply (subst (λ r. Told limits old caller new (Control Offer) r) (sym re) tt) (ap (λ (s : State). s.index) e)
+  left_at (Some calls) (Control Settle) reply s = says (Control Settle) reply NoTransaction tt s
+  left_at (Some calls) (Control Purge) reply s = says (Control Purge) reply Already tt s
 
   left_by : (offer : state.Offer) (call : Call) (reply : Reply) → StepBy limits offer old caller call reply new → Left limits old caller new call reply
   unfolding T
   left_by unoffered call reply s = left_at (old.live caller) call reply s
-  left_by offered Settle reply (inl short) = says Settle reply NoMemory tt short
-  left_by offered Settle reply (inr (inside, inl (re, index, settles, e))) = record {
-    told = subst (λ r. Told limits old caller new Settle r) (sym re) tt;
-    index = λ alive. subst (λ (i : Index). IndexMoves limits Settle old.index i) (sym (ap (λ (s : State). s.index) e)) (settled_index limits Settle (group_writes old (offerers limits.callers old)) old.index index refl settles);
-  }
-  left_by offered Settle reply (inr (inside, inr (wrote, re, index, e))) = fails Settle reply re (ap (λ (s : State). s.is_dead) e)
   left_by offered Begin reply s = says Begin reply Already tt s
-  left_by offered (Get name key) reply s = says (Get name key) reply NoTransaction tt s
-  left_by offered (Put name key value) reply s = says (Put name key value) reply NoTransaction tt s
-  left_by offered (Del name key) reply s = says (Del name key) reply NoTransaction tt s
-  left_by offered (Scan name low high) reply s = says (Scan name low high) reply NoTransaction tt s
-  left_by offered Save reply s = says Save reply NoTransaction tt s
-  left_by offered (Back n) reply s = says (Back n) reply NoTransaction tt s
-  left_by offered Commit reply s = says Commit reply NoTransaction tt s
-  left_by offered Abort reply s = says Abort reply NoTransaction tt s
-  left_by offered Offer reply s = says Offer reply NoTransaction tt s
-  left_by offered Purge reply s = says Purge reply Already tt s
+  left_by offered (Control Purge) reply s = says (Control Purge) reply Already tt s
+  left_by offered (Control Settle) reply (inl short) = says (Control Settle) reply NoMemory tt short
+  left_by offered (Control Settle) reply (inr (inside, inl (re, index, settles, e))) = record {
+    told = subst (λ r. Told limits old caller new (Control Settle) r) (sym re) tt;
+    index = λ alive. subst (λ (i : Index). IndexMoves limits (Control Settle) old.index i) (sym (ap (λ (s : State). s.index) e)) (settled_index limits (Control Settle) (group_writes old (offerers limits.callers old)) old.index index refl settles);
+  }
+  left_by offered (Control Settle) reply (inr (inside, inr (wrote, re, index, e))) = fails (Control Settle) reply re (ap (λ (s : State). s.is_dead) e)
+  left_by offered call reply s = says call reply NoTransaction tt s
   left_by (unsettled n) Begin reply s = says Begin reply Already tt s
-  left_by (unsettled n) (Get name key) reply s = says (Get name key) reply NoTransaction tt s
-  left_by (unsettled n) (Put name key value) reply s = says (Put name key value) reply NoTransaction tt s
-  left_by (unsettled n) (Del name key) reply s = says (Del name key) reply NoTransaction tt s
-  left_by (unsettled n) (Scan name low high) reply s = says (Scan name low high) reply NoTransaction tt s
-  left_by (unsettled n) Save reply s = says Save reply NoTransaction tt s
-  left_by (unsettled n) (Back m) reply s = says (Back m) reply NoTransaction tt s
-  left_by (unsettled n) Commit reply s = says Commit reply NoTransaction tt s
-  left_by (unsettled n) Abort reply s = says Abort reply NoTransaction tt s
-  left_by (unsettled n) Offer reply s = says Offer reply NoTransaction tt s
-  left_by (unsettled n) Purge reply s = says Purge reply Already tt s
-  left_by (unsettled n) Settle reply (re, e) = same Settle reply (subst (λ r. Told limits old caller new Settle r) (sym re) tt) (ap (λ (s : State). s.index) e)
+  left_by (unsettled n) (Control Purge) reply s = says (Control Purge) reply Already tt s
+  left_by (unsettled n) (Control Settle) reply (re, e) = same (Control Settle) reply (subst (λ r. Told limits old caller new (Control Settle) r) (sym re) tt) (ap (λ (s : State). s.index) e)
+  left_by (unsettled n) call reply s = says call reply NoTransaction tt s
 
   left_if : (dead : Bool) (call : Call) (reply : Reply) → old.is_dead ≡ dead → StepIf limits dead old caller call reply new → Left limits old caller new call reply
   unfolding T
@@ -300,7 +263,7 @@ module _ (limits : Limits) (old : State) (caller : ℕ) (new : State) where
   step_left call reply step = left_if old.is_dead call reply refl step.acts
 
 -- a call that clashes with what is live of a caller clashes with what its own turns say is live
-held_by : (names : List (List ℕ)) (call : Call) (stripe : ℕ) (own : Own) (offer : state.Offer) → clash (touches names call stripe) (touched names (unwrap_or (live_in own offer) []) stripe) ≡ true
+held_by : (names : List (List ℕ)) (call : TableCall) (stripe : ℕ) (own : Own) (offer : state.Offer) → clash (touches names call stripe) (touched names (unwrap_or (live_in own offer) []) stripe) ≡ true
     → clash (touches names call stripe) (touched names (unwrap_or own.live []) stripe) ≡ true
 held_by names call stripe own offer meets = elim (live_or_none own offer) [
   | inl same ↦ ap (λ (o : Option Granted). clash (touches names call stripe) (touched names (unwrap_or o []) stripe)) (sym same) ∙ meets
@@ -415,16 +378,21 @@ module _ (limits : Limits) where
       new_alive : now.is_dead ≡ false → at.new.is_dead ≡ false
       new_alive alive = alive_first at.new now after at.since alive
 
-      shows_at : (told : Reply) → reply ≡ told → Told limits at.old caller at.new call told → Shows limits before after now caller call told
-      shows_at (Busy h) is t = (
-        t.0,
-        (
-          t.1.0,
-          ap (λ (names : List (List ℕ)). clash (touches names call t.1.0) (touched names (unwrap_or (live_by h (turns_of h before)) []) t.1.0)) names_there
-              ∙ held_by at.old.names call t.1.0 (own_of h (turns_of h before)) (at.old.offers h) (ap (λ (o : Option Granted). clash (touches at.old.names call t.1.0) (touched at.old.names (unwrap_or o []) t.1.0))
-              (sym (turns_live true limits h first at.old before nothing_own at.until (inl refl) (fresh_live h first (none h).0 (none h).1)).live) ∙ t.1.1),
-        ),
+      blocker : (what : Call) (h : ℕ) → IsBlocked at.old caller what h → h ≢ caller
+      blocker (Table asked) h blocks = blocks.0
+      blocker _ h blocks = absurd blocks
+
+      clashing : (what : Call) (h : ℕ) → IsBlocked at.old caller what h → Clashes now.names what (unwrap_or (live_by h (turns_of h before)) [])
+      clashing (Table asked) h blocks = (
+        blocks.1.0,
+        ap (λ (names : List (List ℕ)). clash (touches names asked blocks.1.0) (touched names (unwrap_or (live_by h (turns_of h before)) []) blocks.1.0)) names_there
+            ∙ held_by at.old.names asked blocks.1.0 (own_of h (turns_of h before)) (at.old.offers h) (ap (λ (o : Option Granted). clash (touches at.old.names asked blocks.1.0) (touched at.old.names (unwrap_or o []) blocks.1.0))
+            (sym (turns_live true limits h first at.old before nothing_own at.until (inl refl) (fresh_live h first (none h).0 (none h).1)).live) ∙ blocks.1.1),
       )
+      clashing _ h blocks = absurd blocks
+
+      shows_at : (told : Reply) → reply ≡ told → Told limits at.old caller at.new call told → Shows limits before after now caller call told
+      shows_at (Busy h) is t = (blocker call h t, clashing call h t)
       shows_at (SlotsFull n) is t = (t.0, λ alive plain. slots_on at.new now after at.since alive plain t.1)
       shows_at (PagesFull n) is t = (t.0, λ alive plain. pages_on call n at.new now after at.since alive plain t.1)
       shows_at Media is t = dead_after (faults is)

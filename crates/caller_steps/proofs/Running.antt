@@ -4,7 +4,6 @@ use Rattle.std.specs.Prelude.{nat_eq, IsTrue, filter, cond}
 use Rattle.std.proofs.lemmas.Bool.{true≢false, eqb-false}
 use Rattle.std.proofs.lemmas.List.{append-nil, map-append}
 use Rattle.std.proofs.lemmas.List.Elements.{filter-append}
-use Rattle.history.specs.Table.{Granted}
 use Rattle.history.specs.declared.call.Call.{Call}
 use Rattle.history.specs.declared.call.Reply.{Reply}
 use Rattle.history.specs.declared.call.Reply.TheVariants.{Dead}
@@ -15,7 +14,7 @@ use Rattle.caller_steps.specs.Room.{Limits}
 use Rattle.caller_steps.specs.Step.{Step, StepIf, Runs}
 use Rattle.caller_steps.specs.Fate.{is_media, Stays, EndsWith}
 use Rattle.caller_steps.specs.Prefix.{Grows}
-use Rattle.caller_steps.specs.Run.{Turn, Goes, GoesAlong, AreOf, turns_of, has_fault, HasNoOthers, LastTurn}
+use Rattle.caller_steps.specs.Run.{Turn, Heard, Goes, GoesAlong, AreOf, turns_of, has_fault, HasNoOthers, LastTurn}
 use Rattle.caller_steps.proofs.Fates.{step_moves}
 use Rattle.caller_steps.proofs.Continuing.{grows_none, grows_on, after_grows}
 
@@ -36,10 +35,10 @@ line_apart caller turn turns apart =
     ap (λ b. map (λ (turn : Turn). (turn.1, turn.2)) (cond b (turn ∷ filter (λ (turn : Turn). nat_eq turn.0 caller) turns) (filter (λ (turn : Turn). nat_eq turn.0 caller) turns))) (ne_eqb turn.0 caller apart)
 
 pub last_here : (caller : ℕ) (call : Call) (reply : Reply) (turns : List Turn) → turns_of caller (turns ++ (caller, call, reply) ∷ []) ≡ turns_of caller turns ++ (call, reply) ∷ []
-last_here caller call reply turns = lines_append caller turns ((caller, call, reply) ∷ []) ∙ ap (λ (l : Granted). turns_of caller turns ++ l) (line_here caller call reply [])
+last_here caller call reply turns = lines_append caller turns ((caller, call, reply) ∷ []) ∙ ap (λ (l : Heard). turns_of caller turns ++ l) (line_here caller call reply [])
 
 pub last_apart : (caller : ℕ) (turn : Turn) (turns : List Turn) → turn.0 ≢ caller → turns_of caller (turns ++ turn ∷ []) ≡ turns_of caller turns
-last_apart caller turn turns apart = lines_append caller turns (turn ∷ []) ∙ ap (λ (l : Granted). turns_of caller turns ++ l) (line_apart caller turn [] apart) ∙ append-nil (turns_of caller turns)
+last_apart caller turn turns apart = lines_append caller turns (turn ∷ []) ∙ ap (λ (l : Heard). turns_of caller turns ++ l) (line_apart caller turn [] apart) ∙ append-nil (turns_of caller turns)
 
 -- if the turns begin with one of a caller, that caller has one
 pub none_first : (caller : ℕ) (turn : Turn) (turns : List Turn) → turns_of caller (turn ∷ turns) ≡ [] → (turn.0 ≢ caller) × (turns_of caller turns ≡ [])
@@ -169,7 +168,7 @@ module _ (tells : Bool) (limits : Limits) where
 
     -- what it was told
     pub turn_told : turns_of caller past ≡ turns_of caller turns
-    turn_told = sym (append-nil (turns_of caller past)) ∙ ap (λ (l : Granted). turns_of caller past ++ l) (sym t.none) ∙ sym (lines_append caller past t.after) ∙ ap (turns_of caller) (sym t.turns_are)
+    turn_told = sym (append-nil (turns_of caller past)) ∙ ap (λ (l : Heard). turns_of caller past ++ l) (sym t.none) ∙ sym (lines_append caller past t.after) ∙ ap (turns_of caller) (sym t.turns_are)
 
     pub turn_grows : Grows seen now.history
     turn_grows = subst (λ (h : List Done). Grows h now.history) (sym t.shown) (turns_grow t.mid now t.after t.since)

@@ -4,7 +4,8 @@ use Rattle.std.specs.Prelude.{All}
 use Rattle.std.proofs.lemmas.Bool.{true≢false}
 use Rattle.std.proofs.lemmas.List.Elements.{All-nil, All-cons}
 use Rattle.history.specs.declared.call.Call.{Call}
-use Rattle.history.specs.declared.call.Call.TheVariants.{Settle}
+use Rattle.history.specs.declared.call.Call.TheVariants.{Control}
+use Rattle.history.specs.declared.call.Control.TheVariants.{Settle}
 use Rattle.history.specs.declared.call.Reply.{Reply}
 use Rattle.history.specs.declared.call.Reply.TheVariants.{Committed}
 use Rattle.history.specs.declared.transaction.Done.{Done}
@@ -19,7 +20,7 @@ use Rattle.caller_steps.proofs.Grouped.{group_sound}
 use Rattle.caller_steps.proofs.Fates.{Fate, refused, failed, began, granted, committed, doubted, aborted, given, settled, unsure, told, purged, step_fate}
 
 abbrev is_settle : Call → Bool
-is_settle Settle = true
+is_settle (Control Settle) = true
 is_settle _ = false
 
 abbrev number_in : Reply → ℕ
@@ -39,11 +40,11 @@ group_last state last [] = All-nil (λ (done : Done). done.last ≡ last)
 group_last state last (caller ∷ callers) = All-cons (λ (done : Done). done.last ≡ last) (done_in state last caller) (group_in (with_done state last caller) last callers) refl (group_last (with_done state last caller) last callers)
 
 module _ (limits : Limits) (old new : State) (caller n : ℕ) where
-  settle_tells : old.is_dead ≡ false → IsSound old → Fate limits.callers old caller Settle (Committed n) new → IsCommittedAs new.history caller n
+  settle_tells : old.is_dead ≡ false → IsSound old → Fate limits.callers old caller (Control Settle) (Committed n) new → IsCommittedAs new.history caller n
   settle_tells alive sound (refused refusal sure index e) = absurd (true≢false (sym refusal))
   settle_tells alive sound (failed apart r index e) = absurd (true≢false (ap is_committed r))
   settle_tells alive sound (began un l c r e) = absurd (true≢false (ap is_settle c))
-  settle_tells alive sound (granted calls un l free answers index e) = absurd answers
+  settle_tells alive sound (granted asked calls un c l free answers index e) = absurd (true≢false (ap is_settle c))
   settle_tells alive sound (committed calls un c r l index e) = absurd (true≢false (ap is_settle c))
   settle_tells alive sound (doubted calls un c r l index e) = absurd (true≢false (ap is_settle c))
   settle_tells alive sound (aborted calls un c r l e) = absurd (true≢false (ap is_settle c))
@@ -59,22 +60,22 @@ module _ (limits : Limits) (old new : State) (caller n : ℕ) where
       let there = committed_there old.history caller m (old.offers caller) (old.live caller) has (sound.offers caller) in
       subst (λ (x : List Done × ℕ). IsCommittedAs x.0 caller x.1) (λ i. (sym (ap (λ (s : State). s.history) e) i, sym (ap number_in r) i)) there
 
-  tells_if : (dead : Bool) → old.is_dead ≡ dead → IsSound old → Step limits old caller Settle (Committed n) new → IsCommittedAs new.history caller n
-  tells_if true dead sound step = absurd (true≢false (ap is_committed (subst (λ (b : Bool). StepIf limits b old caller Settle (Committed n) new) dead step.acts).0))
-  tells_if false alive sound step = settle_tells alive sound (step_fate limits old caller new Settle (Committed n) step)
+  tells_if : (dead : Bool) → old.is_dead ≡ dead → IsSound old → Step limits old caller (Control Settle) (Committed n) new → IsCommittedAs new.history caller n
+  tells_if true dead sound step = absurd (true≢false (ap is_committed (subst (λ (b : Bool). StepIf limits b old caller (Control Settle) (Committed n) new) dead step.acts).0))
+  tells_if false alive sound step = settle_tells alive sound (step_fate limits old caller new (Control Settle) (Committed n) step)
 
   -- The number that a settle tells is that of a transaction of its caller's in the history.
-  pub settle_told : IsSound old → Step limits old caller Settle (Committed n) new → IsCommittedAs new.history caller n
+  pub settle_told : IsSound old → Step limits old caller (Control Settle) (Committed n) new → IsCommittedAs new.history caller n
   settle_told sound step = tells_if old.is_dead refl sound step
 
   -- Where it was still offered, all that were offered were committed with it, as one group behind the history.
-  settles_all : old.offers caller ≡ offered → Fate limits.callers old caller Settle (Committed n) new
+  settles_all : old.offers caller ≡ offered → Fate limits.callers old caller (Control Settle) (Committed n) new
       → (new.history ≡ old.history ++ group_in old (group_end old (offerers limits.callers old)) (offerers limits.callers old))
       × ((other : ℕ) → other < limits.callers → other ≢ caller → old.offers other ≡ offered → new.offers other ≡ unsettled (group_done old (offerers limits.callers old) other).at)
   settles_all gave (refused refusal sure index e) = absurd (true≢false (sym refusal))
   settles_all gave (failed apart r index e) = absurd (true≢false (ap is_committed r))
   settles_all gave (began un l c r e) = absurd (true≢false (ap is_settle c))
-  settles_all gave (granted calls un l free answers index e) = absurd answers
+  settles_all gave (granted asked calls un c l free answers index e) = absurd (true≢false (ap is_settle c))
   settles_all gave (committed calls un c r l index e) = absurd (true≢false (ap is_settle c))
   settles_all gave (doubted calls un c r l index e) = absurd (true≢false (ap is_settle c))
   settles_all gave (aborted calls un c r l e) = absurd (true≢false (ap is_settle c))
@@ -89,7 +90,7 @@ module _ (limits : Limits) (old new : State) (caller n : ℕ) where
   settles_all gave (purged m un l c r index e) = absurd (true≢false (ap is_settle c))
   settles_all gave (told m has c r e) = absurd (unlike m (sym gave ∙ has))
 
-  pub settle_commits : old.offers caller ≡ offered → Step limits old caller Settle (Committed n) new
+  pub settle_commits : old.offers caller ≡ offered → Step limits old caller (Control Settle) (Committed n) new
       → (new.history ≡ old.history ++ group_in old (group_end old (offerers limits.callers old)) (offerers limits.callers old))
       × ((other : ℕ) → other < limits.callers → other ≢ caller → old.offers other ≡ offered → new.offers other ≡ unsettled (group_done old (offerers limits.callers old) other).at)
-  settle_commits gave step = settles_all gave (step_fate limits old caller new Settle (Committed n) step)
+  settle_commits gave step = settles_all gave (step_fate limits old caller new (Control Settle) (Committed n) step)

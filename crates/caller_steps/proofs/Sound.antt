@@ -9,6 +9,7 @@ use Rattle.history.specs.Locks.{touches, touched, clash, AreApart}
 use Rattle.history.specs.Legal.{IsLegal}
 use Rattle.history.specs.Groups.{AreGrouped, AreWhole}
 use Rattle.history.specs.declared.call.Call.{Call}
+use Rattle.history.specs.declared.call.TableCall.{TableCall}
 use Rattle.history.specs.declared.call.Reply.{Reply}
 use Rattle.history.proofs.OneMore.{IsRight-push, IsLegal-push, records-push}
 use Rattle.history.proofs.Grouping.{grouped_more, legal_numbered, all_whole}
@@ -79,7 +80,7 @@ module _ (old : State) (caller : ℕ) (sound : IsSound old) where
     own_apart other ne = subst (λ cs. AreApart old.names cs (calls_of old other)) is (sound.apart caller other (λ e. ne (sym e)))
 
     -- a call is granted
-    grows : old.offers caller ≡ unoffered → (call : Call) (reply : Reply) (index : Index) → IsFree old caller call → Answers (view_of old caller) call reply
+    grows : old.offers caller ≡ unoffered → (call : TableCall) (reply : Reply) (index : Index) → IsFree old caller call → Answers (view_of old caller) call reply
         → IsSound (record (with_live old caller (Some (calls ++ (call, reply) ∷ []))) { index = index })
     grows un call reply index free answers = record {
       legal = sound.legal;
@@ -133,7 +134,7 @@ module _ (old : State) (caller : ℕ) (sound : IsSound old) where
   fate_sound callers call reply new alive (refused refusal sure index e) = subst IsSound (sym e) (same index old.is_dead (λ is. is))
   fate_sound callers call reply new alive (failed apart r index e) = subst IsSound (sym e) (same index true (λ is. alive))
   fate_sound callers call reply new alive (began un l c r e) = subst IsSound (sym e) (begins un)
-  fate_sound callers call reply new alive (granted calls un l free answers index e) = subst IsSound (sym e) (grows calls (ap (λ o. unwrap_or o []) l) un call reply index free answers)
+  fate_sound callers call reply new alive (granted asked calls un c l free answers index e) = subst IsSound (sym e) (grows calls (ap (λ o. unwrap_or o []) l) un asked reply index free answers)
   fate_sound callers call reply new alive (committed calls un c r l index e) = subst IsSound (sym e) (commits calls (ap (λ o. unwrap_or o []) l) un alive index)
   fate_sound callers call reply new alive (doubted calls un c r l index e) = subst IsSound (sym e) (doubts calls (ap (λ o. unwrap_or o []) l) un index)
   fate_sound callers call reply new alive (aborted calls un c r l e) = subst IsSound (sym e) (ends un)

@@ -4,10 +4,9 @@ use Rattle.std.specs.List.{list_any}
 use mathlib.Core.Logic.{dite}
 use native.Mathlib.Decide.{ℕ_discrete}
 use Rattle.std.proofs.lemmas.Bool.{true≢false, or_cases, or_left, or_right}
-use Rattle.history.specs.Table.{Granted}
 use Rattle.history.specs.declared.call.Call.{Call}
 use Rattle.history.specs.declared.call.Reply.{Reply}
-use Rattle.caller_steps.specs.Run.{Turn, AreOf, turns_of, IsTold}
+use Rattle.caller_steps.specs.Run.{Turn, Heard, AreOf, turns_of, IsTold}
 use Rattle.caller_steps.proofs.Running.{line_here, line_apart}
 
 heads : {X : Type 0} (x y : X) (xs ys : List X) → x ∷ xs ≡ y ∷ ys → x ≡ y
@@ -20,7 +19,7 @@ module _ (caller : ℕ) where
   mine_first : (turn : Turn) (turns : List Turn) → turn.0 ≡ caller → turns_of caller (turn ∷ turns) ≡ (turn.1, turn.2) ∷ turns_of caller turns
   mine_first turn turns is = subst (λ (n : ℕ). turns_of n (turn ∷ turns) ≡ (turn.1, turn.2) ∷ turns_of n turns) is (line_here turn.0 turn.1 turn.2 turns)
 
-  behind : (turn : Turn) (turns : List Turn) (entry : Call × Reply) (front back : Granted) → turn.0 ≢ caller → IsTold caller front entry back turns → IsTold caller front entry back (turn ∷ turns)
+  behind : (turn : Turn) (turns : List Turn) (entry : Call × Reply) (front back : Heard) → turn.0 ≢ caller → IsTold caller front entry back turns → IsTold caller front entry back (turn ∷ turns)
   behind turn turns entry front back ne t = record {
     before = turn ∷ t.before;
     after = t.after;
@@ -30,7 +29,7 @@ module _ (caller : ℕ) where
   }
 
   -- Each of a caller's turns has its place in the run.
-  pub told_at : (turns : List Turn) (front back : Granted) (entry : Call × Reply) → turns_of caller turns ≡ front ++ entry ∷ back → IsTold caller front entry back turns
+  pub told_at : (turns : List Turn) (front back : Heard) (entry : Call × Reply) → turns_of caller turns ≡ front ++ entry ∷ back → IsTold caller front entry back turns
   told_at [] [] back entry e = absurd (let l = ap length e in omega arith)
   told_at [] (x ∷ front) back entry e = absurd (let l = ap length e in omega arith)
   told_at (turn ∷ turns) [] back entry e = dite (ℕ_discrete turn.0 caller)

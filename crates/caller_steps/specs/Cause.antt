@@ -2,7 +2,10 @@
 use Rattle.std.specs.Prelude.{ℕ, ◌≡◌, ◌+◌, ◌-◌, ◌<◌, ◌≤◌, ◌⊎◌, ◌&&◌, Bool, true, false, nat_lt, nat_le, if◌then◌else◌, IsTrue, List, length, Option, Some, None}
 use Rattle.history.specs.Locks.{has_table}
 use Rattle.history.specs.declared.call.Call.{Call}
-use Rattle.history.specs.declared.call.Call.TheVariants.{Begin, Get, Put, Del, Scan, Save, Back, Commit, Abort, Offer, Settle, Purge}
+use Rattle.history.specs.declared.call.Call.TheVariants.{Begin, Table, Control}
+use Rattle.history.specs.declared.call.TableCall.{TableCall}
+use Rattle.history.specs.declared.call.TableCall.TheVariants.{Get, Put, Del, Scan, Save, Back}
+use Rattle.history.specs.declared.call.Control.TheVariants.{Commit, Abort, Offer, Settle, Purge}
 use Rattle.history.specs.declared.call.Reply.{Reply}
 use Rattle.history.specs.declared.call.Reply.TheVariants.{Fine, Found, Absent, Listed, Saved, Committed, Purged, NoTransaction, NoTable, Already, NoSave, SavesFull, Busy, LogFull, SlotsFull, PagesFull, Media, Dead, NoMemory, Damaged}
 use Rattle.caller_steps.specs.State as state
@@ -19,22 +22,27 @@ saves_of old caller = length (view_of old caller).saves
 -- the refusal of a call that its caller's transaction, or the lack of one, does not let be
 abbrev pub misplaced : Call → Reply
 misplaced Begin = Already
-misplaced Purge = Already
+misplaced (Control Purge) = Already
 misplaced call = NoTransaction
 
 -- the refusal of one more save than there may be, or of a way back to a save that is not there
-abbrev pub save_refusal : ℕ → Call → Option Reply
+abbrev pub save_refusal : ℕ → TableCall → Option Reply
 save_refusal saves Save = if nat_lt saves most_saves then None else Some SavesFull
 save_refusal saves (Back n) = if nat_lt 0 n && nat_le n saves then None else Some (NoSave n)
 save_refusal saves call = None
 
-abbrev pub table_refusal : List (List ℕ) → Call → Option Reply
+abbrev pub table_refusal : List (List ℕ) → TableCall → Option Reply
 table_refusal names call = if has_table names call then None else Some NoTable
 
 -- the first of two refusals
 abbrev pub or_else : Option Reply → Option Reply → Option Reply
 or_else None second = second
 or_else (Some first) second = Some first
+
+-- the refusal of a call on a table or on saves, by these: a save's first
+abbrev pub asked_refusal : State → ℕ → Call → Option Reply
+asked_refusal old caller (Table call) = or_else (save_refusal (saves_of old caller) call) (table_refusal old.names call)
+asked_refusal old caller call = None
 
 -- the replies by which a state refuses
 abbrev pub is_of_state : Reply → Bool
@@ -51,10 +59,10 @@ is_of_state _ = false
 abbrev pub refusal_in : State → ℕ → Call → Option Reply
 refusal_in old caller call =
     if old.is_dead then Some Dead
-    else (if may_do old caller call then or_else (save_refusal (saves_of old caller) call) (table_refusal old.names call) else Some (misplaced call))
+    else (if may_do old caller call then asked_refusal old caller call else Some (misplaced call))
 
 -- A reply of the kind that the call asks for. Which value or which rows it tells is the store's to say.
-abbrev pub IsOfKind : ℕ → Call → Reply → Type 0
+abbrev pub IsOfKind : ℕ → TableCall → Reply → Type 0
 IsOfKind saves (Get name key) (Found value) = Unit {0}
 IsOfKind saves (Get name key) Absent = Unit {0}
 IsOfKind saves (Put name key value) Fine = Unit {0}
@@ -70,7 +78,7 @@ abbrev pub IsShort : Limits → ℕ → ℕ → ℕ → Type 0
 IsShort limits g h n = (g < limits.loggers) × (n ≤ 4) × (limits.entries < h + n)
 
 -- what a call may meet below: a fault of the medium, a page that breaks the layout, or a full array
-abbrev pub MayMeet : Limits → Call → Reply → Type 0
+abbrev pub MayMeet : Limits → TableCall → Reply → Type 0
 MayMeet limits call Media = IsTrue (uses_index call)
 MayMeet limits call (Damaged page) = IsTrue (uses_index call)
 MayMeet limits (Put name key value) (SlotsFull n) = n ≡ limits.slots
@@ -79,8 +87,8 @@ MayMeet limits (Put name key value) (LogFull g h n) = IsShort limits g h n
 MayMeet limits (Del name key) (LogFull g h n) = IsShort limits g h n
 MayMeet limits call reply = ⊥
 
--- A call on the table. The lowest caller that stands in its way is named; nothing else but a lack of memory is told unless nobody does.
-abbrev pub TableCause : Limits → State → ℕ → Call → Reply → Type 0
+-- A call on a table or on saves. The lowest caller that stands in its way is named; nothing else but a lack of memory is told unless nobody does.
+abbrev pub TableCause : Limits → State → ℕ → TableCall → Reply → Type 0
 TableCause limits old caller call NoMemory = Unit {0}
 TableCause limits old caller call (Busy holder) = IsBusyWith old caller call holder
 TableCause limits old caller call reply = IsFree old caller call × (IsOfKind (saves_of old caller) call reply ⊎ MayMeet limits call reply)
@@ -106,12 +114,12 @@ ClearCause reply = ⊥
 -- why a call that the state does not refuse is answered so
 abbrev pub CallCause : Limits → State → ℕ → Call → Reply → Type 0
 CallCause limits old caller Begin reply = reply ≡ Fine
-CallCause limits old caller Abort reply = reply ≡ Fine
-CallCause limits old caller Offer reply = reply ≡ Fine
-CallCause limits old caller Commit reply = CommitCause (length old.history + 1) reply
-CallCause limits old caller Settle reply = SettleCause limits (old.offers caller) old caller reply
-CallCause limits old caller Purge reply = ClearCause reply
-CallCause limits old caller call reply = TableCause limits old caller call reply
+CallCause limits old caller (Table call) reply = TableCause limits old caller call reply
+CallCause limits old caller (Control Abort) reply = reply ≡ Fine
+CallCause limits old caller (Control Offer) reply = reply ≡ Fine
+CallCause limits old caller (Control Commit) reply = CommitCause (length old.history + 1) reply
+CallCause limits old caller (Control Settle) reply = SettleCause limits (old.offers caller) old caller reply
+CallCause limits old caller (Control Purge) reply = ClearCause reply
 
 abbrev pub CauseAfter : Option Reply → Limits → State → ℕ → Call → Reply → Type 0
 CauseAfter (Some refusal) limits old caller call reply = reply ≡ refusal

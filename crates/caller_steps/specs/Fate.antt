@@ -2,7 +2,8 @@
 use Rattle.std.specs.Prelude.{ℕ, ◌≡◌, ◌≢◌, ◌⊎◌, Bool, true, false, ◌||◌, if◌then◌else◌, IsTrue, IsFalse, List, [], ◌∷◌, ◌++◌, Option, Some, None}
 use Rattle.history.specs.Table.{Granted}
 use Rattle.history.specs.declared.call.Call.{Call}
-use Rattle.history.specs.declared.call.Call.TheVariants.{Begin, Commit, Abort, Offer, Settle, Purge}
+use Rattle.history.specs.declared.call.Call.TheVariants.{Begin, Table, Control}
+use Rattle.history.specs.declared.call.Control.TheVariants.{Offer, Settle}
 use Rattle.history.specs.declared.call.Reply.{Reply}
 use Rattle.history.specs.declared.call.Reply.TheVariants.{Fine, Found, Absent, Listed, Saved, Committed, Purged, Busy, LogFull, SlotsFull, PagesFull, Media, Dead, NoMemory}
 use Rattle.history.specs.declared.transaction.Done.{Done}
@@ -60,7 +61,7 @@ is_committed _ = false
 -- What a call of this caller commits: a commit its own transaction, and a settle all that were offered, or nothing if a group has committed its
 -- own already.
 abbrev pub committed_by : ℕ → State → ℕ → Call → List Done
-committed_by callers old caller Settle = if is_offered (old.offers caller) then group_in old (group_end old (offerers callers old)) (offerers callers old) else []
+committed_by callers old caller (Control Settle) = if is_offered (old.offers caller) then group_in old (group_end old (offerers callers old)) (offerers callers old) else []
 committed_by callers old caller call = done_by old caller (calls_of old caller) ∷ []
 
 -- the history after a reply: what was committed comes behind it, and nothing else changes it
@@ -70,16 +71,13 @@ history_after callers old caller call reply = if is_committed reply then old.his
 -- the caller's live transaction after a call that was done
 abbrev pub live_with : Granted → Call → Reply → Option Granted
 live_with calls Begin reply = Some []
-live_with calls Commit reply = None
-live_with calls Abort reply = None
-live_with calls Offer reply = Some calls
-live_with calls Settle reply = None
-live_with calls Purge reply = None
-live_with calls call reply = Some (calls ++ (call, reply) ∷ [])
+live_with calls (Table call) reply = Some (calls ++ (call, reply) ∷ [])
+live_with calls (Control Offer) reply = Some calls
+live_with calls (Control ends) reply = None
 
 -- what the caller has then offered
 abbrev pub offer_with : Call → state.Offer
-offer_with Offer = offered
+offer_with (Control Offer) = offered
 offer_with call = unoffered
 
 -- a caller's live transaction stays, and so do its offer and those that it has committed
@@ -90,7 +88,7 @@ pub record Stays (old new : State) (caller : ℕ) : Type 0 where
 
 -- The other's transaction, which was offered, has ended in a settle of this caller's: they were committed together, or the medium has failed.
 pub record EndsWith (callers : ℕ) (old : State) (caller : ℕ) (call : Call) (reply : Reply) (new : State) (other : ℕ) : Type 0 where
-  pub settles : call ≡ Settle
+  pub settles : call ≡ Control Settle
   pub own : old.offers caller ≡ offered
   pub its : old.offers other ≡ offered
   pub live : new.live other ≡ None

@@ -4,7 +4,8 @@ use Rattle.std.specs.List.{range_with_len}
 use Rattle.history.specs.Log.{log_of}
 use Rattle.history.specs.Writes.{Write}
 use Rattle.history.specs.declared.call.Call.{Call}
-use Rattle.history.specs.declared.call.Call.TheVariants.{Begin, Settle, Purge}
+use Rattle.history.specs.declared.call.Call.TheVariants.{Begin, Control}
+use Rattle.history.specs.declared.call.Control.TheVariants.{Settle, Purge}
 use Rattle.history.specs.declared.transaction.Done.{Done}
 use Rattle.caller_steps.specs.State.{State, Offer, unoffered, offered, unsettled, calls_of, with_live, with_offer}
 
@@ -32,8 +33,8 @@ is_engaged state caller = is_some (state.live caller) || not (is_unoffered (stat
 -- call within one that it has not offered.
 abbrev pub may_do : State → ℕ → Call → Bool
 may_do state caller Begin = not (is_engaged state caller)
-may_do state caller Purge = not (is_engaged state caller)
-may_do state caller Settle = not (is_unoffered (state.offers caller))
+may_do state caller (Control Purge) = not (is_engaged state caller)
+may_do state caller (Control Settle) = not (is_unoffered (state.offers caller))
 may_do state caller call = takes_calls state caller
 
 -- a caller's transaction as the next one of the history, in a group that ends at this number

@@ -4,22 +4,24 @@ use Rattle.std.specs.List.{fold, list_any}
 use Rattle.std.specs.Option.{option_to_list}
 use Rattle.history.specs.Table.{Granted}
 use Rattle.history.specs.declared.call.Call.{Call}
-use Rattle.history.specs.declared.call.Call.TheVariants.{Commit, Settle}
+use Rattle.history.specs.declared.call.Call.TheVariants.{Control}
+use Rattle.history.specs.declared.call.Control.TheVariants.{Commit, Settle}
 use Rattle.history.specs.declared.call.Reply.{Reply}
 use Rattle.history.specs.declared.call.Reply.TheVariants.{Committed}
 use Rattle.history.specs.declared.transaction.Done.{Done}
 use Rattle.caller_steps.specs.State.{State, Offer, unoffered, offered, unsettled, commits_of}
 use Rattle.caller_steps.specs.Offers.{is_offered}
+use Rattle.caller_steps.specs.Run.{Heard}
 use Rattle.caller_steps.specs.Fate.{is_refusal, is_media, is_committed, live_with, offer_with}
 
 -- the call asks to commit the caller's transaction
 abbrev pub is_commit : Call → Bool
-is_commit Commit = true
-is_commit Settle = true
+is_commit (Control Commit) = true
+is_commit (Control Settle) = true
 is_commit call = false
 
 -- one of these replies reports a fault of the medium
-abbrev pub has_media : Granted → Bool
+abbrev pub has_media : Heard → Bool
 has_media told = list_any (λ (entry : Call × Reply). is_media entry.1) told
 
 abbrev pub number_of : Reply → ℕ
@@ -59,10 +61,10 @@ own_after caller own entry = record {
 }
 
 -- what all of a caller's turns say
-abbrev pub own_of : ℕ → Granted → Own
+abbrev pub own_of : ℕ → Heard → Own
 own_of caller told = fold (own_after caller) nothing_own told
 
-abbrev pub live_by : ℕ → Granted → Option Granted
+abbrev pub live_by : ℕ → Heard → Option Granted
 live_by caller told = (own_of caller told).live
 
 -- a transaction as its caller is told of it: by its number, and not where its group ends

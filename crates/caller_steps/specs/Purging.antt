@@ -3,7 +3,7 @@ use Rattle.std.specs.Prelude.{ℕ, ◌≡◌, ◌<◌, ◌^◌, ◌⊎◌, Bool,
 use Rattle.std.specs.FinMap.{get}
 use Rattle.history.specs.declared.key.Key.{Key}
 use Rattle.history.specs.Locks.{Meets}
-use Rattle.history.specs.declared.call.Call.TheVariants.{Del}
+use Rattle.history.specs.declared.call.TableCall.TheVariants.{Del}
 use Rattle.history.specs.declared.call.Reply.{Reply}
 use Rattle.history.specs.declared.call.Reply.TheVariants.{Purged, Already, Media, Dead, Damaged}
 use Rattle.index_keys.specs.Keys.{LosesKey}

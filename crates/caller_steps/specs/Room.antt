@@ -6,8 +6,8 @@ use Rattle.history.specs.Key.{of_table}
 use Rattle.history.specs.declared.key.Key.{Key}
 use Rattle.history.specs.Log.{log_of, is_rewritten}
 use Rattle.history.specs.Writes.{Table, Write}
-use Rattle.history.specs.declared.call.Call.{Call}
-use Rattle.history.specs.declared.call.Call.TheVariants.{Put, Del}
+use Rattle.history.specs.declared.call.TableCall.{TableCall}
+use Rattle.history.specs.declared.call.TableCall.TheVariants.{Put, Del}
 use Rattle.history.specs.declared.call.Reply.{Reply}
 use Rattle.history.specs.declared.call.Reply.TheVariants.{Fine, LogFull, SlotsFull, PagesFull}
 use Rattle.index_keys.specs.Keys.{GainsKey, KeepsKeys, TakesPages}
@@ -26,7 +26,7 @@ pub record Said : Type 0 where
   pub index : Index
 
 -- how many callers there may be, the slots of an array, its pages for the index, its loggers, the entries that each of them has for a
--- caller, and the logger of each slot; and, of data and a key, whether the index keeps the key's pair as the last of a page, so that no purge
+-- caller, how many commits may wait for their write-back, and the logger of each slot; and, of data and a key, whether the index keeps the key's pair as the last of a page, so that no purge
 -- takes it out, and, if the index lacks the key, the actions of its insertion, one after another; and what data says
 pub record Limits : Type 0 where
   pub callers : ℕ
@@ -34,6 +34,7 @@ pub record Limits : Type 0 where
   pub index_pages : ℕ
   pub loggers : ℕ
   pub entries : ℕ
+  pub depth : ℕ
   pub logger_of : ℕ → ℕ
   pub keeps : List ℕ → Key → Bool
   pub actions : List ℕ → Key → List Action
@@ -101,7 +102,7 @@ FitsAt limits old caller key None = (old.index.used_slots < limits.slots)
 FitsAt limits old caller key (Some slot) = HasEntry limits old caller key slot
 
 -- if the call writes, that fits
-abbrev pub Fits : Limits → State → ℕ → Call → Type 0
+abbrev pub Fits : Limits → State → ℕ → TableCall → Type 0
 Fits limits old caller (Put name key value) = FitsAt limits old caller (of_table name key) (old.index.slot_of (of_table name key))
 Fits limits old caller (Del name key) = IsSeen old caller (of_table name key) → HasEntry limits old caller (of_table name key) (slot_for old.index (of_table name key))
 Fits limits old caller _ = Unit {0}
@@ -123,7 +124,7 @@ LacksAt limits old caller key None (LogFull g h n) = (old.index.used_slots < lim
 LacksAt limits old caller key _ _ = ⊥
 
 -- Why a write is refused with this reply. A key that its caller sees has a slot, so a removal is refused only by that slot's logger.
-abbrev pub Lacks : Limits → State → ℕ → Call → Reply → Type 0
+abbrev pub Lacks : Limits → State → ℕ → TableCall → Reply → Type 0
 Lacks limits old caller (Put name key value) reply = LacksAt limits old caller (of_table name key) (old.index.slot_of (of_table name key)) reply
 Lacks limits old caller (Del name key) reply = IsSeen old caller (of_table name key) × (slot : ℕ) × (old.index.slot_of (of_table name key) ≡ Some slot) × LacksAt limits old caller (of_table name key) (Some slot) reply
 Lacks limits old caller _ reply = ⊥
@@ -158,6 +159,6 @@ IndexesAt limits key None reply old new = Inserts limits key reply old new
 IndexesAt limits key (Some slot) reply old new = new ≡ old
 
 -- what a call makes of the index
-abbrev pub Indexes : Limits → Call → Reply → Index → Index → Type 0
+abbrev pub Indexes : Limits → TableCall → Reply → Index → Index → Type 0
 Indexes limits (Put name key value) reply old new = IndexesAt limits (of_table name key) (old.slot_of (of_table name key)) reply old new
 Indexes limits _ reply old new = new ≡ old

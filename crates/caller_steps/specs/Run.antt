@@ -1,9 +1,10 @@
 -- Runs of a core: the calls of callers and their replies, one after another, and what each caller has of one.
 use Rattle.std.specs.Prelude.{ℕ, ◌≡◌, ◌<◌, ◌≤◌, Bool, true, false, IsTrue, nat_eq, List, [], ◌∷◌, ◌++◌, map, filter, None}
 use Rattle.std.specs.List.{list_any}
-use Rattle.history.specs.Table.{Granted}
 use Rattle.history.specs.declared.call.Call.{Call}
-use Rattle.history.specs.declared.call.Call.TheVariants.{Put, Del, Purge}
+use Rattle.history.specs.declared.call.Call.TheVariants.{Table, Control}
+use Rattle.history.specs.declared.call.TableCall.TheVariants.{Put, Del}
+use Rattle.history.specs.declared.call.Control.TheVariants.{Purge}
 use Rattle.history.specs.declared.call.Reply.{Reply}
 use Rattle.history.specs.declared.call.Reply.TheVariants.{Dead}
 use Rattle.history.specs.declared.transaction.Done.{Done}
@@ -15,6 +16,10 @@ use Rattle.caller_steps.specs.Fate.{Moves, is_media}
 -- a caller, its call and the reply
 abbrev pub Turn : Type 0
 Turn = ℕ × Call × Reply
+
+-- one caller's calls and replies, in order
+abbrev pub Heard : Type 0
+Heard = List (Call × Reply)
 
 -- what is known of a call of a core: what it does to transactions, that a dead core stays as it is, and that it is a step if the core tells
 -- its records
@@ -33,15 +38,15 @@ abbrev pub AreOf : ℕ → List Turn → Type 0
 AreOf callers [] = Unit {0}
 AreOf callers (turn ∷ turns) = (turn.0 < callers) × AreOf callers turns
 
--- one caller's calls and replies, in order
-abbrev pub turns_of : ℕ → List Turn → Granted
+-- those of one caller
+abbrev pub turns_of : ℕ → List Turn → Heard
 turns_of caller turns = map (λ (turn : Turn). (turn.1, turn.2)) (filter (λ (turn : Turn). nat_eq turn.0 caller) turns)
 
 -- the call asks to write a record, to remove one, or to take keys without records out of the index
 abbrev pub is_write : Call → Bool
-is_write (Put name key value) = true
-is_write (Del name key) = true
-is_write Purge = true
+is_write (Table (Put name key value)) = true
+is_write (Table (Del name key)) = true
+is_write (Control Purge) = true
 is_write _ = false
 
 -- a turn asks for that
@@ -50,7 +55,7 @@ has_write turns = list_any (λ (turn : Turn). is_write turn.1) turns
 
 -- the call asks to take keys without records out of the index
 abbrev pub is_purge : Call → Bool
-is_purge Purge = true
+is_purge (Control Purge) = true
 is_purge _ = false
 
 -- a turn asks for that
@@ -84,7 +89,7 @@ pub record IsTurn (limits : Limits) (first : State) (before : List Turn) (turn :
   pub since : GoesAlong true limits new after now
 
 -- where in a run a caller was told this, after and before what else
-pub record IsTold (caller : ℕ) (front : Granted) (entry : Call × Reply) (back : Granted) (turns : List Turn) : Type 0 where
+pub record IsTold (caller : ℕ) (front : Heard) (entry : Call × Reply) (back : Heard) (turns : List Turn) : Type 0 where
   pub before : List Turn
   pub after : List Turn
   pub turns_are : turns ≡ before ++ (caller, entry.0, entry.1) ∷ after

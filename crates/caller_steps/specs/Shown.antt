@@ -7,17 +7,18 @@ use Rattle.history.specs.declared.key.Key.{Key}
 use Rattle.history.specs.Table.{Granted}
 use Rattle.history.specs.Locks.{Meets}
 use Rattle.history.specs.declared.call.Call.{Call}
-use Rattle.history.specs.declared.call.Call.TheVariants.{Put}
+use Rattle.history.specs.declared.call.Call.TheVariants.{Table}
+use Rattle.history.specs.declared.call.TableCall.TheVariants.{Put}
 use Rattle.history.specs.declared.call.Reply.{Reply}
 use Rattle.history.specs.declared.call.Reply.TheVariants.{Busy, SlotsFull, PagesFull, Media, Dead}
 use Rattle.caller_steps.specs.State.{State, Index}
 use Rattle.caller_steps.specs.Room.{Limits}
-use Rattle.caller_steps.specs.Run.{Turn, turns_of, has_fault, has_purge}
+use Rattle.caller_steps.specs.Run.{Turn, Heard, turns_of, has_fault, has_purge}
 use Rattle.caller_steps.specs.Own.{live_by}
 
 -- the call puts a value for this key
 abbrev pub is_put : Key → Call → Bool
-is_put key (Put name other value) = is_same_key (of_table name other) key
+is_put key (Table (Put name other value)) = is_same_key (of_table name other) key
 is_put key _ = false
 
 -- a turn asks to put a value for this key
@@ -25,7 +26,7 @@ abbrev pub is_asked : List Turn → Key → Bool
 is_asked turns key = list_any (λ (turn : Turn). is_put key turn.1) turns
 
 -- a caller has asked to put a value for this key
-abbrev pub asks_put : Key → Granted → Bool
+abbrev pub asks_put : Key → Heard → Bool
 asks_put key told = list_any (λ (entry : Call × Reply). is_put key entry.0) told
 
 abbrev pub AreAsked : List Turn → List Key → Type 0
@@ -56,14 +57,19 @@ Changed first (loss key ∷ changes) now = (before : Index) × Changed first cha
 
 -- a put finds no page for a split, or no further level
 abbrev pub LacksPages : Call → ℕ → Index → Type 0
-LacksPages (Put name key value) n index = (n ≤ index.used_pages) ⊎ (7 ≤ index.levels name)
+LacksPages (Table (Put name key value)) n index = (n ≤ index.used_pages) ⊎ (7 ≤ index.levels name)
 LacksPages _ n index = Unit {0}
+
+-- the call clashes with these granted calls of another caller
+abbrev pub Clashes : List (List ℕ) → Call → Granted → Type 0
+Clashes names (Table call) calls = Meets names call calls
+Clashes names call calls = ⊥
 
 -- What a refusal of a call shows, given the turns before it, and those after it up to any later state. The holder of a stripe is another
 -- caller, and its own turns say that the call clashes with its live transaction. Slots and pages had run out, and unless the medium has failed
 -- or a purge has come, they still have. After a fault the core is dead, and `Dead` comes only after a fault.
 abbrev pub Shows : Limits → List Turn → List Turn → State → ℕ → Call → Reply → Type 0
-Shows limits before after now caller call (Busy holder) = (holder ≢ caller) × Meets now.names call (unwrap_or (live_by holder (turns_of holder before)) [])
+Shows limits before after now caller call (Busy holder) = (holder ≢ caller) × Clashes now.names call (unwrap_or (live_by holder (turns_of holder before)) [])
 Shows limits before after now caller call (SlotsFull n) = (n ≡ limits.slots) × (IsFalse now.is_dead → IsFalse (has_purge after) → now.index.used_slots ≡ limits.slots)
 Shows limits before after now caller call (PagesFull n) = (n ≡ limits.index_pages - 1) × (IsFalse now.is_dead → IsFalse (has_purge after) → LacksPages call n now.index)
 Shows limits before after now caller call Media = IsTrue now.is_dead

@@ -4,7 +4,10 @@ use Rattle.history.specs.Locks.{has_table}
 use Rattle.history.specs.Log.{log_of}
 use Rattle.history.specs.Table.{Granted, Answers, has_save}
 use Rattle.history.specs.declared.call.Call.{Call}
-use Rattle.history.specs.declared.call.Call.TheVariants.{Begin, Save, Back, Commit, Abort, Offer, Settle, Purge}
+use Rattle.history.specs.declared.call.Call.TheVariants.{Begin, Table, Control}
+use Rattle.history.specs.declared.call.TableCall.{TableCall}
+use Rattle.history.specs.declared.call.TableCall.TheVariants.{Save, Back}
+use Rattle.history.specs.declared.call.Control.TheVariants.{Commit, Abort, Offer, Settle, Purge}
 use Rattle.history.specs.declared.call.Reply.{Reply}
 use Rattle.history.specs.declared.call.Reply.TheVariants.{Fine, Committed, Purged, NoTransaction, NoTable, Already, NoSave, SavesFull, Busy, Media, Dead, NoMemory}
 use Rattle.caller_steps.specs.State as state
@@ -23,16 +26,16 @@ abbrev pub Says : Reply → State → Reply → State → Type 0
 Says answer old reply new = (reply ≡ answer) × (new ≡ old)
 
 -- another caller holds a stripe of the call
-abbrev pub IsHeld : State → ℕ → Call → Reply → State → Type 0
+abbrev pub IsHeld : State → ℕ → TableCall → Reply → State → Type 0
 IsHeld old caller call reply new = (holder : ℕ) × IsBusyWith old caller call holder × Says (Busy holder) old reply new
 
 -- the call is granted, with the one-thread table's reply on what the caller sees
-abbrev pub Grants : Limits → Granted → State → ℕ → Call → Reply → State → Type 0
+abbrev pub Grants : Limits → Granted → State → ℕ → TableCall → Reply → State → Type 0
 Grants limits calls old caller call reply new = Answers (view_of old caller) call reply × Fits limits old caller call
     × (index : Index) × Indexes limits call reply old.index index × (new ≡ record (with_live old caller (Some (calls ++ (call, reply) ∷ []))) { index = index })
 
 -- the array is full; the index may have changed
-abbrev pub Refuses : Limits → State → ℕ → Call → Reply → State → Type 0
+abbrev pub Refuses : Limits → State → ℕ → TableCall → Reply → State → Type 0
 Refuses limits old caller call reply new = Lacks limits old caller call reply
     × (index : Index) × Indexes limits call reply old.index index × (new ≡ record old { index = index })
 
@@ -41,13 +44,13 @@ abbrev pub Fails : State → Reply → State → Type 0
 Fails old reply new = (reply ≡ Media) × (index : Index) × (new ≡ record old { index = index; is_dead = true })
 
 -- a call that looks a key up in the index, or scans it, and so uses the medium
-abbrev pub uses_index : Call → Bool
+abbrev pub uses_index : TableCall → Bool
 uses_index Save = false
 uses_index (Back n) = false
 uses_index call = true
 
 -- the locks come before all that the array answers; memory may run out at any point
-abbrev pub Asks : Limits → Granted → State → ℕ → Call → Reply → State → Type 0
+abbrev pub Asks : Limits → Granted → State → ℕ → TableCall → Reply → State → Type 0
 Asks limits calls old caller call reply new = Says NoMemory old reply new ⊎ (IsHeld old caller call reply new
     ⊎ (IsFree old caller call × (Grants limits calls old caller call reply new ⊎ (Refuses limits old caller call reply new ⊎ (IsTrue (uses_index call) × Fails old reply new)))))
 
@@ -76,40 +79,44 @@ abbrev pub Clears : Limits → State → Reply → State → Type 0
 Clears limits old reply new = ((n : ℕ) × (reply ≡ Purged n) × Purges limits old n new) ⊎ Fails old reply new
 
 -- a call on a table that is not there is refused, before memory and locks are asked for
-abbrev pub AsksTable : Limits → Granted → State → ℕ → Call → Reply → State → Type 0
+abbrev pub AsksTable : Limits → Granted → State → ℕ → TableCall → Reply → State → Type 0
 AsksTable limits calls old caller call reply new = (IsFalse (has_table old.names call) × Says NoTable old reply new)
     ⊎ (IsTrue (has_table old.names call) × Asks limits calls old caller call reply new)
+
+-- a call on a table or on saves, within a transaction: a save or a way back is refused first where its transaction does not let it be
+abbrev pub AsksWithin : Limits → Granted → State → ℕ → TableCall → Reply → State → Type 0
+AsksWithin limits calls old caller Save reply new = ((most_saves ≤ length (view_of old caller).saves) × Says SavesFull old reply new)
+    ⊎ ((length (view_of old caller).saves < most_saves) × Asks limits calls old caller Save reply new)
+AsksWithin limits calls old caller (Back n) reply new = (IsFalse (has_save (view_of old caller).saves n) × Says (NoSave n) old reply new)
+    ⊎ (IsTrue (has_save (view_of old caller).saves n) × Asks limits calls old caller (Back n) reply new)
+AsksWithin limits calls old caller call reply new = AsksTable limits calls old caller call reply new
 
 -- A step with this as the caller's live transaction, which it has not offered, if the medium has not failed before. A purge comes outside of
 -- any transaction of its caller's, and may come between the calls of others.
 abbrev pub StepAt : Limits → Option Granted → State → ℕ → Call → Reply → State → Type 0
 StepAt limits None old caller Begin reply new = (reply ≡ Fine) × (new ≡ with_live old caller (Some []))
-StepAt limits None old caller Purge reply new = Clears limits old reply new
+StepAt limits None old caller (Control Purge) reply new = Clears limits old reply new
 StepAt limits None old caller _ reply new = Says NoTransaction old reply new
 StepAt limits (Some calls) old caller Begin reply new = Says Already old reply new
-StepAt limits (Some calls) old caller Purge reply new = Says Already old reply new
-StepAt limits (Some calls) old caller Commit reply new = Says NoMemory old reply new ⊎ (Commits calls old caller reply new ⊎ Doubts calls old caller reply new)
-StepAt limits (Some calls) old caller Abort reply new = (reply ≡ Fine) × (new ≡ with_live old caller None)
-StepAt limits (Some calls) old caller Offer reply new = (reply ≡ Fine) × (new ≡ with_offer old caller offered)
-StepAt limits (Some calls) old caller Settle reply new = Says NoTransaction old reply new
-StepAt limits (Some calls) old caller Save reply new = ((most_saves ≤ length (view_of old caller).saves) × Says SavesFull old reply new)
-    ⊎ ((length (view_of old caller).saves < most_saves) × Asks limits calls old caller Save reply new)
-StepAt limits (Some calls) old caller (Back n) reply new = (IsFalse (has_save (view_of old caller).saves n) × Says (NoSave n) old reply new)
-    ⊎ (IsTrue (has_save (view_of old caller).saves n) × Asks limits calls old caller (Back n) reply new)
-StepAt limits (Some calls) old caller call reply new = AsksTable limits calls old caller call reply new
+StepAt limits (Some calls) old caller (Table call) reply new = AsksWithin limits calls old caller call reply new
+StepAt limits (Some calls) old caller (Control Purge) reply new = Says Already old reply new
+StepAt limits (Some calls) old caller (Control Commit) reply new = Says NoMemory old reply new ⊎ (Commits calls old caller reply new ⊎ Doubts calls old caller reply new)
+StepAt limits (Some calls) old caller (Control Abort) reply new = (reply ≡ Fine) × (new ≡ with_live old caller None)
+StepAt limits (Some calls) old caller (Control Offer) reply new = (reply ≡ Fine) × (new ≡ with_offer old caller offered)
+StepAt limits (Some calls) old caller (Control Settle) reply new = Says NoTransaction old reply new
 
 -- A step by what the caller has offered. Until it has settled, it begins no other transaction and purges nothing, and its own takes no calls.
 -- A settle commits all that were offered, unless a group has committed the caller's own already.
 abbrev pub StepBy : Limits → state.Offer → State → ℕ → Call → Reply → State → Type 0
 StepBy limits unoffered old caller call reply new = StepAt limits (old.live caller) old caller call reply new
 StepBy limits offered old caller Begin reply new = Says Already old reply new
-StepBy limits offered old caller Purge reply new = Says Already old reply new
-StepBy limits offered old caller Settle reply new = Says NoMemory old reply new
+StepBy limits offered old caller (Control Purge) reply new = Says Already old reply new
+StepBy limits offered old caller (Control Settle) reply new = Says NoMemory old reply new
     ⊎ ((caller < limits.callers) × (SettlesAll (offerers limits.callers old) old caller reply new ⊎ DoubtsAll (offerers limits.callers old) old reply new))
 StepBy limits offered old caller call reply new = Says NoTransaction old reply new
 StepBy limits (unsettled n) old caller Begin reply new = Says Already old reply new
-StepBy limits (unsettled n) old caller Purge reply new = Says Already old reply new
-StepBy limits (unsettled n) old caller Settle reply new = (reply ≡ Committed n) × (new ≡ with_offer (with_live old caller None) caller unoffered)
+StepBy limits (unsettled n) old caller (Control Purge) reply new = Says Already old reply new
+StepBy limits (unsettled n) old caller (Control Settle) reply new = (reply ≡ Committed n) × (new ≡ with_offer (with_live old caller None) caller unoffered)
 StepBy limits (unsettled n) old caller call reply new = Says NoTransaction old reply new
 
 -- If the medium has failed in an earlier call, the reply is `Dead`.

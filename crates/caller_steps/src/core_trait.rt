@@ -1,11 +1,11 @@
 // The trait of callers by turns.
 ghost use Rattle.std.specs.Prelude.{◌≡◌, ◌<◌, ◌≤◌, ℕ, Bool, IsTrue, IsFalse, IsSome, IfSome, length, drop};
-ghost use Rattle.history.specs.Locks.{has_table};
-ghost use Rattle.history.specs.declared.call.Call.TheVariants.{Purge};
+ghost use Rattle.history.specs.declared.call.Call.TheVariants.{Control};
+ghost use Rattle.history.specs.declared.call.Control.TheVariants.{Purge};
 ghost use Rattle.history.specs.declared.call.Reply.TheVariants.{Dead};
 ghost use Rattle.caller_steps.specs.Core.{CoreView, Steps};
 ghost use Rattle.caller_steps.specs.Fate.{is_busy, is_refusal};
-ghost use Rattle.caller_steps.specs.Locked.{IsLocked};
+ghost use Rattle.caller_steps.specs.Locked.{IsLocked, finds_table};
 ghost use Rattle.caller_steps.specs.Purging.{PurgeCause};
 
 use history::{Call, Done, Reply};
@@ -33,7 +33,7 @@ pub trait Core {
         requires { caller < (view self.old).limits.callers }
         ensures steps { Steps tells caller call.now (view self.old) (view self.new) result }
         ensures dead { IsTrue (view self.old).state.is_dead → (result ≡ Dead) × (self.new ≡ self.old) }
-        ensures purge { call.now ≡ Purge → PurgeCause (view self.old).state caller result }
+        ensures purge { call.now ≡ Control Purge → PurgeCause (view self.old).state caller result }
         ensures sends { sends self.old self.new };
 
     /// Answers a caller's call that clashes with no other caller's live transaction, as locks outside of the core have made sure. It makes
@@ -43,9 +43,9 @@ pub trait Core {
         requires locked { IsLocked (view self.old).state caller call.now }
         ensures steps { Steps tells caller call.now (view self.old) (view self.new) result }
         ensures dead { IsTrue (view self.old).state.is_dead → (result ≡ Dead) × (self.new ≡ self.old) }
-        ensures purge { call.now ≡ Purge → PurgeCause (view self.old).state caller result }
+        ensures purge { call.now ≡ Control Purge → PurgeCause (view self.old).state caller result }
         ensures not_busy { IsFalse (is_busy result) }
-        ensures tabled { IsFalse (is_refusal result) → IsTrue (has_table (view self.old).state.names call.now) }
+        ensures tabled { IsFalse (is_refusal result) → IsTrue (finds_table (view self.old).state.names call.now) }
         ensures sends { sends self.old self.new };
 
     /// The names of the tables, by their numbers.
@@ -86,7 +86,7 @@ impl<C: Core> Core for Box<C> {
         requires { caller < (C.view self.old.value).limits.callers }
         ensures steps { Steps C.tells caller call.now (C.view self.old.value) (C.view self.new.value) result }
         ensures dead { IsTrue (C.view self.old.value).state.is_dead → (result ≡ Dead) × (self.new ≡ self.old) }
-        ensures purge { call.now ≡ Purge → PurgeCause (C.view self.old.value).state caller result }
+        ensures purge { call.now ≡ Control Purge → PurgeCause (C.view self.old.value).state caller result }
         ensures sends { C.sends self.old.value self.new.value }
     {
         self.as_mut().step(caller, call)
@@ -97,9 +97,9 @@ impl<C: Core> Core for Box<C> {
         requires locked { IsLocked (C.view self.old.value).state caller call.now }
         ensures steps { Steps C.tells caller call.now (C.view self.old.value) (C.view self.new.value) result }
         ensures dead { IsTrue (C.view self.old.value).state.is_dead → (result ≡ Dead) × (self.new ≡ self.old) }
-        ensures purge { call.now ≡ Purge → PurgeCause (C.view self.old.value).state caller result }
+        ensures purge { call.now ≡ Control Purge → PurgeCause (C.view self.old.value).state caller result }
         ensures not_busy { IsFalse (is_busy result) }
-        ensures tabled { IsFalse (is_refusal result) → IsTrue (has_table (C.view self.old.value).state.names call.now) }
+        ensures tabled { IsFalse (is_refusal result) → IsTrue (finds_table (C.view self.old.value).state.names call.now) }
         ensures sends { C.sends self.old.value self.new.value }
     {
         self.as_mut().step_locked(caller, call)

@@ -5,13 +5,15 @@ ghost use Rattle.history.specs.Table.{Granted};
 ghost use Rattle.history.specs.Legal.{IsLegal};
 ghost use Rattle.history.specs.Locks.{has_table};
 ghost use Rattle.history.specs.declared.call.Call.{Call};
-ghost use Rattle.history.specs.declared.call.Call.TheVariants.{Settle};
+ghost use Rattle.history.specs.declared.call.Call.TheVariants.{Table as OnTable, Control};
+ghost use Rattle.history.specs.declared.call.TableCall.{TableCall};
+ghost use Rattle.history.specs.declared.call.Control.TheVariants.{Settle};
 ghost use Rattle.history.specs.declared.call.Reply.{Reply};
 ghost use Rattle.history.specs.declared.key.Key.{Key};
 ghost use Rattle.history.specs.declared.call.Reply.TheVariants.{Committed, Busy};
 ghost use Rattle.history.specs.declared.transaction.Done.{Done};
 ghost use Rattle.caller_steps.specs.State.{State, Index, unoffered, offered, unsettled, opened, records_of};
-ghost use Rattle.caller_steps.specs.Locked.{Blocks, IsFree, IsBusyWith};
+ghost use Rattle.caller_steps.specs.Locked.{Blocks, IsFree, IsBusyWith, finds_table};
 ghost use Rattle.caller_steps.specs.Cause.{is_of_state, refusal_in, ReplyCause};
 ghost use Rattle.caller_steps.specs.Room.{Limits};
 ghost use Rattle.caller_steps.specs.Purging.{AreFree, Lost, Purges};
@@ -46,10 +48,10 @@ pub fn what_a_step_does()
 /// While a live caller's call on a table that is there clashes with another caller's live transaction, also one that was offered, the reply
 /// is `Busy`, `Dead` or `NoMemory`, and nothing changes.
 pub fn locks_come_first()
-    ensures reply { (limits : Limits) (old new : State) (caller holder : ℕ) (calls : Granted) (call : Call) (reply : Reply) → old.offers caller ≡ unoffered → old.live caller ≡ Some calls → IsTrue (has_table old.names call) → Blocks old caller call holder
-        → Step limits old caller call reply new → IsTrue (may_come_held reply) }
-    ensures unchanged { (limits : Limits) (old new : State) (caller holder : ℕ) (calls : Granted) (call : Call) (reply : Reply) → old.offers caller ≡ unoffered → old.live caller ≡ Some calls → IsTrue (has_table old.names call) → Blocks old caller call holder
-        → Step limits old caller call reply new → new ≡ old }
+    ensures reply { (limits : Limits) (old new : State) (caller holder : ℕ) (calls : Granted) (asked : TableCall) (reply : Reply) → old.offers caller ≡ unoffered → old.live caller ≡ Some calls → IsTrue (has_table old.names asked) → Blocks old caller asked holder
+        → Step limits old caller (OnTable asked) reply new → IsTrue (may_come_held reply) }
+    ensures unchanged { (limits : Limits) (old new : State) (caller holder : ℕ) (calls : Granted) (asked : TableCall) (reply : Reply) → old.offers caller ≡ unoffered → old.live caller ≡ Some calls → IsTrue (has_table old.names asked) → Blocks old caller asked holder
+        → Step limits old caller (OnTable asked) reply new → new ≡ old }
 {}
 
 /// Two replies to one call in one state are equal, also those of an array that is full, except for a fault of the medium, the count of a
@@ -80,10 +82,10 @@ pub fn groups_keep_all_sound()
 /// The number that a settle tells is that of a transaction of its caller's in the history. If no group had committed it before, all that
 /// callers had offered are then committed, as one group behind the history, and the records have the writes of all of it.
 pub fn what_a_settle_commits()
-    ensures told { (limits : Limits) (old new : State) (caller n : ℕ) → IsSound old → Step limits old caller Settle (Committed n) new → IsCommittedAs new.history caller n }
-    ensures group { (limits : Limits) (old new : State) (caller n : ℕ) → old.offers caller ≡ offered → Step limits old caller Settle (Committed n) new
+    ensures told { (limits : Limits) (old new : State) (caller n : ℕ) → IsSound old → Step limits old caller (Control Settle) (Committed n) new → IsCommittedAs new.history caller n }
+    ensures group { (limits : Limits) (old new : State) (caller n : ℕ) → old.offers caller ≡ offered → Step limits old caller (Control Settle) (Committed n) new
         → new.history ≡ old.history ++ group_in old (group_end old (offerers limits.callers old)) (offerers limits.callers old) }
-    ensures all { (limits : Limits) (old new : State) (caller n other : ℕ) → old.offers caller ≡ offered → Step limits old caller Settle (Committed n) new
+    ensures all { (limits : Limits) (old new : State) (caller n other : ℕ) → old.offers caller ≡ offered → Step limits old caller (Control Settle) (Committed n) new
         → other < limits.callers → other ≢ caller → old.offers other ≡ offered → new.offers other ≡ unsettled (group_done old (offerers limits.callers old) other).at }
     ensures records { (state : State) (callers : ℕ) → IsSound state
         → records_of (committed_group state (offerers callers state)) ≡ all_written (records_of state) (group_writes state (offerers callers state)) }
@@ -96,10 +98,10 @@ pub fn what_a_settle_commits()
 pub fn what_a_cause_says()
     ensures so { (limits : Limits) (old : State) (caller : ℕ) (call : Call) (refusal reply : Reply) → refusal_in old caller call ≡ Some refusal → ReplyCause limits old caller call reply → reply ≡ refusal }
     ensures only { (limits : Limits) (old : State) (caller : ℕ) (call : Call) (reply : Reply) → IsTrue (is_of_state reply) → ReplyCause limits old caller call reply → refusal_in old caller call ≡ Some reply }
-    ensures busy { (limits : Limits) (old : State) (caller holder : ℕ) (call : Call) → ReplyCause limits old caller call (Busy holder) → IsBusyWith old caller call holder }
+    ensures busy { (limits : Limits) (old : State) (caller holder : ℕ) (call : Call) → ReplyCause limits old caller call (Busy holder) → (asked : TableCall) × (call ≡ OnTable asked) × IsBusyWith old caller asked holder }
     ensures nobody { (limits : Limits) (old : State) (caller holder : ℕ) (call : Call) → ((other : ℕ) → old.live other ≡ None) → ReplyCause limits old caller call (Busy holder) → ⊥ }
-    ensures tabled { (limits : Limits) (old : State) (caller : ℕ) (call : Call) (reply : Reply) → IsFalse (is_refusal reply) → ReplyCause limits old caller call reply → IsTrue (has_table old.names call) }
-    ensures free { (limits : Limits) (old : State) (caller : ℕ) (call : Call) (reply : Reply) → IsFalse (is_refusal reply) → ReplyCause limits old caller call reply → IsFree old caller call }
+    ensures tabled { (limits : Limits) (old : State) (caller : ℕ) (call : Call) (reply : Reply) → IsFalse (is_refusal reply) → ReplyCause limits old caller call reply → IsTrue (finds_table old.names call) }
+    ensures free { (limits : Limits) (old : State) (caller : ℕ) (asked : TableCall) (reply : Reply) → IsFalse (is_refusal reply) → ReplyCause limits old caller (OnTable asked) reply → IsFree old caller asked }
 {}
 
 /// What a purge takes out: so many keys, each without a record and touched by no live transaction. Each that the index had is tried once.

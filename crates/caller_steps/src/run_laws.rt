@@ -2,7 +2,6 @@
 ghost use Rattle.std.specs.Prelude.{◌≡◌, ◌≢◌, ◌≤◌, ◌<◌, ◌+◌, ◌⊎◌, ◌||◌, ◌++◌, ◌∷◌, [], List, Bool, ℕ, Some, None, false, true, All, IsTrue, IsFalse, length};
 ghost use Rattle.std.specs.List.{AllPairs, list_any};
 ghost use Rattle.history.specs.declared.key.Key.{Key};
-ghost use Rattle.history.specs.Table.{Granted};
 ghost use Rattle.history.specs.declared.call.Call.{Call};
 ghost use Rattle.history.specs.declared.call.Reply.{Reply};
 ghost use Rattle.history.specs.declared.transaction.Done.{Done};
@@ -13,7 +12,7 @@ ghost use Rattle.caller_steps.specs.Room.{Limits, IsShown};
 ghost use Rattle.caller_steps.specs.Step.{Runs, RunsShown};
 ghost use Rattle.caller_steps.specs.Core.{Steps};
 ghost use Rattle.caller_steps.specs.Prefix.{Grows};
-ghost use Rattle.caller_steps.specs.Run.{Turn, GoesAlong, AreOf, turns_of, has_fault, has_write, has_purge, HasNoOthers, LastTurn, IsTurn, IsTold};
+ghost use Rattle.caller_steps.specs.Run.{Turn, Heard, GoesAlong, AreOf, turns_of, has_fault, has_write, has_purge, HasNoOthers, LastTurn, IsTurn, IsTold};
 ghost use Rattle.caller_steps.specs.Own.{own_of, told_of, calls_among, mine_in, doubt_in, KnowsLive};
 ghost use Rattle.caller_steps.specs.Shown.{AreAsked, Change, gained_in, lost_in, Changed, Shows};
 
@@ -69,7 +68,7 @@ pub fn what_was_seen_at_the_last_turn()
 
 /// Where in a run a caller was told something.
 pub fn where_a_caller_was_told()
-    ensures place { (caller : ℕ) (turns : List Turn) (front back : Granted) (entry : Call × Reply) → turns_of caller turns ≡ front ++ entry ∷ back → IsTold caller front entry back turns }
+    ensures place { (caller : ℕ) (turns : List Turn) (front back : Heard) (entry : Call × Reply) → turns_of caller turns ≡ front ++ entry ∷ back → IsTold caller front entry back turns }
     ensures some { (p : Call × Reply → Bool) (callers : ℕ) (turns : List Turn) → AreOf callers turns → IsTrue (list_any (λ (turn : Turn). p (turn.1, turn.2)) turns)
         → (caller : ℕ) × (caller < callers) × IsTrue (list_any p (turns_of caller turns)) }
     ensures each { (p : Call × Reply → Bool) (caller : ℕ) (turns : List Turn) → IsTrue (list_any p (turns_of caller turns)) → IsTrue (list_any (λ (turn : Turn). p (turn.1, turn.2)) turns) }

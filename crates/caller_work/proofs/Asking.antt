@@ -6,10 +6,12 @@ use Rattle.std.proofs.lemmas.Bool.{false≢true, and_parts}
 use Rattle.std.proofs.lemmas.List.Elements.{Contains-append_left, Contains-append_right, Contains-append_cases, Contains-push_cases}
 use mathlib.Core.Logic.{dite}
 use native.Mathlib.Decide.{dec_le}
-use Rattle.history.specs.Table.{Granted}
+use Rattle.caller_steps.specs.Run.{Heard}
 use Rattle.history.specs.Locks.{touches, has_table, clash}
 use Rattle.history.specs.declared.call.Call.{Call}
-use Rattle.history.specs.declared.call.Call.TheVariants.{Begin, Commit, Abort, Offer, Settle}
+use Rattle.history.specs.declared.call.Call.TheVariants.{Begin, Table, Control}
+use Rattle.history.specs.declared.call.TableCall.{TableCall}
+use Rattle.history.specs.declared.call.Control.TheVariants.{Commit, Abort, Offer, Settle}
 use Rattle.history.specs.declared.call.Reply.{Reply}
 use Rattle.history.specs.declared.call.Reply.TheVariants as says
 use Rattle.history.specs.declared.locks.Mode.{Mode}
@@ -19,7 +21,7 @@ use Rattle.stripe_words.specs.Words.{Refuses}
 use Rattle.mars_manager.specs.declared.view.Met.{Met}
 use Rattle.mars_manager.specs.declared.view.Known.{Known}
 use Rattle.mars_manager.specs.Pass.{PassView, names_of}
-use Rattle.mars_manager.specs.Locks.{met, IsAgain, IsBusyBy, IsRefusedFor}
+use Rattle.mars_manager.specs.Locks.{met, locks, IsAgain, IsBusyBy, IsRefusedFor}
 use Rattle.mars_manager.specs.Asked.{IsStepOf, IsUpTo, AsksFor, HasAsked, against, Meets, AreMet, HaveAsked}
 use Rattle.mars_manager.proofs.Asking.{only_one, one_here, none_here, refused_caused}
 use Rattle.caller_plans.specs.declared.plan.Plan.{Plan}
@@ -35,15 +37,15 @@ use Rattle.caller_work.specs.Asked.{IsHit, IsToldOf, HaveCauses}
 pub told_none : (names : List (List ℕ)) (n : ℕ) → IsToldOf names n [] []
 told_none names n = record { named = λ step there. none_here step there; hits = λ call holder there. none_here (call, says.Busy holder) there }
 
-pub told_both : (names : List (List ℕ)) (n : ℕ) (xs ys : Granted) (ms ns : List Met) → IsToldOf names n xs ms → IsToldOf names n ys ns → IsToldOf names n (xs ++ ys) (ms ++ ns)
+pub told_both : (names : List (List ℕ)) (n : ℕ) (xs ys : Heard) (ms ns : List Met) → IsToldOf names n xs ms → IsToldOf names n ys ns → IsToldOf names n (xs ++ ys) (ms ++ ns)
 told_both names n xs ys ms ns a b = record {
   named = λ step there. ⊎_elim
       (λ (first : Contains ms step). let one = a.named step first in (one.0, Contains-append_left xs ys one.0 one.1, one.2))
       (λ (second : Contains ns step). let one = b.named step second in (one.0, Contains-append_right xs ys one.0 one.1, one.2))
       (Contains-append_cases ms ns step there);
   hits = λ call holder there. ⊎_elim
-      (λ (first : Contains xs (call, says.Busy holder)). let hit = a.hits call holder first in record { step = hit.step; asked = hit.asked; there = Contains-append_left ms ns hit.step hit.there; touches_it = hit.touches_it; why = hit.why })
-      (λ (second : Contains ys (call, says.Busy holder)). let hit = b.hits call holder second in record { step = hit.step; asked = hit.asked; there = Contains-append_right ms ns hit.step hit.there; touches_it = hit.touches_it; why = hit.why })
+      (λ (first : Contains xs (call, says.Busy holder)). let hit = a.hits call holder first in record { step = hit.step; asked = hit.asked; there = Contains-append_left ms ns hit.step hit.there; locks_it = hit.locks_it; why = hit.why })
+      (λ (second : Contains ys (call, says.Busy holder)). let hit = b.hits call holder second in record { step = hit.step; asked = hit.asked; there = Contains-append_right ms ns hit.step hit.there; locks_it = hit.locks_it; why = hit.why })
       (Contains-append_cases xs ys (call, says.Busy holder) there);
 }
 
@@ -60,8 +62,7 @@ module _ {C : Type 0} where
         step = x;
         asked = refused.asked;
         there = subst (λ (ms : List Met). Contains ms x) (sym same) (Contains-append_right again.more (r.before ++ x ∷ []) x (Contains-append_right r.before (x ∷ []) x (one_here x)));
-        touches_it = subst (λ (names : List (List ℕ)). touches names call refused.stripe refused.asked ≡ true) (ap (λ (k : Known C). names_of k) again.is)
-            (and_parts (has_table (names_of last) call) (touches (names_of last) call refused.stripe refused.asked) refused.touches_it).1;
+        locks_it = subst (λ (names : List (List ℕ)). locks names call refused.stripe refused.asked ≡ true) (ap (λ (k : Known C). names_of k) again.is) refused.touches_it;
         why = subst (λ i. Refuses refused.asked r.found i h) (ap (λ (k : Known C). k.number) again.is) r.why;
       }
 
@@ -76,54 +77,54 @@ module _ {C : Type 0} where
   }
 
 -- each call that a caller was told of has a property that the calls of its plans have
-module _ (P : Call → Type 0) (begin : P Begin) (commit : P Commit) (abort : P Abort) (offer : P Offer) (settle : P Settle) where
-  abbrev pub AllAre : Granted → Type 0
+module _ (P : Call → Type 0) (begin : P Begin) (commit : P (Control Commit)) (abort : P (Control Abort)) (offer : P (Control Offer)) (settle : P (Control Settle)) where
+  abbrev pub AllAre : Heard → Type 0
   AllAre told = (entry : Call × Reply) → Contains told entry → P entry.0
 
-  are_none : (told : Granted) → told ≡ [] → AllAre told
-  are_none told is entry there = none_here entry (subst (λ (l : Granted). Contains l entry) is there)
+  are_none : (told : Heard) → told ≡ [] → AllAre told
+  are_none told is entry there = none_here entry (subst (λ (l : Heard). Contains l entry) is there)
 
-  are_both : (told front back : Granted) → told ≡ front ++ back → AllAre front → AllAre back → AllAre told
-  are_both told front back is a b entry there = ⊎_elim (a entry) (b entry) (Contains-append_cases front back entry (subst (λ (l : Granted). Contains l entry) is there))
+  are_both : (told front back : Heard) → told ≡ front ++ back → AllAre front → AllAre back → AllAre told
+  are_both told front back is a b entry there = ⊎_elim (a entry) (b entry) (Contains-append_cases front back entry (subst (λ (l : Heard). Contains l entry) is there))
 
-  are_one : (told : Granted) (call : Call) (reply : Reply) → told ≡ (call, reply) ∷ [] → P call → AllAre told
-  are_one told call reply is holds entry there = subst (λ (x : Call × Reply). P x.0) (only_one (call, reply) entry (subst (λ (l : Granted). Contains l entry) is there)) holds
+  are_one : (told : Heard) (call : Call) (reply : Reply) → told ≡ (call, reply) ∷ [] → P call → AllAre told
+  are_one told call reply is holds entry there = subst (λ (x : Call × Reply). P x.0) (only_one (call, reply) entry (subst (λ (l : Heard). Contains l entry) is there)) holds
 
-  ending : (ends : PlanEnd) (told : Granted) (made : Result Fate Reply) → Ends ends told made → AllAre told
-  ending end.Commit told made (reply, is, outcome) = are_one told Commit reply is commit
-  ending end.Abort told made (reply, is, outcome) = are_one told Abort reply is abort
-  ending end.Unended told made (reply, is, outcome) = are_one told Abort reply is abort
-  ending end.Offer told made (reply, rest, is, follows) = are_both told ((Offer, reply) ∷ []) rest is (are_one ((Offer, reply) ∷ []) Offer reply refl offer) (go (is_refusal reply) follows)
+  ending : (ends : PlanEnd) (told : Heard) (made : Result Fate Reply) → Ends ends told made → AllAre told
+  ending end.Commit told made (reply, is, outcome) = are_one told (Control Commit) reply is commit
+  ending end.Abort told made (reply, is, outcome) = are_one told (Control Abort) reply is abort
+  ending end.Unended told made (reply, is, outcome) = are_one told (Control Abort) reply is abort
+  ending end.Offer told made (reply, rest, is, follows) = are_both told ((Control Offer, reply) ∷ []) rest is (are_one ((Control Offer, reply) ∷ []) (Control Offer) reply refl offer) (go (is_refusal reply) follows)
     where
-      go : (b : Bool) → MatchBool b ((rest ≡ []) × (made ≡ Err reply)) (IsOne Settle (end_outcome end.Offer) rest made) → AllAre rest
+      go : (b : Bool) → MatchBool b ((rest ≡ []) × (made ≡ Err reply)) (IsOne (Control Settle) (end_outcome end.Offer) rest made) → AllAre rest
       go true (none, outcome) = are_none rest none
-      go false (answer, one, outcome) = are_one rest Settle answer one settle
+      go false (answer, one, outcome) = are_one rest (Control Settle) answer one settle
 
-  given_up : (reply : Reply) (told : Granted) (made : Result Fate Reply) → (b : Bool) → MatchBool b ((told ≡ []) × (made ≡ Err reply)) (IsOne Abort (λ answer. if is_refusal answer then Err answer else refusal_outcome reply) told made) → AllAre told
+  given_up : (reply : Reply) (told : Heard) (made : Result Fate Reply) → (b : Bool) → MatchBool b ((told ≡ []) × (made ≡ Err reply)) (IsOne (Control Abort) (λ answer. if is_refusal answer then Err answer else refusal_outcome reply) told made) → AllAre told
   given_up reply told made true (none, is) = are_none told none
-  given_up reply told made false (answer, one, is) = are_one told Abort answer one abort
+  given_up reply told made false (answer, one, is) = are_one told (Control Abort) answer one abort
 
-  either_way : (calls : List Call) (ends : PlanEnd) (reply : Reply) (rest : Granted) (made : Result Fate Reply) (b : Bool) → MatchBool b (GivesUp reply rest made) (Takes calls ends rest made) → (Takes calls ends rest made → AllAre rest) → AllAre rest
+  either_way : (calls : List TableCall) (ends : PlanEnd) (reply : Reply) (rest : Heard) (made : Result Fate Reply) (b : Bool) → MatchBool b (GivesUp reply rest made) (Takes calls ends rest made) → (Takes calls ends rest made → AllAre rest) → AllAre rest
   either_way calls ends reply rest made true gives on = given_up reply rest made (is_last reply) gives
   either_way calls ends reply rest made false takes on = on takes
 
-  taken : (calls : List Call) (ends : PlanEnd) (told : Granted) (made : Result Fate Reply) → ((call : Call) → Contains calls call → P call) → Takes calls ends told made → AllAre told
+  taken : (calls : List TableCall) (ends : PlanEnd) (told : Heard) (made : Result Fate Reply) → ((call : TableCall) → Contains calls call → P (Table call)) → Takes calls ends told made → AllAre told
   taken [] ends told made each last = ending ends told made last
-  taken (call ∷ calls) ends told made each (reply, rest, is, more) = are_both told ((call, reply) ∷ []) rest is (are_one ((call, reply) ∷ []) call reply refl (each call (Contains-append_left (call ∷ []) calls call (one_here call))))
+  taken (call ∷ calls) ends told made each (reply, rest, is, more) = are_both told ((Table call, reply) ∷ []) rest is (are_one ((Table call, reply) ∷ []) (Table call) reply refl (each call (Contains-append_left (call ∷ []) calls call (one_here call))))
       (either_way calls ends reply rest made (is_refusal reply) more (λ takes. taken calls ends rest made (λ other there. each other (Contains-append_right (call ∷ []) calls other there)) takes))
 
-  tried : (plan : Plan) (told : Granted) (made : Result Fate Reply) → ((call : Call) → Contains plan.calls call → P call) → IsTry plan told made → AllAre told
-  tried plan told made each trial = taken (Begin ∷ plan.calls) plan.end told made
-      (λ call there. ⊎_elim (λ (first : Contains (Begin ∷ []) call). subst P (only_one Begin call first) begin) (each call) (Contains-append_cases (Begin ∷ []) plan.calls call there)) trial
+  tried : (plan : Plan) (told : Heard) (made : Result Fate Reply) → ((call : TableCall) → Contains plan.calls call → P (Table call)) → IsTry plan told made → AllAre told
+  tried plan told made each (reply, rest, is, more) = are_both told ((Begin, reply) ∷ []) rest is (are_one ((Begin, reply) ∷ []) Begin reply refl begin)
+      (either_way plan.calls plan.end reply rest made (is_refusal reply) more (λ takes. taken plan.calls plan.end rest made each takes))
 
-  held_up : (plan : Plan) (n : ℕ) (told : Granted) → ((call : Call) → Contains plan.calls call → P call) → AreHeldUp plan n told → AllAre told
+  held_up : (plan : Plan) (n : ℕ) (told : Heard) → ((call : TableCall) → Contains plan.calls call → P (Table call)) → AreHeldUp plan n told → AllAre told
   held_up plan zero told each none = are_none told none
   held_up plan (suc n) told each (front, last, holder, is, held, trial) = are_both told front last is (held_up plan n front each held) (tried plan last (Err (says.Busy holder)) each trial)
 
-  made_as : (tries : Tries) (plan : Plan) (told : Granted) (made : Result Fate Reply) → ((call : Call) → Contains plan.calls call → P call) → IsMade tries plan told made → AllAre told
+  made_as : (tries : Tries) (plan : Plan) (told : Heard) (made : Result Fate Reply) → ((call : TableCall) → Contains plan.calls call → P (Table call)) → IsMade tries plan told made → AllAre told
   made_as tries plan told made each (held, front, last, is, holds, trial, allows) = are_both told front last is (held_up plan held front each holds) (tried plan last made each trial)
 
-  worked : (tries : Tries) (plans : List Plan) (told : Granted) (fates : List Fate) (stopped : Option Reply) → ((plan : Plan) → Contains plans plan → (call : Call) → Contains plan.calls call → P call) → Works tries plans told fates stopped → AllAre told
+  worked : (tries : Tries) (plans : List Plan) (told : Heard) (fates : List Fate) (stopped : Option Reply) → ((plan : Plan) → Contains plans plan → (call : TableCall) → Contains plan.calls call → P (Table call)) → Works tries plans told fates stopped → AllAre told
   worked tries [] told [] stopped each (none, is) = are_none told none
   worked tries [] told (fate ∷ fates) stopped each never = absurd never
   worked tries (plan ∷ plans) told [] stopped each (reply, is, made) = made_as tries plan told (Err reply) (each plan (Contains-append_left (plan ∷ []) plans plan (one_here plan))) made
@@ -137,35 +138,46 @@ module _ (P : Call → Type 0) (begin : P Begin) (commit : P Commit) (abort : P 
   in_drop (suc n) [] plan there = there
   in_drop (suc n) (first ∷ plans) plan there = Contains-append_right (first ∷ []) plans plan (in_drop n plans plan there)
 
-  pub all_worked : (tries : Tries) (plans : List Plan) (told : Granted) (fates : List Fate) (stopped : Option Reply) → ((plan : Plan) → Contains plans plan → (call : Call) → Contains plan.calls call → P call) → IsWork tries plans told fates stopped → AllAre told
+  pub all_worked : (tries : Tries) (plans : List Plan) (told : Heard) (fates : List Fate) (stopped : Option Reply) → ((plan : Plan) → Contains plans plan → (call : TableCall) → Contains plan.calls call → P (Table call)) → IsWork tries plans told fates stopped → AllAre told
   all_worked tries plans told fates stopped each (inl works) = worked tries plans told fates stopped each works
   all_worked tries plans told fates stopped each (inr (front, back, early, late, holder, is, are, first, second)) = are_both told front back is
       (worked tries plans front early (Some (says.Busy holder)) each first)
       (worked NoLimit (drop (length early) plans) back late stopped (λ plan there. each plan (in_drop (length early) plans plan there)) second)
 
 -- a call of one of the plans is among the calls of all
-abbrev pub calls_in : List Plan → List Call
+abbrev pub calls_in : List Plan → List TableCall
 calls_in plans = flat_map (λ (plan : Plan). plan.calls) plans
 
-in_plans : (plans : List Plan) (plan : Plan) (call : Call) → Contains plans plan → Contains plan.calls call → Contains (calls_in plans) call
+in_plans : (plans : List Plan) (plan : Plan) (call : TableCall) → Contains plans plan → Contains plan.calls call → Contains (calls_in plans) call
 in_plans [] plan call there its = absurd (omega (arith, there.1))
 in_plans (first ∷ plans) plan call there its = ⊎_elim
     (λ here. ⊎_elim (λ none. absurd (omega (arith, none.1)))
     (λ same. Contains-append_left first.calls (calls_in plans) call (subst (λ (p : Plan). Contains p.calls call) (sym same) its)) (Contains-push_cases [] first plan here))
     (λ behind. Contains-append_right first.calls (calls_in plans) call (in_plans plans plan call behind its)) (Contains-append_cases (first ∷ []) plans plan there)
 
--- a call that a caller was told of and that touches a stripe is one of its plans'
-pub planned_by : (names : List (List ℕ)) (tries : Tries) (plans : List Plan) (told : Granted) (fates : List Fate) (stopped : Option Reply) → IsWork tries plans told fates stopped → (entry : Call × Reply) → Contains told entry → (t : ℕ) (asked : Mode) → touches names entry.0 t asked ≡ true → Contains (calls_in plans) entry.0
-planned_by names tries plans told fates stopped work entry there t asked touch = all_worked (λ (call : Call). (t : ℕ) (asked : Mode) → touches names call t asked ≡ true → Contains (calls_in plans) call)
+-- a call that locks a stripe is one on a table
+on_table : (names : List (List ℕ)) (call : Call) (t : ℕ) (asked : Mode) → locks names call t asked ≡ true → (its : TableCall) × (call ≡ Table its)
+on_table names (Table its) t asked e = (its, refl)
+on_table names Begin t asked e = absurd (false≢true e)
+on_table names (Control control) t asked e = absurd (false≢true e)
+
+-- it touches it
+touched : (names : List (List ℕ)) (call : Call) (its : TableCall) (t : ℕ) (asked : Mode) → call ≡ Table its → locks names call t asked ≡ true → touches names its t asked ≡ true
+touched names call its t asked is e = (and_parts (has_table names its) (touches names its t asked) (subst (λ (c : Call). locks names c t asked ≡ true) is e)).1
+
+-- and if a caller was told of it, it is one of its plans'
+pub planned_by : (names : List (List ℕ)) (tries : Tries) (plans : List Plan) (told : Heard) (fates : List Fate) (stopped : Option Reply) → IsWork tries plans told fates stopped → (entry : Call × Reply) → Contains told entry
+    → (t : ℕ) (asked : Mode) → locks names entry.0 t asked ≡ true → (its : TableCall) × (entry.0 ≡ Table its) × Contains (calls_in plans) its
+planned_by names tries plans told fates stopped work entry there t asked lock = all_worked (λ (call : Call). (t : ℕ) (asked : Mode) → locks names call t asked ≡ true → (its : TableCall) × (call ≡ Table its) × Contains (calls_in plans) its)
     (λ t asked e. absurd (false≢true e)) (λ t asked e. absurd (false≢true e)) (λ t asked e. absurd (false≢true e)) (λ t asked e. absurd (false≢true e)) (λ t asked e. absurd (false≢true e)) tries plans told fates stopped
-    (λ plan has call its t asked e. in_plans plans plan call has its) work entry there t asked touch
+    (λ plan has call its t asked e. (call, refl, in_plans plans plan call has its)) work entry there t asked lock
 
 or_right : (a b : Bool) → b ≡ true → (a || b) ≡ true
 or_right true b e = refl
 or_right false b e = e
 
 -- two calls that touch a stripe, the second in a mode that refuses the first
-clashing : (names : List (List ℕ)) (call its : Call) (t : ℕ) (asked other : Mode) → touches names call t asked ≡ true → touches names its t other ≡ true → IsUpTo (against asked) other → clash (touches names call t) (touches names its t) ≡ true
+clashing : (names : List (List ℕ)) (call its : TableCall) (t : ℕ) (asked other : Mode) → touches names call t asked ≡ true → touches names its t other ≡ true → IsUpTo (against asked) other → clash (touches names call t) (touches names its t) ≡ true
 clashing names call its t mode.Shared other reads touch up =
     let writes : touches names its t mode.Exclusive ≡ true = ap (touches names its t) (sym up) ∙ touch in
     second (touches names call t mode.Exclusive) (touches names call t mode.Shared) (touches names its t mode.Exclusive) (touches names its t mode.Shared) reads writes
@@ -205,7 +217,7 @@ module _ {C : Type 0} where
   met_at met (q ∷ passes) (suc i) p a within = met_at met passes i p a.1 (omega arith)
 
   -- why a caller was told `Busy`, from what all passes asked for and what each caller was told
-  pub causes_of : (callers : ℕ) (names : List (List ℕ)) (plans : ℕ → List Plan) (tries : Tries) (passes : List (PassView C)) (p : PassView C) (told : (k : ℕ) → k < callers → Granted) (fates : ℕ → List Fate) (stopped : ℕ → Option Reply) → HaveAsked callers passes → callers ≤ length passes
+  pub causes_of : (callers : ℕ) (names : List (List ℕ)) (plans : ℕ → List Plan) (tries : Tries) (passes : List (PassView C)) (p : PassView C) (told : (k : ℕ) → k < callers → Heard) (fates : ℕ → List Fate) (stopped : ℕ → Option Reply) → HaveAsked callers passes → callers ≤ length passes
       → ((k : ℕ) → k < callers → (get_or passes k p).known.number ≡ k) → ((k : ℕ) (l : k < callers) → IsToldOf names k (told k l) (get_or passes k p).known.met) → ((k : ℕ) (l : k < callers) → IsWork tries (plans k) (told k l) (fates k) (stopped k))
       → (k : ℕ) (within : k < callers) → HaveCauses callers names plans k (told k within)
   causes_of callers names plans tries passes p told fates stopped asked many numbers tells works k within call h there =
@@ -220,14 +232,21 @@ module _ {C : Type 0} where
       let entry = one.0 in
       let step = one.2 in
       let place = asked_at (against hit.asked) hit.step.stripe his.0 his.2 in
-      let touch : touches names entry.0 hit.step.stripe step.0 ≡ true = subst (λ t. touches names entry.0 t step.0 ≡ true) place (and_parts (has_table names entry.0) (touches names entry.0 his.0.stripe step.0) step.1).1 in record {
-        among = among;
-        other = other hit.asked hit.step.found hit.why;
-        its = entry.0;
-        planned = planned_by names tries (plans h) (told h among) (fates h) (stopped h) (works h among) entry one.1 hit.step.stripe step.0 touch;
-        stripe = hit.step.stripe;
-        clashes = clashing names call entry.0 hit.step.stripe hit.asked step.0 hit.touches_it touch (asked_up (against hit.asked) hit.step.stripe his.0 step.0 his.2 step.2);
-      }
+      let lock : locks names entry.0 hit.step.stripe step.0 ≡ true = subst (λ t. locks names entry.0 t step.0 ≡ true) place step.1 in
+      let its = planned_by names tries (plans h) (told h among) (fates h) (stopped h) (works h among) entry one.1 hit.step.stripe step.0 lock in
+      let made = on_table names call hit.step.stripe hit.asked hit.locks_it in (
+        made.0,
+        made.1,
+        record {
+          among = among;
+          other = other hit.asked hit.step.found hit.why;
+          its = its.0;
+          planned = its.2;
+          stripe = hit.step.stripe;
+          clashes = clashing names made.0 its.0 hit.step.stripe hit.asked step.0 (touched names call made.0 hit.step.stripe hit.asked made.1 hit.locks_it)
+              (touched names entry.0 its.0 hit.step.stripe step.0 its.1 lock) (asked_up (against hit.asked) hit.step.stripe his.0 step.0 his.2 step.2);
+        },
+      )
     where
       other : (asked : Mode) (found : ℕ) → Refuses asked found k h → h ≢ k
       other mode.Shared found why = why.other

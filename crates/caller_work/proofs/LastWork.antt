@@ -3,7 +3,7 @@ use Rattle.std.proofs.Common.{◌≡◌, ◌⊎◌, inl, inr, ℕ, List, ◌++�
 use Rattle.history.specs.declared.call.Reply.{Reply}
 use Rattle.history.specs.declared.call.Reply.TheVariants as says
 use Rattle.std.specs.Prelude.{option_map}
-use Rattle.history.specs.Table.{Granted}
+use Rattle.caller_steps.specs.Run.{Heard}
 use Rattle.mars_manager.specs.Pass.{PassView, names_in, names_of}
 use Rattle.mars_manager.specs.declared.view.Met.{Met}
 use Rattle.mars_manager.specs.Locks.{steps_of}
@@ -76,7 +76,7 @@ module _ {C : Type 0} (mars : MarsView C) (caller : ℕ) (was now : Worker C) (e
             number = worked.works.same.number ∙ left.number;
             works = (
               left.works.0 ++ worked.works.more,
-              worked.works.told ∙ ap (λ (l : Granted). l ++ steps_of worked.works.more) left.works.1 ∙ sym (steps_both left.works.0 worked.works.more),
+              worked.works.told ∙ ap (λ (l : Heard). l ++ steps_of worked.works.more) left.works.1 ∙ sym (steps_both left.works.0 worked.works.more),
               inr (
                 left.works.0,
                 worked.works.more,

@@ -3,9 +3,10 @@ use Rattle.std.proofs.Common.{◌≡◌, ℕ, suc, ◌-◌, ◌<◌, ◌≤◌, 
 use Rattle.std.specs.Prelude.{MatchBool, nat_lt, if◌then◌else◌}
 use Rattle.std.proofs.lemmas.Bool.{true≢false}
 use Rattle.std.proofs.lemmas.Bool.Decides.{nat_tests}
-use Rattle.history.specs.Table.{Granted}
-use Rattle.history.specs.declared.call.Call.{Call}
-use Rattle.history.specs.declared.call.Call.TheVariants.{Abort, Offer, Settle}
+use Rattle.caller_steps.specs.Run.{Heard}
+use Rattle.history.specs.declared.call.Call.TheVariants.{Begin, Table, Control}
+use Rattle.history.specs.declared.call.TableCall.{TableCall}
+use Rattle.history.specs.declared.call.Control.TheVariants.{Abort, Offer, Settle}
 use Rattle.history.specs.declared.call.Reply.{Reply}
 use Rattle.history.specs.declared.call.Reply.TheVariants as says
 use Rattle.caller_steps.specs.Fate.{is_refusal}
@@ -28,18 +29,18 @@ pub held_by_none : (made : Result Fate Reply) → is_held_up made ≡ false → 
 held_by_none made free holder is = true≢false (sym (ap is_held_up is) ∙ free)
 
 -- a call that was granted, and what follows it
-pub granted_more : (call : Call) (calls all : List Call) (reply : Reply) (rest : Granted) → all ≡ call ∷ calls → is_refusal reply ≡ false → AreGranted calls rest → AreGranted all ((call, reply) ∷ rest)
-granted_more call calls all reply rest is free others = subst (λ (l : List Call). AreGranted l ((call, reply) ∷ rest)) (sym is) (reply, rest, refl, free, others)
+pub granted_more : (call : TableCall) (calls all : List TableCall) (reply : Reply) (rest : Heard) → all ≡ call ∷ calls → is_refusal reply ≡ false → AreGranted calls rest → AreGranted all ((Table call, reply) ∷ rest)
+granted_more call calls all reply rest is free others = subst (λ (l : List TableCall). AreGranted l ((Table call, reply) ∷ rest)) (sym is) (reply, rest, refl, free, others)
 
-pub refused_more : (call : Call) (calls all : List Call) (reply refusal : Reply) (rest : Granted) → all ≡ call ∷ calls → is_refusal reply ≡ false → IsRefused calls refusal rest → IsRefused all refusal ((call, reply) ∷ rest)
-refused_more call calls all reply refusal rest is free others = subst (λ (l : List Call). IsRefused l refusal ((call, reply) ∷ rest)) (sym is) (reply, rest, refl, inl (free, others))
+pub refused_more : (call : TableCall) (calls all : List TableCall) (reply refusal : Reply) (rest : Heard) → all ≡ call ∷ calls → is_refusal reply ≡ false → IsRefused calls refusal rest → IsRefused all refusal ((Table call, reply) ∷ rest)
+refused_more call calls all reply refusal rest is free others = subst (λ (l : List TableCall). IsRefused l refusal ((Table call, reply) ∷ rest)) (sym is) (reply, rest, refl, inl (free, others))
 
 -- a call that was refused
-pub refused_now : (call : Call) (calls all : List Call) (reply : Reply) → all ≡ call ∷ calls → is_refusal reply ≡ true → IsRefused all reply ((call, reply) ∷ [])
-refused_now call calls all reply is refused = subst (λ (l : List Call). IsRefused l reply ((call, reply) ∷ [])) (sym is) (reply, [], refl, inr (refused, refl, refl))
+pub refused_now : (call : TableCall) (calls all : List TableCall) (reply : Reply) → all ≡ call ∷ calls → is_refusal reply ≡ true → IsRefused all reply ((Table call, reply) ∷ [])
+refused_now call calls all reply is refused = subst (λ (l : List TableCall). IsRefused l reply ((Table call, reply) ∷ [])) (sym is) (reply, [], refl, inr (refused, refl, refl))
 
-pub granted_none : (all : List Call) → all ≡ [] → AreGranted all []
-granted_none all is = subst (λ (l : List Call). AreGranted l []) (sym is) refl
+pub granted_none : (all : List TableCall) → all ≡ [] → AreGranted all []
+granted_none all is = subst (λ (l : List TableCall). AreGranted l []) (sym is) refl
 
 match_false : (b : Bool) (P Q : Type 0) → b ≡ false → Q → MatchBool b P Q
 match_false true P Q e q = absurd (true≢false e)
@@ -50,57 +51,64 @@ match_true true P Q e p = p
 match_true false P Q e p = absurd (true≢false (sym e))
 
 -- a call that is granted, before others
-pub takes_more : (call : Call) (calls : List Call) (ends : PlanEnd) (reply : Reply) (rest : Granted) (made : Result Fate Reply) → is_refusal reply ≡ false → Takes calls ends rest made → Takes (call ∷ calls) ends ((call, reply) ∷ rest) made
+pub takes_more : (call : TableCall) (calls : List TableCall) (ends : PlanEnd) (reply : Reply) (rest : Heard) (made : Result Fate Reply) → is_refusal reply ≡ false → Takes calls ends rest made → Takes (call ∷ calls) ends ((Table call, reply) ∷ rest) made
 takes_more call calls ends reply rest made free others = (reply, rest, refl, match_false (is_refusal reply) (GivesUp reply rest made) (Takes calls ends rest made) free others)
 
 -- one that is refused
-pub takes_refused : (call : Call) (calls : List Call) (ends : PlanEnd) (reply : Reply) (rest : Granted) (made : Result Fate Reply) → is_refusal reply ≡ true → GivesUp reply rest made → Takes (call ∷ calls) ends ((call, reply) ∷ rest) made
+pub takes_refused : (call : TableCall) (calls : List TableCall) (ends : PlanEnd) (reply : Reply) (rest : Heard) (made : Result Fate Reply) → is_refusal reply ≡ true → GivesUp reply rest made → Takes (call ∷ calls) ends ((Table call, reply) ∷ rest) made
 takes_refused call calls ends reply rest made refused gives = (reply, rest, refl, match_true (is_refusal reply) (GivesUp reply rest made) (Takes calls ends rest made) refused gives)
 
 -- all were granted, and then come those that end it
-pub takes_all : (calls : List Call) (ends : PlanEnd) (asked end : Granted) (made : Result Fate Reply) → AreGranted calls asked → Ends ends end made → Takes calls ends (asked ++ end) made
-takes_all [] ends asked end made none one = subst (λ (l : Granted). Ends ends (l ++ end) made) (sym none) one
+pub takes_all : (calls : List TableCall) (ends : PlanEnd) (asked end : Heard) (made : Result Fate Reply) → AreGranted calls asked → Ends ends end made → Takes calls ends (asked ++ end) made
+takes_all [] ends asked end made none one = subst (λ (l : Heard). Ends ends (l ++ end) made) (sym none) one
 takes_all (call ∷ calls) ends asked end made (reply, rest, is, free, others) one =
-    subst (λ (l : Granted). Takes (call ∷ calls) ends (l ++ end) made) (sym is) (takes_more call calls ends reply (rest ++ end) made free (takes_all calls ends rest end made others one))
+    subst (λ (l : Heard). Takes (call ∷ calls) ends (l ++ end) made) (sym is) (takes_more call calls ends reply (rest ++ end) made free (takes_all calls ends rest end made others one))
 
-abbrev nothing : Granted
+-- a try whose begin is granted, and one whose begin is refused
+pub try_goes : (plan : Plan) (reply : Reply) (rest : Heard) (made : Result Fate Reply) → is_refusal reply ≡ false → Takes plan.calls plan.end rest made → IsTry plan ((Begin, reply) ∷ rest) made
+try_goes plan reply rest made free others = (reply, rest, refl, match_false (is_refusal reply) (GivesUp reply rest made) (Takes plan.calls plan.end rest made) free others)
+
+pub try_stops : (plan : Plan) (reply : Reply) (rest : Heard) (made : Result Fate Reply) → is_refusal reply ≡ true → GivesUp reply rest made → IsTry plan ((Begin, reply) ∷ rest) made
+try_stops plan reply rest made refused gives = (reply, rest, refl, match_true (is_refusal reply) (GivesUp reply rest made) (Takes plan.calls plan.end rest made) refused gives)
+
+abbrev nothing : Heard
 nothing = []
 
 abbrev stopped_by : Reply → Result Fate Reply
 stopped_by reply = Err reply
 
 -- it is not offered: one call ends it
-pub ends_alone : (ends : PlanEnd) (told : Granted) (made : Result Fate Reply) → (ends ≡ end.Offer → ⊥) → IsOne (end_call ends) (end_outcome ends) told made → Ends ends told made
+pub ends_alone : (ends : PlanEnd) (told : Heard) (made : Result Fate Reply) → (ends ≡ end.Offer → ⊥) → IsOne (Control (end_call ends)) (end_outcome ends) told made → Ends ends told made
 ends_alone end.Offer told made ne one = absurd (ne refl)
 ends_alone end.Commit told made ne one = one
 ends_alone end.Abort told made ne one = one
 ends_alone end.Unended told made ne one = one
 
 -- it is offered, and the offer is refused, or it is settled then
-pub ends_refused : (ends : PlanEnd) (reply : Reply) → ends ≡ end.Offer → is_refusal reply ≡ true → Ends ends ((Offer, reply) ∷ []) (Err reply)
-ends_refused ends reply is refused = subst (λ (e : PlanEnd). Ends e ((Offer, reply) ∷ []) (Err reply)) (sym is)
-    (reply, [], refl, match_true (is_refusal reply) ((nothing ≡ []) × (stopped_by reply ≡ Err reply)) (IsOne Settle (end_outcome end.Offer) nothing (stopped_by reply)) refused (refl, refl))
+pub ends_refused : (ends : PlanEnd) (reply : Reply) → ends ≡ end.Offer → is_refusal reply ≡ true → Ends ends ((Control Offer, reply) ∷ []) (Err reply)
+ends_refused ends reply is refused = subst (λ (e : PlanEnd). Ends e ((Control Offer, reply) ∷ []) (Err reply)) (sym is)
+    (reply, [], refl, match_true (is_refusal reply) ((nothing ≡ []) × (stopped_by reply ≡ Err reply)) (IsOne (Control Settle) (end_outcome end.Offer) nothing (stopped_by reply)) refused (refl, refl))
 
-pub ends_settled : (ends : PlanEnd) (reply answer : Reply) → ends ≡ end.Offer → is_refusal reply ≡ false → Ends ends ((Offer, reply) ∷ (end_call ends, answer) ∷ []) (end_outcome ends answer)
-ends_settled ends reply answer is free = subst (λ (e : PlanEnd). Ends e ((Offer, reply) ∷ (end_call e, answer) ∷ []) (end_outcome e answer)) (sym is)
-    (reply, (Settle, answer) ∷ [], refl, match_false (is_refusal reply) (((Settle, answer) ∷ [] ≡ []) × (end_outcome end.Offer answer ≡ Err reply)) (IsOne Settle (end_outcome end.Offer) ((Settle, answer) ∷ []) (end_outcome end.Offer answer)) free (answer, refl, refl))
+pub ends_settled : (ends : PlanEnd) (reply answer : Reply) → ends ≡ end.Offer → is_refusal reply ≡ false → Ends ends ((Control Offer, reply) ∷ (Control (end_call ends), answer) ∷ []) (end_outcome ends answer)
+ends_settled ends reply answer is free = subst (λ (e : PlanEnd). Ends e ((Control Offer, reply) ∷ (Control (end_call e), answer) ∷ []) (end_outcome e answer)) (sym is)
+    (reply, (Control Settle, answer) ∷ [], refl, match_false (is_refusal reply) (((Control Settle, answer) ∷ [] ≡ []) × (end_outcome end.Offer answer ≡ Err reply)) (IsOne (Control Settle) (end_outcome end.Offer) ((Control Settle, answer) ∷ []) (end_outcome end.Offer answer)) free (answer, refl, refl))
 
 -- one of them was refused, and then the try was given up
-pub takes_some : (calls : List Call) (ends : PlanEnd) (refusal : Reply) (asked end : Granted) (made : Result Fate Reply) → IsRefused calls refusal asked → GivesUp refusal end made → Takes calls ends (asked ++ end) made
+pub takes_some : (calls : List TableCall) (ends : PlanEnd) (refusal : Reply) (asked end : Heard) (made : Result Fate Reply) → IsRefused calls refusal asked → GivesUp refusal end made → Takes calls ends (asked ++ end) made
 takes_some [] ends refusal asked end made refused gives = absurd refused
 takes_some (call ∷ calls) ends refusal asked end made (reply, rest, is, inl (free, others)) gives =
-    subst (λ (l : Granted). Takes (call ∷ calls) ends (l ++ end) made) (sym is) (takes_more call calls ends reply (rest ++ end) made free (takes_some calls ends refusal rest end made others gives))
+    subst (λ (l : Heard). Takes (call ∷ calls) ends (l ++ end) made) (sym is) (takes_more call calls ends reply (rest ++ end) made free (takes_some calls ends refusal rest end made others gives))
 takes_some (call ∷ calls) ends refusal asked end made (reply, rest, is, inr (refused, none, same)) gives =
-    subst (λ (l : Granted). Takes (call ∷ calls) ends (l ++ end) made) (sym is)
-    (takes_refused call calls ends reply (rest ++ end) made refused (subst (λ (r : Reply). GivesUp r (rest ++ end) made) same (subst (λ (l : Granted). GivesUp refusal (l ++ end) made) (sym none) gives)))
+    subst (λ (l : Heard). Takes (call ∷ calls) ends (l ++ end) made) (sym is)
+    (takes_refused call calls ends reply (rest ++ end) made refused (subst (λ (r : Reply). GivesUp r (rest ++ end) made) same (subst (λ (l : Heard). GivesUp refusal (l ++ end) made) (sym none) gives)))
 
 -- a refusal after which the worker makes no call, and one for which it aborts
 pub gives_last : (reply : Reply) → is_last reply ≡ true → GivesUp reply [] (Err reply)
-gives_last reply last = subst (λ (b : Bool). MatchBool b ((nothing ≡ []) × (stopped_by reply ≡ Err reply)) (IsOne Abort (λ answer. if is_refusal answer then Err answer else refusal_outcome reply) nothing (stopped_by reply))) (sym last) (refl, refl)
+gives_last reply last = subst (λ (b : Bool). MatchBool b ((nothing ≡ []) × (stopped_by reply ≡ Err reply)) (IsOne (Control Abort) (λ answer. if is_refusal answer then Err answer else refusal_outcome reply) nothing (stopped_by reply))) (sym last) (refl, refl)
 
-pub gives_aborted : (reply answer : Reply) (made : Result Fate Reply) → is_last reply ≡ false → made ≡ (if is_refusal answer then Err answer else refusal_outcome reply) → GivesUp reply ((Abort, answer) ∷ []) made
+pub gives_aborted : (reply answer : Reply) (made : Result Fate Reply) → is_last reply ≡ false → made ≡ (if is_refusal answer then Err answer else refusal_outcome reply) → GivesUp reply ((Control Abort, answer) ∷ []) made
 gives_aborted reply answer made goes is =
-    match_false (is_last reply) (((Abort, answer) ∷ [] ≡ []) × (made ≡ Err reply)) (IsOne Abort (λ answer. if is_refusal answer then Err answer else refusal_outcome reply) ((Abort, answer) ∷ []) made) goes (answer, refl, is)
+    match_false (is_last reply) (((Control Abort, answer) ∷ [] ≡ []) × (made ≡ Err reply)) (IsOne (Control Abort) (λ answer. if is_refusal answer then Err answer else refusal_outcome reply) ((Control Abort, answer) ∷ []) made) goes (answer, refl, is)
 
 pub pick_true : {X : Type 0} (b : Bool) (x y : X) → b ≡ true → x ≡ (if b then x else y)
 pick_true true x y e = refl
@@ -167,22 +175,22 @@ allows_one NoLimit (Err (says.Busy holder)) some free = absurd (free holder refl
 allows_one NoLimit (Err reply) some free = tt
 
 -- a plan made in one try more than a rest of its tries says
-pub made_more : (plan : Plan) (tries : Tries) (n : ℕ) (front one : Granted) (made : Result Fate Reply) → AreHeldUp plan n front → IsTry plan one made → Allows tries n made → IsMade tries plan (front ++ one) made
+pub made_more : (plan : Plan) (tries : Tries) (n : ℕ) (front one : Heard) (made : Result Fate Reply) → AreHeldUp plan n front → IsTry plan one made → Allows tries n made → IsMade tries plan (front ++ one) made
 made_more plan tries n front one made held last count = (n, front, one, refl, held, last, count)
 
 -- the plans from one on, whose first is made
-pub works_more : (tries : Tries) (plan : Plan) (plans all : List Plan) (front back : Granted) (fate : Fate) (fates : List Fate) (stopped : Option Reply) → all ≡ plan ∷ plans → IsMade tries plan front (Ok fate) → Works tries plans back fates stopped
+pub works_more : (tries : Tries) (plan : Plan) (plans all : List Plan) (front back : Heard) (fate : Fate) (fates : List Fate) (stopped : Option Reply) → all ≡ plan ∷ plans → IsMade tries plan front (Ok fate) → Works tries plans back fates stopped
     → Works tries all (front ++ back) (fate ∷ fates) stopped
 works_more tries plan plans all front back fate fates stopped is made others = subst (λ (l : List Plan). Works tries l (front ++ back) (fate ∷ fates) stopped) (sym is) (front, back, refl, made, others)
 
-pub works_stopped : (tries : Tries) (plan : Plan) (plans all : List Plan) (told : Granted) (why : Reply) → all ≡ plan ∷ plans → IsMade tries plan told (Err why) → Works tries all told [] (Some why)
+pub works_stopped : (tries : Tries) (plan : Plan) (plans all : List Plan) (told : Heard) (why : Reply) → all ≡ plan ∷ plans → IsMade tries plan told (Err why) → Works tries all told [] (Some why)
 works_stopped tries plan plans all told why is made = subst (λ (l : List Plan). Works tries l told [] (Some why)) (sym is) (why, refl, made)
 
 pub works_none : (tries : Tries) (all : List Plan) → all ≡ [] → Works tries all [] [] None
 works_none tries all is = subst (λ (l : List Plan). Works tries l [] [] None) (sym is) (refl, refl)
 
 -- without a limit no locked key stops a worker
-pub endless : (plans : List Plan) (told : Granted) (fates : List Fate) (holder : ℕ) → Works NoLimit plans told fates (Some (says.Busy holder)) → ⊥
+pub endless : (plans : List Plan) (told : Heard) (fates : List Fate) (holder : ℕ) → Works NoLimit plans told fates (Some (says.Busy holder)) → ⊥
 endless [] told [] holder works = absurd (cc)
 endless [] told (fate ∷ fates) holder works = works
 endless (plan ∷ plans) told [] holder (why, is, made) =

@@ -1,6 +1,6 @@
 -- What the fates of a caller's plans say of a history.
 use Rattle.std.specs.Prelude.{ℕ, ◌≡◌, ◌⊎◌, Bool, true, false, IsTrue, IsFalse, List, [], ◌∷◌, map}
-use Rattle.history.specs.declared.call.Call.{Call}
+use Rattle.history.specs.declared.call.TableCall.{TableCall}
 use Rattle.history.specs.declared.call.Reply.{Reply}
 use Rattle.history.specs.declared.transaction.Done.{Done}
 use Rattle.caller_plans.specs.declared.plan.Plan.{Plan}
@@ -19,7 +19,7 @@ commits _ = false
 pub record IsDoneAs (caller : ℕ) (plan : Plan) (at : ℕ) (done : Done) : Type 0 where
   pub commits : IsTrue (commits plan.end)
   pub caller_is : done.caller ≡ caller
-  pub calls : map (λ (entry : Call × Reply). entry.0) done.calls ≡ plan.calls
+  pub calls : map (λ (entry : TableCall × Reply). entry.0) done.calls ≡ plan.calls
   pub number : done.at ≡ at
 
 -- The only transaction is this plan, which was offered: a group has committed it, and its caller was not told.
@@ -28,7 +28,7 @@ pub record IsUnsettled (caller : ℕ) (plan : Plan) (mine : List Done) : Type 0 
   pub done : Done
   pub only : mine ≡ done ∷ []
   pub caller_is : done.caller ≡ caller
-  pub calls : map (λ (entry : Call × Reply). entry.0) done.calls ≡ plan.calls
+  pub calls : map (λ (entry : TableCall × Reply). entry.0) done.calls ≡ plan.calls
 
 -- The transactions are those of the plans that committed, in order and each once. A plan was aborted only if it does not end in a commit. A
 -- caller that was stopped before it could settle may have one more, the plan in which it was stopped.

@@ -6,7 +6,7 @@ ghost use Rattle.drill_gen.specs.Draws.{draw, drawn_on};
 ghost use Rattle.drill_gen.specs.Drill.{alone, paired, drawn_from, put_from};
 
 use crate::draws::Draws;
-use history::{Call, main_table};
+use history::{Call, Control, TableCall, main_table};
 use mars_base::{Listed, NoMemory};
 use record_slots::Value;
 use texts::{Piece, ShortText};
@@ -23,9 +23,9 @@ const ENDS: u64 = 8;
 /// Two puts and how the transaction ends.
 #[derive(Clone, Copy)]
 pub struct Transaction {
-    pub first: Call,
-    pub second: Call,
-    pub end: Call,
+    pub first: TableCall,
+    pub second: TableCall,
+    pub end: Control,
 }
 
 /// Draws a transaction, which takes five draws.
@@ -41,7 +41,7 @@ pub fn draw_transaction(draws: &mut Draws) -> Transaction
     Transaction { first, second, end }
 }
 
-fn draw_put(draws: &mut Draws) -> Call
+fn draw_put(draws: &mut Draws) -> TableCall
     requires { draws.old.x < 2 ^ 31 }
     ensures drawn { result ≡ put_from draws.old.x }
     ensures on { draws.new.x ≡ drawn_on draws.old.x 2 }
@@ -49,20 +49,20 @@ fn draw_put(draws: &mut Draws) -> Call
 {
     let key = draws.next() % KEYS;
     let value = value_of(draws.next());
-    Call::Put {
+    TableCall::Put {
         table: main_table(),
         key,
         value,
     }
 }
 
-fn end_of(drawn: u64) -> Call
-    ensures { result ≡ (if nat_eq (drawn % 8) 0 then Call.Abort else Call.Commit) }
+fn end_of(drawn: u64) -> Control
+    ensures { result ≡ (if nat_eq (drawn % 8) 0 then Control.Abort else Control.Commit) }
 {
     if drawn % ENDS == 0 {
-        Call::Abort
+        Control::Abort
     } else {
-        Call::Commit
+        Control::Commit
     }
 }
 
@@ -82,9 +82,9 @@ pub fn push_alone(turns: &mut Turns, drawn: &Transaction) -> Result<(), NoMemory
     ensures { OnOk result (turns.new ≡ turns.old ++ alone drawn.now) }
 {
     turns.push((0, Call::Begin))?;
-    turns.push((0, drawn.first))?;
-    turns.push((0, drawn.second))?;
-    turns.push((0, drawn.end))?;
+    turns.push((0, Call::Table(drawn.first)))?;
+    turns.push((0, Call::Table(drawn.second)))?;
+    turns.push((0, Call::Control(drawn.end)))?;
     Ok(())
 }
 
@@ -93,11 +93,11 @@ pub fn push_pair(turns: &mut Turns, one: &Transaction, other: &Transaction) -> R
 {
     turns.push((0, Call::Begin))?;
     turns.push((1, Call::Begin))?;
-    turns.push((0, one.first))?;
-    turns.push((1, other.first))?;
-    turns.push((0, one.second))?;
-    turns.push((1, other.second))?;
-    turns.push((0, one.end))?;
-    turns.push((1, other.end))?;
+    turns.push((0, Call::Table(one.first)))?;
+    turns.push((1, Call::Table(other.first)))?;
+    turns.push((0, Call::Table(one.second)))?;
+    turns.push((1, Call::Table(other.second)))?;
+    turns.push((0, Call::Control(one.end)))?;
+    turns.push((1, Call::Control(other.end)))?;
     Ok(())
 }

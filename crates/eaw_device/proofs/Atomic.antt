@@ -96,6 +96,7 @@ module _ (tells : Bool) (Opens : Shape → List ℕ → List ℕ → Type 0) (ol
   pub atomic : (mid.sending ≡ old.sending) × (old.sending.mirrors ≡ false) → (r : Result (Unit {0}) EawFault) → Does tells (Opens mid.shape) (commit t) mid new r → Does tells (Opens old.shape) (atomic_write t addr bytes) old new r
   atomic still (Ok x) second = record {
     shape = second.shape ∙ first.shape;
+    depth = second.depth ∙ first.depth;
     later = omega (arith, first.later, second.later);
     cause = (alive, tt, room);
     done = becomes (Ok x) second second.done;
@@ -112,6 +113,7 @@ module _ (tells : Bool) (Opens : Shape → List ℕ → List ℕ → Type 0) (ol
   atomic still (Err (LogFull g h n)) second = absurd second.cause.2
   atomic still (Err Media) second = record {
     shape = second.shape ∙ first.shape;
+    depth = second.depth ∙ first.depth;
     later = omega (arith, first.later, second.later);
     cause = (alive, tt, room, omega (arith, first.later, second.cause.3));
     done = tt;
@@ -141,6 +143,7 @@ pub write_fails : (tells : Bool) (Opens : List ℕ → List ℕ → Type 0) (old
     → (let r : Result ℕ EawFault = Err fault in Does tells Opens (log_write t addr bytes) old new r) → (let r : Result (Unit {0}) EawFault = Err fault in Does tells Opens (atomic_write t addr bytes) old new r)
 write_fails tells Opens old new t addr bytes free small fault does = record {
   shape = does.shape;
+  depth = does.depth;
   later = does.later;
   cause = because fault does.cause;
   done = tt;

@@ -23,11 +23,11 @@ use Rattle.eaw_device.specs.Logs.{IsKept, IsHeld}
 use Rattle.eaw_device.specs.Sound.{IsSound, IsTold, LacksLog, LacksGroup, view_of}
 use Rattle.eaw_device.proofs.Tables.{found_log, live_there}
 
-module _ (tells : Bool) (Opens : List ℕ → List ℕ → Type 0) (command : Command) (old new : StoreView) (shape : new.shape ≡ old.shape) (still : (new.sending ≡ old.sending) × (new.is_dead ≡ false → old.sending.mirrors ≡ false)) (later : old.faults ≤ new.faults)
+module _ (tells : Bool) (Opens : List ℕ → List ℕ → Type 0) (command : Command) (old new : StoreView) (shape : new.shape ≡ old.shape) (depth : new.depth ≡ old.depth) (still : (new.sending ≡ old.sending) × (new.is_dead ≡ false → old.sending.mirrors ≡ false)) (later : old.faults ≤ new.faults)
     (time : IsTrue tells → old.is_dead ≡ false → LeavesOnly (IsEither Opens old.state.bytes (after command old.state).bytes) old new) where
   -- nothing was sent
   mirrors : IsAlive old → Mirrors tells old new
-  mirrors alive = none_sent tells old new shape still.0 (λ _. alive) (λ told mirrors fine. absurd (false≢true (sym (still.1 fine) ∙ mirrors)))
+  mirrors alive = none_sent tells old new shape depth still.0 (λ _. alive) (λ told mirrors fine. absurd (false≢true (sym (still.1 fine) ∙ mirrors)))
 
   sent : new.sending.sent ≤ old.sending.sent + 1
   sent = omega (arith, ap (λ (s : Sending). s.sent) still.0)
@@ -36,6 +36,7 @@ module _ (tells : Bool) (Opens : List ℕ → List ℕ → Type 0) (command : Co
   pub done : {T : Type 0} (x : T) → new.faults ≡ old.faults → IsAlive old → known old command None → room_for old command None → Becomes tells command old new → (let r : Result T EawFault = Ok x in Does tells Opens command old new r)
   done x kept alive knows room becomes = record {
     shape = shape;
+    depth = depth;
     later = later;
     cause = (alive, knows, room);
     done = becomes;
@@ -53,6 +54,7 @@ module _ (tells : Bool) (Opens : List ℕ → List ℕ → Type 0) (command : Co
   pub failed : {T : Type 0} → IsAlive old → known old command None → room_for old command None → Rose old.faults new.faults → new.is_dead ≡ true → ((u : ℕ) → (IsNumberOf command u → ⊥) → new.ranges u ≡ old.ranges u) → (let r : Result T EawFault = Err Media in Does tells Opens command old new r)
   failed alive knows room rose dead others = record {
     shape = shape;
+    depth = depth;
     later = later;
     cause = (alive, knows, room, rose);
     done = tt;
@@ -72,6 +74,7 @@ pub refused : {T : Type 0} (tells : Bool) (Opens : List ℕ → List ℕ → Typ
 refused {T} tells Opens command store fault cause other (Ok x) is = absurd is
 refused {T} tells Opens command store fault cause other (Err e) is = record {
   shape = refl;
+  depth = refl;
   later = omega arith;
   cause = subst (λ (f : EawFault). let r : Result T EawFault = Err f in Cause store command store.faults r) (sym is) cause;
   done = tt;
@@ -79,7 +82,7 @@ refused {T} tells Opens command store fault cause other (Err e) is = record {
   dies = λ dead. absurd (other (sym is ∙ same dead));
   others = λ u apart. refl;
   time = λ told fine. stays store.moment store.left_since (IsEither Opens store.state.bytes (after command store.state).bytes);
-  mirrors = none_sent tells store store refl refl (λ alive. alive) (λ told mirrors alive. refl);
+  mirrors = none_sent tells store store refl refl refl (λ alive. alive) (λ told mirrors alive. refl);
   one = omega arith;
   sends = tt;
   refused = refl;

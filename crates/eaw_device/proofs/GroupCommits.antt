@@ -30,7 +30,7 @@ use Rattle.eaw_device.proofs.Doing.{done, failed}
 use Rattle.eaw_device.proofs.Sure.{commit_time, commit_sure}
 
 module _ (tells : Bool) (old new : View) (shape : Shape) (logs : List Log) (late : LateData) (is_dead : Bool) (sound : IsSound tells old shape logs late is_dead) (alive : is_dead ≡ false) (ts : List ℕ) (live : known (view_of old shape logs late is_dead) (commit_group ts) None)
-    (late' : LateData) {E : Type 0} (r : Result (Unit {0}) E) (does : WritesBehind tells old new r) (long : IsTrue tells → length old.content.bytes ≡ media_len shape)
+    (late' : LateData) {E : Type 0} (r : Result (Unit {0}) E) (does : WritesBehind tells old new r) (depth : late'.queue.depth ≡ late.queue.depth) (long : IsTrue tells → length old.content.bytes ≡ media_len shape)
     (any_moment : IsTrue tells → (let d = data_with shape late.queue old.content.bytes in LeavesOnly (IsEither shape d (applied (group_log (parts_logged shape old.content.bytes logs) ts) d)) old new)) where
   abbrev before : List ℕ
   before = shown shape late is_dead old.content.bytes
@@ -46,7 +46,7 @@ module _ (tells : Bool) (old new : View) (shape : Shape) (logs : List Log) (late
 
   -- the medium failed
   pub group_failed : Rose old.faults new.faults → (let failed : Result (Unit {0}) EawFault = Err Media in face.Does tells (Opens shape) (commit_group ts) (view_of old shape logs late is_dead) (view_of new shape logs late' true) failed)
-  group_failed rose = failed tells (Opens shape) (commit_group ts) (view_of old shape logs late is_dead) (view_of new shape logs late' true) refl (refl, λ alive. refl) does.does.cause.later (λ told fine. time told) alive live tt rose refl (λ u other. refl)
+  group_failed rose = failed tells (Opens shape) (commit_group ts) (view_of old shape logs late is_dead) (view_of new shape logs late' true) refl depth (refl, λ alive. refl) does.does.cause.later (λ told fine. time told) alive live tt rose refl (λ u other. refl)
 
   -- the parts are in the data, and the numbers are free
   module _ (ready : IsReady shape late') (waiting : IsTrue tells → AreWaiting shape late'.queue new.content) (shown' : IsTrue tells → AreHeld shape new.content.bytes (kept_entries late'.parts))
@@ -57,7 +57,7 @@ module _ (tells : Bool) (old new : View) (shape : Shape) (logs : List Log) (late
     group_now_sound in_order = group_sound tells old new shape logs now late late' is_dead sound ts does.does.size cells many kept freed others ready (λ fine. in_order) (λ told fine. commit_sure tells shape late.queue old new r does told (long told) (sound.told told alive).sure late'.queue (waiting told)) (λ told fine. shown' told)
 
     pub group_done : new.faults ≡ old.faults → (let done : Result (Unit {0}) EawFault = Ok tt in face.Does tells (Opens shape) (commit_group ts) (view_of old shape logs late is_dead) (view_of new shape now late' is_dead) done)
-    group_done same = done tells (Opens shape) (commit_group ts) (view_of old shape logs late is_dead) (view_of new shape now late' is_dead) refl (refl, λ alive. refl) does.does.cause.later (λ told fine. time told) tt same alive live tt
+    group_done same = done tells (Opens shape) (commit_group ts) (view_of old shape logs late is_dead) (view_of new shape now late' is_dead) refl depth (refl, λ alive. refl) does.does.cause.later (λ told fine. time told) tt same alive live tt
         (record {
           alive = alive;
           ranges = group_ranges tells old new shape logs now late late' is_dead sound ts does.does.size cells many kept freed others;

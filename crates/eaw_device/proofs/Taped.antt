@@ -27,6 +27,7 @@ module _ (old new : Tape) (same : tape.ShowsSame old new) (shape : Shape) (logs 
   pub shows_on : ShowsSame (device.view_of (view_of old) shape logs late is_dead) (device.view_of (view_of new) shape logs late is_dead)
   shows_on = record {
     shape = refl;
+    depth = refl;
     state = ap (λ (c : Content). let s : State = record { bytes = shown shape late is_dead c.bytes; logs = parts_logged shape c.bytes logs } in s) same.content;
     ranges = refl;
     is_dead = refl;

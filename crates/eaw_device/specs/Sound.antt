@@ -74,6 +74,7 @@ shown shape late is_dead image = if is_dead then data_of shape image else data_w
 abbrev pub view_of : View → Shape → List Log → LateData → Bool → StoreView
 view_of media shape logs late is_dead = record {
   shape = shape;
+  depth = late.queue.depth;
   state = record { bytes = shown shape late is_dead media.content.bytes; logs = parts_logged shape media.content.bytes logs };
   ranges = ranges_logged logs;
   is_dead = is_dead;

@@ -63,7 +63,7 @@ impl<M: Media> Eaw<M> {
         ensures kept { IfErr result (λ e. e.0 ≢ AttachFault.Media → (M.view e.1).faults ≡ (M.view media).faults) }
         ensures within { IfErr result (λ e. OpensWithin M.tells (M.view media) (M.view e.1).moment) }
         ensures early { IfErr result (λ e. e.0 ≡ AttachFault.NoMemory → (M.view e.1).moment ≡ (M.view media).moment + 1) }
-        ensures at_once { IfOk result (λ eaw. eaw.late.queue.depth ≡ 0) }
+        ensures at_once { IfOk result (λ eaw. (view_of (M.view eaw.media) eaw.shape eaw.logs.items eaw.late eaw.is_dead).depth ≡ 0) }
     {
         Eaw::<M, Brand>::attach_late(alloc, media, 0)
     }
@@ -89,7 +89,7 @@ impl<M: Media, D: Depth> Eaw<M, D> {
         ensures kept { IfErr result (λ e. e.0 ≢ AttachFault.Media → (M.view e.1).faults ≡ (M.view media).faults) }
         ensures within { IfErr result (λ e. OpensWithin M.tells (M.view media) (M.view e.1).moment) }
         ensures early { IfErr result (λ e. e.0 ≡ AttachFault.NoMemory → (M.view e.1).moment ≡ (M.view media).moment + 1) }
-        ensures limit { IfOk result (λ eaw. eaw.late.queue.depth ≡ depth) }
+        ensures limit { IfOk result (λ eaw. (view_of (M.view eaw.media) eaw.shape eaw.logs.items eaw.late eaw.is_dead).depth ≡ depth) }
     {
         match open_array(alloc, &mut media, depth) {
             Ok((shape, logs, late)) => Ok(Eaw {
@@ -263,6 +263,8 @@ impl<M: Media, D: Depth> EawStore for Eaw<M, D> {
     ghost calls = { λ s command. calls_of command s.late (view_of (M.view s.media) s.shape s.logs.items s.late s.is_dead) };
 
     ghost shaped = { λ s. s.sound.shaped };
+
+    ghost few_wait = { λ s. s.sound.ready.fit.few };
 
     ghost long = { λ s told. length-shown M.tells (M.view s.media) s.shape s.logs.items s.late s.is_dead s.sound told };
 

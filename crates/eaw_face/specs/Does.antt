@@ -25,6 +25,7 @@ IsEither Opens before after image = Opens image before ⊎ Opens image after
 -- and of no other command: nothing is sent of one that is refused or fails.
 pub record Does {T : Type 0} (tells : Bool) (Opens : List ℕ → List ℕ → Type 0) (command : Command) (old new : StoreView) (result : Result T EawFault) : Type 0 where
   pub shape : new.shape ≡ old.shape
+  pub depth : new.depth ≡ old.depth
   pub later : old.faults ≤ new.faults
   pub cause : Cause old command new.faults result
   pub done : OnOk result (Becomes tells command old new)

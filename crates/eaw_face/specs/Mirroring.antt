@@ -41,6 +41,7 @@ pub record IsKindOf (old new : Sending) : Type 0 where
 pub record Mirrors (tells : Bool) (old new : StoreView) : Type 0 where
   pub added : List Frame
   pub shape : new.shape ≡ old.shape
+  pub depth : new.depth ≡ old.depth
   pub kind : IsKindOf old.sending new.sending
   pub adds : Adds old.shape added old.sending new.sending
   pub ends : EndsFor added old.sending new.sending
@@ -51,6 +52,7 @@ pub record Mirrors (tells : Bool) (old new : StoreView) : Type 0 where
 -- a store that gave up its oldest frame, if it had one, is as it was in all else
 pub record GivesUp (old new : StoreView) : Type 0 where
   pub shape : new.shape ≡ old.shape
+  pub depth : new.depth ≡ old.depth
   pub state : new.state ≡ old.state
   pub ranges : new.ranges ≡ old.ranges
   pub is_dead : new.is_dead ≡ old.is_dead

@@ -6,11 +6,12 @@ use Rattle.array_shape.specs.Places.{IsPlaced}
 use Rattle.eaw_face.specs.State.{Logs, State, listed}
 use Rattle.eaw_face.specs.Sending.{Sending}
 
--- Its shape; its data and logs; for each live number the ranges of its parts; whether an earlier call met a fault of the
--- medium; how often the medium has failed; the moment; whether a loss of power at this moment or a later one might have left
--- this image; and what it has sent of its commits.
+-- Its shape; how many commits may wait for their write-back; its data and logs; for each live number the ranges of its parts; whether an
+-- earlier call met a fault of the medium; how often the medium has failed; the moment; whether a loss of power at this moment or a later
+-- one might have left this image; and what it has sent of its commits.
 pub record StoreView : Type 1 where
   pub shape : Shape
+  pub depth : ℕ
   pub state : State
   pub ranges : Logs (ℕ × ℕ)
   pub is_dead : Bool

@@ -184,6 +184,9 @@ pub trait EawStore {
     /// The numbers of its shape are in range.
     ghost shaped: { (s : Self) → IsShape (view s).shape };
 
+    /// At most as many commits wait as may.
+    ghost few_wait: { (s : Self) → waiting s ≤ (view s).depth };
+
     /// Its data has as many bytes as its shape says.
     ghost long: { (s : Self) → IsTrue tells → length (view s).state.bytes ≡ data_len (view s).shape };
 

@@ -31,6 +31,7 @@ made_by old new raw (Err failed) = state_after raw old
 -- data before the command or the data that it made. A store that mirrors sends what the command wrote.
 pub record Performed (tells : Bool) (Opens : List ℕ → List ℕ → Type 0) (old new : StoreView) (t : ℕ) (raw : Raw) (result : Result Answer Failed) : Type 0 where
   pub shape : new.shape ≡ old.shape
+  pub depth : new.depth ≡ old.depth
   pub cause : HasCause old.faults new.faults result
   pub alive : OnOk result (new.is_dead ≡ false)
   pub answers : IsTrue tells → IfOk result (λ answer. AnswersWith old.shape (old.ranges t) old.state t raw answer new.state)

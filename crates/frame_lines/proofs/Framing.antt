@@ -38,6 +38,7 @@ no_frames (f ∷ fs) first is none some = absurd (let short : length f ≡ 0 = a
 pub one_given_up : (old mid new : StoreView) → IsTrue mid.sending.told → IsBut old mid → GivesUp mid new → IsBut old new
 one_given_up old mid new told but gives = record {
   shape = gives.shape ∙ but.shape;
+  depth = gives.depth ∙ but.depth;
   state = gives.state ∙ but.state;
   is_dead = gives.is_dead ∙ but.is_dead;
   sending = gives.sending ∙ ap (λ (s : Sending). record s { frames = new.sending.frames }) but.sending;

@@ -62,13 +62,14 @@ module _ {S : Type 0} (tells : Bool) (view : S → StoreView) (first : FollowerV
     sequence = tt;
     told = refl;
     count = none;
-    goes_on = record { data_is = record { shape = refl; data_is = λ told. refl }; faults = refl; alive = alive };
+    goes_on = record { data_is = record { shape = refl; depth = refl; data_is = λ told. refl }; faults = refl; alive = alive };
     between = between;
   }
 
   data_more : (frames more : List Frame) (mid new : StoreView) → HasFollowed tells frames (view first.store) mid → HasFollowed tells more mid new → HasFollowed tells (frames ++ more) (view first.store) new
   data_more frames more mid new one two = record {
     shape = two.shape ∙ one.shape;
+    depth = two.depth ∙ one.depth;
     data_is = λ told. two.data_is told ∙ ap (followed more) (one.data_is told) ∙ sym (followed_append frames more (view first.store).state.bytes);
   }
 

@@ -64,6 +64,7 @@ pub record HasSent {State : Type 0} (store : StoreView) (state : Framed State) :
 -- the store is as it was, but for the frames that it keeps
 pub record IsBut (old new : StoreView) : Type 0 where
   pub shape : new.shape ≡ old.shape
+  pub depth : new.depth ≡ old.depth
   pub state : new.state ≡ old.state
   pub is_dead : new.is_dead ≡ old.is_dead
   pub sending : new.sending ≡ record old.sending { frames = new.sending.frames }

@@ -6,8 +6,8 @@ use Rattle.history.specs.Writes.{Table, set_or_remove, rows_within}
 use Rattle.history.specs.Table.{Granted, Work, begun, found, removed, has_save, Answers, after, worked, IsRightFrom, IsRight, left_by}
 use Rattle.history.specs.declared.locks.Mode.TheVariants.{Shared, Exclusive}
 use Rattle.history.specs.Locks.{key_stripe, touches, touched, has_touched, has_written, clash, AreApart, Agree, AgreeOff}
-use Rattle.history.specs.declared.call.Call.{Call}
-use Rattle.history.specs.declared.call.Call.TheVariants.{Begin, Get, Put, Del, Scan, Save, Back, Commit, Abort, Offer, Settle, Purge}
+use Rattle.history.specs.declared.call.TableCall.{TableCall}
+use Rattle.history.specs.declared.call.TableCall.TheVariants.{Get, Put, Del, Scan, Save, Back}
 use Rattle.history.specs.declared.call.Reply.{Reply}
 use Rattle.history.specs.declared.call.Reply.TheVariants.{Saved, Listed}
 use Rattle.history.proofs.Modes.{clash_written}
@@ -58,7 +58,7 @@ record IsAlike (keys written : Key → Bool) (start : Table) (one other : Work) 
   saves : Pairwise (IsLike keys written start) one.saves other.saves
 
 -- every key that the call touches is among the keys, and every key that it touches for writing among those written
-record Within (names : List (List ℕ)) (keys written : Key → Bool) (call : Call) : Type 0 where
+record Within (names : List (List ℕ)) (keys written : Key → Bool) (call : TableCall) : Type 0 where
   reads : (key : Key) → touches names call (key_stripe names key) Shared ≡ true → keys key ≡ true
   writes : (key : Key) → touches names call (key_stripe names key) Exclusive ≡ true → (keys key ≡ true) × (written key ≡ true)
 
@@ -92,8 +92,7 @@ module _ (names : List (List ℕ)) (keys written : Key → Bool) (start : Table)
   any_key : (k : Key) → nat_lt (key_stripe names k) 64 ≡ true
   any_key k = lt-ltb (key_stripe names k) 64 (omega arith)
 
-  after-alike : (call : Call) (one other : Work) → Within names keys written call → IsAlike keys written start one other → IsAlike keys written start (after one call) (after other call)
-  after-alike Begin one other within alike = alike
+  after-alike : (call : TableCall) (one other : Work) → Within names keys written call → IsAlike keys written start one other → IsAlike keys written start (after one call) (after other call)
   after-alike (Get t k) one other within alike = alike
   after-alike (Put t k v) one other within alike = record { tables = like-set one.table other.table (of_table t k) (Some v) (within.writes (of_table t k) (own_key (of_table t k))).1 alike.tables; saves = alike.saves }
   after-alike (Del t k) one other within alike = record { tables = like-set one.table other.table (of_table t k) None (within.writes (of_table t k) (own_key (of_table t k))).1 alike.tables; saves = alike.saves }
@@ -102,14 +101,8 @@ module _ (names : List (List ℕ)) (keys written : Key → Bool) (start : Table)
   after-alike (Back n) one other within alike =
       subst (λ b. IsAlike keys written start (after one (Back n)) (cond b (record { table = get_or other.saves (n - 1) other.table; saves = take n other.saves }) other))
       (same_saves n one other alike) (alike-back n one other (has_save one.saves n) alike)
-  after-alike Commit one other within alike = alike
-  after-alike Abort one other within alike = alike
-  after-alike Offer one other within alike = alike
-  after-alike Settle one other within alike = alike
-  after-alike Purge one other within alike = alike
 
-  answers-alike : (call : Call) (reply : Reply) (one other : Work) → Within names keys written call → IsAlike keys written start one other → Answers one call reply → Answers other call reply
-  answers-alike Begin reply one other within alike answers = answers
+  answers-alike : (call : TableCall) (reply : Reply) (one other : Work) → Within names keys written call → IsAlike keys written start one other → Answers one call reply → Answers other call reply
   answers-alike (Get t k) reply one other within alike answers = answers ∙ ap found (alike.tables.same (of_table t k) (within.reads (of_table t k) (own_key (of_table t k))))
   answers-alike (Put t k v) reply one other within alike answers = answers
   answers-alike (Del t k) reply one other within alike answers = answers ∙ ap removed (alike.tables.same (of_table t k) (within.writes (of_table t k) (own_key (of_table t k))).0)
@@ -117,19 +110,14 @@ module _ (names : List (List ℕ)) (keys written : Key → Bool) (start : Table)
       answers ∙ ap (λ (table : Table). Listed (rows_within t low high table)) (agree_all keys one.table other.table (λ k. within.reads k (any_key k)) alike.tables.same)
   answers-alike Save reply one other within alike answers = answers ∙ ap (λ (height : ℕ). Saved (height + 1)) (same_height one other alike)
   answers-alike (Back n) reply one other within alike answers = (sym (same_saves n one other alike) ∙ answers.0, answers.1)
-  answers-alike Commit reply one other within alike answers = answers
-  answers-alike Abort reply one other within alike answers = answers
-  answers-alike Offer reply one other within alike answers = answers
-  answers-alike Settle reply one other within alike answers = answers
-  answers-alike Purge reply one other within alike answers = answers
 
-  head_within : (entry : Call × Reply) (calls : Granted) → AllWithin names keys written (entry ∷ calls) → Within names keys written entry.0
+  head_within : (entry : TableCall × Reply) (calls : Granted) → AllWithin names keys written (entry ∷ calls) → Within names keys written entry.0
   head_within entry calls within = record {
     reads = λ key at. within.reads key (or_left (touches names entry.0 (key_stripe names key) Shared) (touched names calls (key_stripe names key) Shared) at);
     writes = λ key at. within.writes key (or_left (touches names entry.0 (key_stripe names key) Exclusive) (touched names calls (key_stripe names key) Exclusive) at);
   }
 
-  tail_within : (entry : Call × Reply) (calls : Granted) → AllWithin names keys written (entry ∷ calls) → AllWithin names keys written calls
+  tail_within : (entry : TableCall × Reply) (calls : Granted) → AllWithin names keys written (entry ∷ calls) → AllWithin names keys written calls
   tail_within entry calls within = record {
     reads = λ key at. within.reads key (or_right (touches names entry.0 (key_stripe names key) Shared) (touched names calls (key_stripe names key) Shared) at);
     writes = λ key at. within.writes key (or_right (touches names entry.0 (key_stripe names key) Exclusive) (touched names calls (key_stripe names key) Exclusive) at);

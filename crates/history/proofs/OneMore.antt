@@ -7,7 +7,7 @@ use Rattle.history.specs.Legal.{records, IsLegalFrom, IsLegal}
 use Rattle.history.specs.declared.locks.Mode.{Mode}
 use Rattle.history.specs.Locks.{touches, touched}
 use Rattle.history.specs.Log.{Log, log_after, log_of}
-use Rattle.history.specs.declared.call.Call.{Call}
+use Rattle.history.specs.declared.call.TableCall.{TableCall}
 use Rattle.history.specs.declared.call.Reply.{Reply}
 use Rattle.history.specs.declared.transaction.Done.{Done}
 use Rattle.std.proofs.lemmas.List.Folds.{list_any-append}
@@ -25,35 +25,35 @@ fold-append f a [] ys = refl
 fold-append f a (x ∷ xs) ys = fold-append f (f a x) xs ys
 
 -- the last call changes what the others leave
-pub worked-push : (work : Work) (calls : Granted) (call : Call) (reply : Reply) → worked work (calls ++ (call, reply) ∷ []) ≡ after (worked work calls) call
-worked-push work calls call reply = fold-push (λ (was : Work) (entry : Call × Reply). after was entry.0) work calls (call, reply)
+pub worked-push : (work : Work) (calls : Granted) (call : TableCall) (reply : Reply) → worked work (calls ++ (call, reply) ∷ []) ≡ after (worked work calls) call
+worked-push work calls call reply = fold-push (λ (was : Work) (entry : TableCall × Reply). after was entry.0) work calls (call, reply)
 
-pub left_by-push : (table : Table) (calls : Granted) (call : Call) (reply : Reply)
+pub left_by-push : (table : Table) (calls : Granted) (call : TableCall) (reply : Reply)
     → left_by table (calls ++ (call, reply) ∷ []) ≡ (after (worked (begun table) calls) call).table
 left_by-push table calls call reply = ap (λ (work : Work). work.table) (worked-push (begun table) calls call reply)
 
 -- the last call changes the log of the others
-pub log_of-push : (calls : Granted) (call : Call) (reply : Reply) → log_of (calls ++ (call, reply) ∷ []) ≡ log_after (log_of calls) call reply
-log_of-push calls call reply = fold-push (λ (was : Log) (entry : Call × Reply). log_after was entry.0 entry.1) (record { writes = []; saved = [] }) calls (call, reply)
+pub log_of-push : (calls : Granted) (call : TableCall) (reply : Reply) → log_of (calls ++ (call, reply) ∷ []) ≡ log_after (log_of calls) call reply
+log_of-push calls call reply = fold-push (λ (was : Log) (entry : TableCall × Reply). log_after was entry.0 entry.1) (record { writes = []; saved = [] }) calls (call, reply)
 
-touched_more : (names : List (List ℕ)) (calls : Granted) (call : Call) (reply : Reply) (stripe : ℕ) (mode : Mode)
+touched_more : (names : List (List ℕ)) (calls : Granted) (call : TableCall) (reply : Reply) (stripe : ℕ) (mode : Mode)
     → touched names (calls ++ (call, reply) ∷ []) stripe mode ≡ (touched names calls stripe mode || touches names call stripe mode)
 touched_more names calls call reply stripe mode =
-    list_any-append (λ (entry : Call × Reply). touches names entry.0 stripe mode) calls ((call, reply) ∷ [])
+    list_any-append (λ (entry : TableCall × Reply). touches names entry.0 stripe mode) calls ((call, reply) ∷ [])
     ∙ ap (λ (b : Bool). touched names calls stripe mode || b) (or_none (touches names call stripe mode))
 
 -- the last call adds what it touches
-pub touched-push : (names : List (List ℕ)) (calls : Granted) (call : Call) (reply : Reply) (stripe : ℕ)
+pub touched-push : (names : List (List ℕ)) (calls : Granted) (call : TableCall) (reply : Reply) (stripe : ℕ)
     → touched names (calls ++ (call, reply) ∷ []) stripe ≡ (λ mode. touched names calls stripe mode || touches names call stripe mode)
 touched-push names calls call reply stripe i mode = touched_more names calls call reply stripe mode i
 
 -- calls stay right with one more, whose reply is right for what they leave
-pub IsRightFrom-push : (work : Work) (calls : Granted) (call : Call) (reply : Reply)
+pub IsRightFrom-push : (work : Work) (calls : Granted) (call : TableCall) (reply : Reply)
     → IsRightFrom work calls → Answers (worked work calls) call reply → IsRightFrom work (calls ++ (call, reply) ∷ [])
 IsRightFrom-push work [] call reply right answers = (answers, tt)
 IsRightFrom-push work (entry ∷ calls) call reply right answers = (right.0, IsRightFrom-push (after work entry.0) calls call reply right.1 answers)
 
-pub IsRight-push : (table : Table) (calls : Granted) (call : Call) (reply : Reply)
+pub IsRight-push : (table : Table) (calls : Granted) (call : TableCall) (reply : Reply)
     → IsRight table calls → Answers (worked (begun table) calls) call reply → IsRight table (calls ++ (call, reply) ∷ [])
 IsRight-push table calls call reply right answers = IsRightFrom-push (begun table) calls call reply right answers
 

@@ -9,8 +9,8 @@ use Rattle.history.specs.Key.{Key, of_table}
 use Rattle.history.specs.Writes.{Table, Write, write_into, all_written, is_of, replaced, with_write}
 use Rattle.history.specs.Table.{Granted, Work, begun, removed, has_save, Answers, after, worked, IsRightFrom, IsRight, left_by}
 use Rattle.history.specs.Log.{Log, save_at, floor_of, written, log_after, log_of}
-use Rattle.history.specs.declared.call.Call.{Call}
-use Rattle.history.specs.declared.call.Call.TheVariants.{Begin, Get, Put, Del, Scan, Save, Back, Commit, Abort, Offer, Settle, Purge}
+use Rattle.history.specs.declared.call.TableCall.{TableCall}
+use Rattle.history.specs.declared.call.TableCall.TheVariants.{Get, Put, Del, Scan, Save, Back}
 use Rattle.history.specs.declared.call.Reply.{Reply}
 use Rattle.history.proofs.Keys.{cases_key, same_key, same_keys}
 use Rattle.history.proofs.Agreeing.{get-set_here, get-set_there, same_table, remove_absent}
@@ -118,8 +118,7 @@ module _ (base : Table) where
       (shown-written log work (of_table name key, None) shown)
 
   -- what is shown stays shown after a call that gets the right reply
-  pub shown-after : (log : Log) (work : Work) (call : Call) (reply : Reply) → Answers work call reply → IsShown base log work → IsShown base (log_after log call reply) (after work call)
-  shown-after log work Begin reply answers shown = shown
+  pub shown-after : (log : Log) (work : Work) (call : TableCall) (reply : Reply) → Answers work call reply → IsShown base log work → IsShown base (log_after log call reply) (after work call)
   shown-after log work (Get name key) reply answers shown = shown
   shown-after log work (Put name key value) reply answers shown = shown-written log work (of_table name key, Some value) shown
   shown-after log work (Del name key) reply answers shown = shown-del log work name key reply (get work.table (of_table name key)) refl answers shown
@@ -130,11 +129,6 @@ module _ (base : Table) where
       subst (λ b. IsShown base (if b then record { writes = save_at log.saved n; saved = take n log.saved } else log) (after work (Back n))) (sym is)
       (subst (λ b. IsShown base (record { writes = save_at log.saved n; saved = take n log.saved }) (if b then record { table = slice_index_or work.saves (n - 1) work.table; saves = take n work.saves } else work)) (sym answers.0)
       (shown-back log work n is shown))
-  shown-after log work Commit reply answers shown = shown
-  shown-after log work Abort reply answers shown = shown
-  shown-after log work Offer reply answers shown = shown
-  shown-after log work Settle reply answers shown = shown
-  shown-after log work Purge reply answers shown = shown
 
   -- the log after more calls
   abbrev logged : Log → Granted → Log

@@ -11,8 +11,8 @@ use lib.Pointwise.{pointwise}
 use Rattle.record_slots.specs.Text.{IsName, IsValue}
 use Rattle.history.specs.Key.{main_name}
 use Rattle.history.specs.Writes.{Row}
-use Rattle.history.specs.declared.call.Call.{Call}
-use Rattle.history.specs.declared.call.Call.TheVariants.{Begin, Get, Put, Del, Scan, Save, Back, Commit, Abort, Offer, Settle, Purge}
+use Rattle.history.specs.declared.call.TableCall.{TableCall}
+use Rattle.history.specs.declared.call.TableCall.TheVariants.{Get, Put, Del, Scan, Save, Back}
 use Rattle.history.specs.declared.call.Reply.{Reply}
 use Rattle.history.specs.declared.call.Reply.TheVariants.{Fine, Found, Absent, Listed, Saved, Committed, Purged, NoTransaction, NoTable, Already, NoSave, SavesFull, Busy, LogFull, SlotsFull, PagesFull, Media, Dead, NoMemory, Damaged}
 use Rattle.history.specs.Packed.{word, word_at, texted, text_at, kept_name, whole_name, name_at, call_bytes, get_at, put_at, del_at, scan_at, call_at, CanCall, CanRow, row_bytes, row_at, rows_at, reply_bytes, number_at, found_at, listed_at, log_full_at, reply_at, CanReply, entry_bytes, CanEnter, entries_within, entries_in, ArePacked}
@@ -69,8 +69,7 @@ scan_read bytes table more low rest high behind named from to =
     ∙ ap (λ (q : ℕ × List ℕ). let h = word_at q.1 in (Scan table q.0 h.0, h.1)) from ∙ ap (λ (r : ℕ × List ℕ). (Scan table low r.0, r.1)) to
 
 -- a call is read as it was packed
-pub call_read : (call : Call) (rest : List ℕ) → CanCall call → call_at (call_bytes call ++ rest) ≡ (call, rest)
-call_read Begin rest can = refl
+pub call_read : (call : TableCall) (rest : List ℕ) → CanCall call → call_at (call_bytes call ++ rest) ≡ (call, rest)
 call_read (Get table key) rest can =
     ap get_at (append_assoc (texted (kept_name table)) (word key) rest)
     ∙ get_read (texted (kept_name table) ++ (word key ++ rest)) table (word key ++ rest) key rest (name_read table (word key ++ rest) can.0) (word_read key rest can.1)
@@ -87,11 +86,6 @@ call_read (Scan table low high) rest can =
     (name_read table (word low ++ (word high ++ rest)) can.0) (word_read low (word high ++ rest) can.1) (word_read high rest can.2)
 call_read Save rest can = refl
 call_read (Back save) rest can = ap (λ (p : ℕ × List ℕ). (Back p.0, p.1)) (word_read save rest (omega (arith, can)))
-call_read Commit rest can = refl
-call_read Abort rest can = refl
-call_read Offer rest can = refl
-call_read Settle rest can = refl
-call_read Purge rest can = refl
 
 row_read : (row : Row) (rest : List ℕ) → row.0 < 2 ^ 64 → row_at (row_bytes row ++ rest) ≡ (row, rest)
 row_read row rest small =
@@ -148,37 +142,31 @@ reply_read (Damaged page) rest can = number_read Damaged page rest (omega (arith
 reply_read (Purged n) rest can = number_read Purged n rest (omega (arith, can))
 
 -- a call has at least the byte of its kind
-call_some : (call : Call) → (kind : ℕ) × (bytes : List ℕ) × (call_bytes call ≡ kind ∷ bytes)
-call_some Begin = (0, [], refl)
+call_some : (call : TableCall) → (kind : ℕ) × (bytes : List ℕ) × (call_bytes call ≡ kind ∷ bytes)
 call_some (Get table key) = (1, texted (kept_name table) ++ word key, refl)
 call_some (Put table key value) = (2, texted (kept_name table) ++ word key ++ texted value, refl)
 call_some (Del table key) = (3, texted (kept_name table) ++ word key, refl)
 call_some (Scan table low high) = (4, texted (kept_name table) ++ word low ++ word high, refl)
-call_some Save = (5, [], refl)
-call_some (Back save) = (6, word save, refl)
-call_some Commit = (7, [], refl)
-call_some Abort = (8, [], refl)
-call_some Offer = (9, [], refl)
-call_some Settle = (10, [], refl)
-call_some Purge = (11, [], refl)
+call_some Save = (0, [], refl)
+call_some (Back save) = (5, word save, refl)
 
 -- an entry has some byte
-entry_some : (entry : Call × Reply) (rest : List ℕ) → length rest < length (entry_bytes entry ++ rest)
+entry_some : (entry : TableCall × Reply) (rest : List ℕ) → length rest < length (entry_bytes entry ++ rest)
 entry_some entry rest =
     let some = call_some entry.0 in
     let own : length (call_bytes entry.0) ≡ suc (length some.1) = ap (λ (l : List ℕ). length l) some.2 in
     omega (arith, own, length-append (entry_bytes entry) rest, length-append (call_bytes entry.0) (reply_bytes entry.1))
 
 -- the entry at the front, and those behind it
-entry_read : (n : ℕ) (bytes : List ℕ) (call : Call) (reply : Reply) (more rest : List ℕ) → 0 < length bytes → call_at bytes ≡ (call, more) → reply_at more ≡ (reply, rest)
+entry_read : (n : ℕ) (bytes : List ℕ) (call : TableCall) (reply : Reply) (more rest : List ℕ) → 0 < length bytes → call_at bytes ≡ (call, more) → reply_at more ≡ (reply, rest)
     → entries_within (suc n) bytes ≡ (call, reply) ∷ entries_within n rest
 entry_read n [] call reply more rest some called replied = absurd (omega (arith, some))
 entry_read n (kind ∷ bytes) call reply more rest some called replied =
-    ap (λ (p : Call × List ℕ). let r = reply_at p.1 in (p.0, r.0) ∷ entries_within n r.1) called
+    ap (λ (p : TableCall × List ℕ). let r = reply_at p.1 in (p.0, r.0) ∷ entries_within n r.1) called
     ∙ ap (λ (q : Reply × List ℕ). (call, q.0) ∷ entries_within n q.1) replied
 
 -- entries are read as they were packed
-entries_read : (n : ℕ) (entries : List (Call × Reply)) → All CanEnter entries → length (flat_map entry_bytes entries) ≤ n → entries_within n (flat_map entry_bytes entries) ≡ entries
+entries_read : (n : ℕ) (entries : List (TableCall × Reply)) → All CanEnter entries → length (flat_map entry_bytes entries) ≤ n → entries_within n (flat_map entry_bytes entries) ≡ entries
 entries_read zero [] able fits = refl
 entries_read (suc n) [] able fits = refl
 entries_read zero (entry ∷ entries) able fits = absurd (omega (arith, fits, entry_some entry (flat_map entry_bytes entries)))
@@ -189,34 +177,34 @@ entries_read (suc m) (entry ∷ entries) able fits =
     entry_read m (entry_bytes entry ++ rest) entry.0 entry.1 (reply_bytes entry.1 ++ rest) rest (omega (arith, longer))
     (ap call_at (append_assoc (call_bytes entry.0) (reply_bytes entry.1) rest) ∙ call_read entry.0 (reply_bytes entry.1 ++ rest) can.0)
     (reply_read entry.1 rest can.1)
-    ∙ ap (λ (es : List (Call × Reply)). entry ∷ es) (entries_read m entries (All-tail CanEnter entry entries able) (omega (arith, fits, longer)))
+    ∙ ap (λ (es : List (TableCall × Reply)). entry ∷ es) (entries_read m entries (All-tail CanEnter entry entries able) (omega (arith, fits, longer)))
 
 -- bytes of entries are packed, and the entries are theirs
-pub packed_of : (entries : List (Call × Reply)) → All CanEnter entries → entries_in (flat_map entry_bytes entries) ≡ entries
+pub packed_of : (entries : List (TableCall × Reply)) → All CanEnter entries → entries_in (flat_map entry_bytes entries) ≡ entries
 packed_of entries able = entries_read (length (flat_map entry_bytes entries)) entries able (omega arith)
 
 pub none_packed : ArePacked []
 none_packed = record { whole = refl; able = All-nil CanEnter }
 
-more_able : (bytes : List ℕ) (entry : Call × Reply) → ArePacked bytes → CanEnter entry → All CanEnter (entries_in bytes ++ entry ∷ [])
+more_able : (bytes : List ℕ) (entry : TableCall × Reply) → ArePacked bytes → CanEnter entry → All CanEnter (entries_in bytes ++ entry ∷ [])
 more_able bytes entry packed can = All-append CanEnter (entries_in bytes) (entry ∷ []) packed.able (All-cons CanEnter entry [] can (All-nil CanEnter))
 
-more_bytes : (bytes : List ℕ) (entry : Call × Reply) → ArePacked bytes → bytes ++ entry_bytes entry ≡ flat_map entry_bytes (entries_in bytes ++ entry ∷ [])
+more_bytes : (bytes : List ℕ) (entry : TableCall × Reply) → ArePacked bytes → bytes ++ entry_bytes entry ≡ flat_map entry_bytes (entries_in bytes ++ entry ∷ [])
 more_bytes bytes entry packed = ap (λ (b : List ℕ). b ++ entry_bytes entry) packed.whole ∙ flat_map_more entry_bytes [] (entries_in bytes) entry
 
 -- one more entry
-pub more_entries : (bytes more : List ℕ) (entry : Call × Reply) → ArePacked bytes → CanEnter entry → more ≡ bytes ++ entry_bytes entry → entries_in more ≡ entries_in bytes ++ entry ∷ []
+pub more_entries : (bytes more : List ℕ) (entry : TableCall × Reply) → ArePacked bytes → CanEnter entry → more ≡ bytes ++ entry_bytes entry → entries_in more ≡ entries_in bytes ++ entry ∷ []
 more_entries bytes more entry packed can is =
     let all = more_able bytes entry packed can in
     ap entries_in (is ∙ more_bytes bytes entry packed) ∙ packed_of (entries_in bytes ++ entry ∷ []) all
 
-pub more_packed : (bytes more : List ℕ) (entry : Call × Reply) → ArePacked bytes → CanEnter entry → more ≡ bytes ++ entry_bytes entry → ArePacked more
+pub more_packed : (bytes more : List ℕ) (entry : TableCall × Reply) → ArePacked bytes → CanEnter entry → more ≡ bytes ++ entry_bytes entry → ArePacked more
 more_packed bytes more entry packed can is =
     let entries = entries_in bytes ++ entry ∷ [] in
     let same : entries_in more ≡ entries = more_entries bytes more entry packed can is in
     record {
       whole = is ∙ more_bytes bytes entry packed ∙ ap (flat_map entry_bytes) (sym same);
-      able = subst (λ (es : List (Call × Reply)). All CanEnter es) (sym same) (more_able bytes entry packed can);
+      able = subst (λ (es : List (TableCall × Reply)). All CanEnter es) (sym same) (more_able bytes entry packed can);
     }
 
 -- so many rows are read
@@ -262,7 +250,7 @@ log_full_written old first second third l h n logger held needed ls hs ns one tw
 
 -- what stands at the front of packed bytes: an entry, and behind it packed bytes
 pub record Front (bytes : List ℕ) : Type 0 where
-  pub entry : Call × Reply
+  pub entry : TableCall × Reply
   pub rest : List ℕ
   pub can : CanEnter entry
   pub call : call_at bytes ≡ (entry.0, reply_bytes entry.1 ++ rest)
@@ -273,13 +261,13 @@ pub record Front (bytes : List ℕ) : Type 0 where
 pub front_of : (bytes : List ℕ) → ArePacked bytes → 0 < length bytes → Front bytes
 front_of bytes packed some = go (entries_in bytes) refl
   where
-    go : (es : List (Call × Reply)) → entries_in bytes ≡ es → Front bytes
+    go : (es : List (TableCall × Reply)) → entries_in bytes ≡ es → Front bytes
     go [] is =
         let none : bytes ≡ [] = packed.whole ∙ ap (flat_map entry_bytes) is in
         let short : length bytes ≡ 0 = ap (λ (b : List ℕ). length b) none in
         absurd (omega (arith, some, short))
     go (first ∷ es) is =
-        let able : All CanEnter (first ∷ es) = subst (λ (xs : List (Call × Reply)). All CanEnter xs) is packed.able in
+        let able : All CanEnter (first ∷ es) = subst (λ (xs : List (TableCall × Reply)). All CanEnter xs) is packed.able in
         let behind : List ℕ = flat_map entry_bytes es in
         let whole : bytes ≡ entry_bytes first ++ behind = packed.whole ∙ ap (flat_map entry_bytes) is in
         let first_can : CanEnter first = All-head CanEnter first es able in
@@ -291,14 +279,14 @@ front_of bytes packed some = go (entries_in bytes) refl
           can = first_can;
           call = ap call_at (whole ∙ append_assoc (call_bytes first.0) (reply_bytes first.1) behind) ∙ call_read first.0 (reply_bytes first.1 ++ behind) first_can.0;
           reply = reply_read first.1 behind first_can.1;
-          packed = record { whole = ap (flat_map entry_bytes) (sym theirs); able = subst (λ (xs : List (Call × Reply)). All CanEnter xs) (sym theirs) others };
-          all = is ∙ ap (λ (xs : List (Call × Reply)). first ∷ xs) (sym theirs);
+          packed = record { whole = ap (flat_map entry_bytes) (sym theirs); able = subst (λ (xs : List (TableCall × Reply)). All CanEnter xs) (sym theirs) others };
+          all = is ∙ ap (λ (xs : List (TableCall × Reply)). first ∷ xs) (sym theirs);
         }
 
 -- What is behind the call begins with the reply, wherever the call went.
 pub reply_behind : (bytes more : List ℕ) (front : Front bytes) → more ≡ (call_at bytes).1 → reply_at more ≡ (front.entry.1, front.rest)
 reply_behind bytes more front is =
-    let begins : more ≡ reply_bytes front.entry.1 ++ front.rest = is ∙ ap (λ (p : Call × List ℕ). p.1) front.call in
+    let begins : more ≡ reply_bytes front.entry.1 ++ front.rest = is ∙ ap (λ (p : TableCall × List ℕ). p.1) front.call in
     ap reply_at begins ∙ front.reply
 
 pub can_behind : (bytes more : List ℕ) (front : Front bytes) → more ≡ (call_at bytes).1 → CanReply (reply_at more).0

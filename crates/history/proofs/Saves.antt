@@ -8,8 +8,8 @@ use Rattle.history.specs.Key.{of_table}
 use Rattle.history.specs.Writes.{Write, replaced, with_write}
 use Rattle.history.specs.Table.{Granted, has_save}
 use Rattle.history.specs.Log.{Log, save_at, floor_of, written, log_after, log_of}
-use Rattle.history.specs.declared.call.Call.{Call}
-use Rattle.history.specs.declared.call.Call.TheVariants.{Begin, Get, Put, Del, Scan, Save, Back, Commit, Abort, Offer, Settle, Purge}
+use Rattle.history.specs.declared.call.TableCall.{TableCall}
+use Rattle.history.specs.declared.call.TableCall.TheVariants.{Get, Put, Del, Scan, Save, Back}
 use Rattle.history.specs.declared.call.Reply.{Reply}
 use Rattle.history.specs.declared.call.Reply.TheVariants.{Fine}
 
@@ -107,8 +107,7 @@ rising-back log n is rising =
     let next : suc (n - 1) ≡ n = omega (arith, some) in
     subst (λ j. Rises [] (take j log.saved) (save_at log.saved n)) next (rises-take (n - 1) [] log.saved log.writes (omega (arith, some, within)) rising).0
 
-rising-after : (log : Log) (call : Call) (reply : Reply) → IsRising log → IsRising (log_after log call reply)
-rising-after log Begin reply rising = rising
+rising-after : (log : Log) (call : TableCall) (reply : Reply) → IsRising log → IsRising (log_after log call reply)
 rising-after log (Get name key) reply rising = rising
 rising-after log (Put name key value) reply rising = rising-written log (of_table name key, Some value) rising
 rising-after log (Del name key) Fine rising = rising-written log (of_table name key, None) rising
@@ -120,11 +119,6 @@ rising-after log (Back n) reply rising = go (has_save log.saved n) refl
     go : (b : Bool) → has_save log.saved n ≡ b → IsRising (if b then record { writes = save_at log.saved n; saved = take n log.saved } else log)
     go true is = rising-back log n is rising
     go false is = rising
-rising-after log Commit reply rising = rising
-rising-after log Abort reply rising = rising
-rising-after log Offer reply rising = rising
-rising-after log Settle reply rising = rising
-rising-after log Purge reply rising = rising
 
 rising_through : (calls : Granted) (log : Log) → IsRising log → IsRising (fold (λ was entry. log_after was entry.0 entry.1) log calls)
 rising_through [] log rising = rising

@@ -5,7 +5,7 @@ use Rattle.history.specs.declared.key.Key.{Key}
 use Rattle.history.specs.Legal.{records}
 use Rattle.history.specs.Locks.{has_table}
 use Rattle.history.specs.Writes.{Table}
-use Rattle.history.specs.declared.call.Call.TheVariants.{Get}
+use Rattle.history.specs.declared.call.TableCall.TheVariants.{Get}
 use Rattle.history.specs.declared.transaction.Done.{Done}
 use Rattle.history.specs.declared.answer.Answer.{Answer}
 use Rattle.history.specs.declared.answer.Answer.TheVariants.{Value, NoTable}

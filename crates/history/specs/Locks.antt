@@ -6,8 +6,8 @@ use Rattle.std.specs.FinMap.{get}
 use Rattle.history.specs.Key.{Key, of_table}
 use Rattle.history.specs.Writes.{Table}
 use Rattle.history.specs.Table.{Granted}
-use Rattle.history.specs.declared.call.Call.{Call}
-use Rattle.history.specs.declared.call.Call.TheVariants.{Get, Put, Del, Scan}
+use Rattle.history.specs.declared.call.TableCall.{TableCall}
+use Rattle.history.specs.declared.call.TableCall.TheVariants.{Get, Put, Del, Scan}
 use Rattle.history.specs.declared.call.Reply.{Reply}
 use Rattle.history.specs.declared.locks.Mode.{Mode}
 use Rattle.history.specs.declared.locks.Mode.TheVariants.{Shared, Exclusive}
@@ -17,7 +17,7 @@ abbrev pub stripe_of : ℕ → ℕ → ℕ
 stripe_of table key = (key % 64 + 8 * table) % 64
 
 -- There is a table of the name that a call asks for, if it asks for one.
-abbrev pub has_table : List (List ℕ) → Call → Bool
+abbrev pub has_table : List (List ℕ) → TableCall → Bool
 has_table names (Get name key) = is_some (number_of names name)
 has_table names (Put name key value) = is_some (number_of names name)
 has_table names (Del name key) = is_some (number_of names name)
@@ -34,7 +34,7 @@ Touch = Mode → Bool
 
 -- How a call touches a stripe: a get the stripe of its key and a scan all stripes for reading, a put and a removal the stripe of their key
 -- for writing. Other calls touch none.
-abbrev pub touches : List (List ℕ) → Call → ℕ → Touch
+abbrev pub touches : List (List ℕ) → TableCall → ℕ → Touch
 touches names (Get name key) stripe Shared = nat_eq (key_stripe names (of_table name key)) stripe
 touches names (Scan name low high) stripe Shared = nat_lt stripe 64
 touches names (Put name key value) stripe Exclusive = nat_eq (key_stripe names (of_table name key)) stripe
@@ -43,7 +43,7 @@ touches names call stripe mode = false
 
 -- how granted calls touched it, also those that a way back undid
 abbrev pub touched : List (List ℕ) → Granted → ℕ → Touch
-touched names calls stripe mode = list_any (λ (entry : Call × Reply). touches names entry.0 stripe mode) calls
+touched names calls stripe mode = list_any (λ (entry : TableCall × Reply). touches names entry.0 stripe mode) calls
 
 -- for reading or for writing
 abbrev pub is_touch : Touch → Bool
@@ -62,7 +62,7 @@ abbrev pub clash : Touch → Touch → Bool
 clash one other = (one Exclusive && is_touch other) || (is_touch one && other Exclusive)
 
 -- a call clashes with the granted calls of another caller at some stripe
-abbrev pub Meets : List (List ℕ) → Call → Granted → Type 0
+abbrev pub Meets : List (List ℕ) → TableCall → Granted → Type 0
 Meets names call calls = (stripe : ℕ) × IsTrue (clash (touches names call stripe) (touched names calls stripe))
 
 -- the granted calls of two callers clash nowhere

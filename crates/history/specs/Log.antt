@@ -4,8 +4,8 @@ use Rattle.std.specs.List.{fold, list_any}
 use Rattle.history.specs.Key.{Key, of_table}
 use Rattle.history.specs.Writes.{Write, is_of, with_write}
 use Rattle.history.specs.Table.{Granted, has_save}
-use Rattle.history.specs.declared.call.Call.{Call}
-use Rattle.history.specs.declared.call.Call.TheVariants.{Put, Del, Save, Back}
+use Rattle.history.specs.declared.call.TableCall.{TableCall}
+use Rattle.history.specs.declared.call.TableCall.TheVariants.{Put, Del, Save, Back}
 use Rattle.history.specs.declared.call.Reply.{Reply}
 use Rattle.history.specs.declared.call.Reply.TheVariants.{Fine}
 
@@ -31,7 +31,7 @@ abbrev pub written : Log → Write → Log
 written log write = record log { writes = with_write (floor_of log) write log.writes }
 
 -- the log after a granted call; removing a record that is not there writes nothing
-abbrev pub log_after : Log → Call → Reply → Log
+abbrev pub log_after : Log → TableCall → Reply → Log
 log_after log (Put name key value) reply = written log (of_table name key, Some value)
 log_after log (Del name key) Fine = written log (of_table name key, None)
 log_after log Save reply = record log { saved = log.saved ++ log.writes ∷ [] }

@@ -5,8 +5,8 @@ use lib.Pointwise.{pointwise}
 use Rattle.record_slots.specs.Text.{IsName, IsValue}
 use Rattle.history.specs.Key.{main_name}
 use Rattle.history.specs.Writes.{Row}
-use Rattle.history.specs.declared.call.Call.{Call}
-use Rattle.history.specs.declared.call.Call.TheVariants.{Begin, Get, Put, Del, Scan, Save, Back, Commit, Abort, Offer, Settle, Purge}
+use Rattle.history.specs.declared.call.TableCall.{TableCall}
+use Rattle.history.specs.declared.call.TableCall.TheVariants.{Get, Put, Del, Scan, Save, Back}
 use Rattle.history.specs.declared.call.Reply.{Reply}
 use Rattle.history.specs.declared.call.Reply.TheVariants.{Fine, Found, Absent, Listed, Saved, Committed, Purged, NoTransaction, NoTable, Already, NoSave, SavesFull, Busy, LogFull, SlotsFull, PagesFull, Media, Dead, NoMemory, Damaged}
 
@@ -40,58 +40,46 @@ abbrev pub name_at : List ℕ → List ℕ × List ℕ
 name_at bytes = (whole_name (text_at bytes).0, (text_at bytes).1)
 
 -- a call as bytes: a byte for its kind, and then what it names
-abbrev pub call_bytes : Call → List ℕ
-call_bytes Begin = 0 ∷ []
+abbrev pub call_bytes : TableCall → List ℕ
 call_bytes (Get table key) = 1 ∷ texted (kept_name table) ++ word key
 call_bytes (Put table key value) = 2 ∷ texted (kept_name table) ++ word key ++ texted value
 call_bytes (Del table key) = 3 ∷ texted (kept_name table) ++ word key
 call_bytes (Scan table low high) = 4 ∷ texted (kept_name table) ++ word low ++ word high
-call_bytes Save = 5 ∷ []
-call_bytes (Back save) = 6 ∷ word save
-call_bytes Commit = 7 ∷ []
-call_bytes Abort = 8 ∷ []
-call_bytes Offer = 9 ∷ []
-call_bytes Settle = 10 ∷ []
-call_bytes Purge = 11 ∷ []
+call_bytes Save = 0 ∷ []
+call_bytes (Back save) = 5 ∷ word save
 
 -- the call at the front of bytes, and what is behind it, where its kind is read
-abbrev pub get_at : List ℕ → Call × List ℕ
+abbrev pub get_at : List ℕ → TableCall × List ℕ
 get_at bytes = let table = name_at bytes in let key = word_at table.1 in (Get table.0 key.0, key.1)
 
-abbrev pub put_at : List ℕ → Call × List ℕ
+abbrev pub put_at : List ℕ → TableCall × List ℕ
 put_at bytes = let table = name_at bytes in let key = word_at table.1 in let value = text_at key.1 in (Put table.0 key.0 value.0, value.1)
 
-abbrev pub del_at : List ℕ → Call × List ℕ
+abbrev pub del_at : List ℕ → TableCall × List ℕ
 del_at bytes = let table = name_at bytes in let key = word_at table.1 in (Del table.0 key.0, key.1)
 
-abbrev pub scan_at : List ℕ → Call × List ℕ
+abbrev pub scan_at : List ℕ → TableCall × List ℕ
 scan_at bytes = let table = name_at bytes in let low = word_at table.1 in let high = word_at low.1 in (Scan table.0 low.0 high.0, high.1)
 
-abbrev pub back_at : List ℕ → Call × List ℕ
+abbrev pub back_at : List ℕ → TableCall × List ℕ
 back_at bytes = let save = word_at bytes in (Back save.0, save.1)
 
-abbrev pub call_of : ℕ → List ℕ → Call × List ℕ
+abbrev pub call_of : ℕ → List ℕ → TableCall × List ℕ
 call_of kind bytes =
     if nat_eq kind 1 then get_at bytes else
     if nat_eq kind 2 then put_at bytes else
     if nat_eq kind 3 then del_at bytes else
     if nat_eq kind 4 then scan_at bytes else
-    if nat_eq kind 5 then (Save, bytes) else
-    if nat_eq kind 6 then back_at bytes else
-    if nat_eq kind 7 then (Commit, bytes) else
-    if nat_eq kind 8 then (Abort, bytes) else
-    if nat_eq kind 9 then (Offer, bytes) else
-    if nat_eq kind 10 then (Settle, bytes) else
-    if nat_eq kind 11 then (Purge, bytes) else
-    (Begin, bytes)
+    if nat_eq kind 5 then back_at bytes else
+    (Save, bytes)
 
 -- the call at the front of bytes, and what is behind it
-abbrev pub call_at : List ℕ → Call × List ℕ
-call_at [] = (Begin, [])
+abbrev pub call_at : List ℕ → TableCall × List ℕ
+call_at [] = (Save, [])
 call_at (kind ∷ bytes) = call_of kind bytes
 
 -- what a caller can name in a call
-abbrev pub CanCall : Call → Type 0
+abbrev pub CanCall : TableCall → Type 0
 CanCall (Get table key) = IsName table × (key < 2 ^ 64)
 CanCall (Put table key value) = IsName table × (key < 2 ^ 64) × IsValue value
 CanCall (Del table key) = IsName table × (key < 2 ^ 64)
@@ -212,21 +200,21 @@ CanReply (Purged n) = n < 2 ^ 32
 CanReply reply = Unit {0}
 
 -- a call with its reply as bytes
-abbrev pub entry_bytes : Call × Reply → List ℕ
+abbrev pub entry_bytes : TableCall × Reply → List ℕ
 entry_bytes entry = call_bytes entry.0 ++ reply_bytes entry.1
 
-abbrev pub CanEnter : Call × Reply → Type 0
+abbrev pub CanEnter : TableCall × Reply → Type 0
 CanEnter entry = CanCall entry.0 × CanReply entry.1
 
 -- the calls with their replies in bytes, of which at most n are looked at
-abbrev pub entries_within : ℕ → List ℕ → List (Call × Reply)
+abbrev pub entries_within : ℕ → List ℕ → List (TableCall × Reply)
 entries_within zero bytes = []
 entries_within (suc n) [] = []
 entries_within (suc n) (kind ∷ bytes) =
     let call = call_at (kind ∷ bytes) in let reply = reply_at call.1 in (call.0, reply.0) ∷ entries_within n reply.1
 
 -- the calls with their replies in bytes
-abbrev pub entries_in : List ℕ → List (Call × Reply)
+abbrev pub entries_in : List ℕ → List (TableCall × Reply)
 entries_in bytes = entries_within (length bytes) bytes
 
 -- The bytes are those of calls with their replies.

@@ -4,14 +4,14 @@ use Rattle.std.specs.List.{fold}
 use Rattle.std.specs.FinMap.{get, insert, remove}
 use Rattle.history.specs.Key.{of_table}
 use Rattle.history.specs.Writes.{Table, rows_within}
-use Rattle.history.specs.declared.call.Call.{Call}
-use Rattle.history.specs.declared.call.Call.TheVariants.{Get, Put, Del, Scan, Save, Back}
+use Rattle.history.specs.declared.call.TableCall.{TableCall}
+use Rattle.history.specs.declared.call.TableCall.TheVariants.{Get, Put, Del, Scan, Save, Back}
 use Rattle.history.specs.declared.call.Reply.{Reply}
 use Rattle.history.specs.declared.call.Reply.TheVariants.{Fine, Found, Absent, Listed, Saved}
 
 -- granted calls, each with its reply
 abbrev pub Granted : Type 0
-Granted = List (Call × Reply)
+Granted = List (TableCall × Reply)
 
 -- a table as a transaction sees it, and its tables at the saves, the first save first
 pub record Work : Type 0 where
@@ -35,18 +35,17 @@ removed (Some value) = Fine
 abbrev pub has_save : {A : Type 0} → List A → ℕ → Bool
 has_save saves n = nat_lt 0 n && nat_le n (length saves)
 
--- The reply is the table's to this call. Begin, commit, abort, offer, settle and purge are no calls of a table.
-abbrev pub Answers : Work → Call → Reply → Type 0
+-- the reply is the table's to this call
+abbrev pub Answers : Work → TableCall → Reply → Type 0
 Answers work (Get name key) reply = reply ≡ found (get work.table (of_table name key))
 Answers work (Put name key value) reply = reply ≡ Fine
 Answers work (Del name key) reply = reply ≡ removed (get work.table (of_table name key))
 Answers work (Scan name low high) reply = reply ≡ Listed (rows_within name low high work.table)
 Answers work Save reply = reply ≡ Saved (length work.saves + 1)
 Answers work (Back n) reply = IsTrue (has_save work.saves n) × (reply ≡ Fine)
-Answers work _ reply = ⊥
 
 -- the table after a call; a way back restores the table of that save and forgets the later saves
-abbrev pub after : Work → Call → Work
+abbrev pub after : Work → TableCall → Work
 after work (Put name key value) = record { table = insert work.table (of_table name key) value; saves = work.saves }
 after work (Del name key) = record { table = remove work.table (of_table name key); saves = work.saves }
 after work Save = record { table = work.table; saves = work.saves ++ work.table ∷ [] }

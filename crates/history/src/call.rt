@@ -1,10 +1,9 @@
 use crate::Rows;
 use record_slots::{Name, Value};
 
-/// What a caller asks for.
+/// A call within a transaction: on a table, or on the transaction's saves.
 #[derive(Clone, Copy, Debug, PartialEq, Eq)]
-pub enum Call {
-    Begin,
+pub enum TableCall {
     Get { table: Name, key: u64 },
     Put { table: Name, key: u64, value: Value },
     Del { table: Name, key: u64 },
@@ -13,6 +12,11 @@ pub enum Call {
     Save,
     /// Back to a save, counted from 1.
     Back { save: u32 },
+}
+
+/// What ends a transaction, offers it to a group, or comes outside of any.
+#[derive(Clone, Copy, Debug, PartialEq, Eq)]
+pub enum Control {
     Commit,
     Abort,
     /// Gives the transaction to the next group: it takes no more calls, and is committed together with all that were offered by then.
@@ -22,6 +26,14 @@ pub enum Call {
     /// Takes keys without records out of the index, so that their slots are given again. It comes outside of any transaction of its
     /// caller's, and leaves each key whose stripe some live transaction has touched.
     Purge,
+}
+
+/// What a caller asks for.
+#[derive(Clone, Copy, Debug, PartialEq, Eq)]
+pub enum Call {
+    Begin,
+    Table(TableCall),
+    Control(Control),
 }
 
 /// The reply to a call.

@@ -18,7 +18,7 @@ mod transaction;
 mod unpacking;
 
 pub use answer::{Answer, Answers};
-pub use call::{Call, Reply};
+pub use call::{Call, Control, Reply, TableCall};
 pub use copying::since;
 pub use key::{Key, main_table};
 pub use laws::{

@@ -5,7 +5,7 @@ ghost use Rattle.history.specs.Writes.{Row};
 ghost use Rattle.history.specs.Packed.{word, texted, kept_name, call_bytes, CanCall, CanRow, row_bytes, reply_bytes, CanReply, is_listed, entries_in, ArePacked};
 ghost use Rattle.history.specs.declared.call.Reply.TheVariants.{Found, Listed, LogFull};
 
-use crate::{Call, Reply};
+use crate::{Reply, TableCall};
 use mars_base::NoMemory;
 use record_slots::{Name, Value};
 
@@ -78,7 +78,7 @@ fn append_number(bytes: &mut Vec<u8>, kind: u8, n: u64)
     append_word(bytes, n);
 }
 
-fn append_call(bytes: &mut Vec<u8>, call: &Call)
+fn append_call(bytes: &mut Vec<u8>, call: &TableCall)
     requires { length bytes.old.items + 81 ≤ vec_capacity bytes.old }
     ensures items { bytes.new.items ≡ bytes.old.items ++ call_bytes call.now }
     ensures room { vec_capacity bytes.old ≤ vec_capacity bytes.new }
@@ -86,24 +86,18 @@ fn append_call(bytes: &mut Vec<u8>, call: &Call)
     ensures able { CanCall call.now }
 {
     match call {
-        Call::Begin => append(bytes, &[0]),
-        Call::Get { table, key } => append_placed(bytes, 1, table, *key),
-        Call::Put { table, key, value } => {
+        TableCall::Get { table, key } => append_placed(bytes, 1, table, *key),
+        TableCall::Put { table, key, value } => {
             append_placed(bytes, 2, table, *key);
             append_text(bytes, value.as_bytes());
         }
-        Call::Del { table, key } => append_placed(bytes, 3, table, *key),
-        Call::Scan { table, low, high } => {
+        TableCall::Del { table, key } => append_placed(bytes, 3, table, *key),
+        TableCall::Scan { table, low, high } => {
             append_placed(bytes, 4, table, *low);
             append_word(bytes, *high);
         }
-        Call::Save => append(bytes, &[5]),
-        Call::Back { save } => append_number(bytes, 6, u64::from(*save)),
-        Call::Commit => append(bytes, &[7]),
-        Call::Abort => append(bytes, &[8]),
-        Call::Offer => append(bytes, &[9]),
-        Call::Settle => append(bytes, &[10]),
-        Call::Purge => append(bytes, &[11]),
+        TableCall::Save => append(bytes, &[0]),
+        TableCall::Back { save } => append_number(bytes, 5, u64::from(*save)),
     }
 }
 
@@ -204,7 +198,11 @@ fn append_reply(bytes: &mut Vec<u8>, reply: &Reply) -> Result<(), NoMemory>
 }
 
 /// Writes a call with its reply behind the others. Only the rows of a scan take more memory than there is room for.
-pub(crate) fn append_entry(bytes: &mut Vec<u8>, call: &Call, reply: &Reply) -> Result<(), NoMemory>
+pub(crate) fn append_entry(
+    bytes: &mut Vec<u8>,
+    call: &TableCall,
+    reply: &Reply,
+) -> Result<(), NoMemory>
     requires packed { ArePacked bytes.old.items }
     requires room { length bytes.old.items + 137 ≤ vec_capacity bytes.old }
     ensures packed { ArePacked bytes.new.items }

@@ -4,7 +4,7 @@ ghost use Rattle.history.specs.Told.{told_reply};
 
 use crate::packing::{MOST, append_entry};
 use crate::unpacking::{Told, behind_call, read_call, read_told};
-use crate::{Call, Reply};
+use crate::{Reply, TableCall};
 use mars_base::{Listed, NoMemory};
 use std::alloc::Global;
 use std::marker::Model;
@@ -20,11 +20,11 @@ pub struct Calls {
 
 impl Model for Calls {
     ghost use Rattle.std.specs.Prelude.{List};
-    ghost use Rattle.history.specs.declared.call.Call.{Call};
+    ghost use Rattle.history.specs.declared.call.TableCall.{TableCall};
     ghost use Rattle.history.specs.declared.call.Reply.{Reply};
     ghost use Rattle.history.specs.Packed.{entries_in, ArePacked};
 
-    ghost Value = { List (Call × Reply) };
+    ghost Value = { List (TableCall × Reply) };
 
     ghost view = { λ c. entries_in c.bytes.items };
 
@@ -40,7 +40,7 @@ impl Calls {
         }
     }
 
-    pub fn push(&mut self, call: Call, reply: Reply) -> Result<(), NoMemory>
+    pub fn push(&mut self, call: TableCall, reply: Reply) -> Result<(), NoMemory>
         ensures ok { OnOk result (self.new ≡ self.old ++ (call, reply) ∷ []) }
         ensures err { OnErr result (self.new ≡ self.old) }
     {
@@ -99,11 +99,11 @@ pub struct Entries<'a> {
 
 impl<'a> Model for Entries<'a> {
     ghost use Rattle.std.specs.Prelude.{List};
-    ghost use Rattle.history.specs.declared.call.Call.{Call};
+    ghost use Rattle.history.specs.declared.call.TableCall.{TableCall};
     ghost use Rattle.history.specs.declared.call.Reply.{Reply};
     ghost use Rattle.history.specs.Packed.{entries_in, ArePacked};
 
-    ghost Value = { List (Call × Reply) };
+    ghost Value = { List (TableCall × Reply) };
 
     ghost view = { λ e. entries_in e.bytes.now };
 
@@ -112,7 +112,7 @@ impl<'a> Model for Entries<'a> {
 
 impl<'a> Entries<'a> {
     /// The first call with its reply, and those behind it.
-    pub fn next(&self) -> Option<(Call, Told<'a>, Entries<'a>)>
+    pub fn next(&self) -> Option<(TableCall, Told<'a>, Entries<'a>)>
         ensures { MatchOption result (self.now ≡ []) (λ p. self.now ≡ (p.0, told_reply p.1) ∷ p.2) }
     {
         if self.bytes.is_empty() {
@@ -125,7 +125,7 @@ impl<'a> Entries<'a> {
 
     /// The reply to the first call, and the calls behind that one. The call itself is passed over.
     pub fn next_told(&self) -> Option<(Told<'a>, Entries<'a>)>
-        ensures { MatchOption result (self.now ≡ []) (λ p. (call : Call) × (self.now ≡ (call, told_reply p.0) ∷ p.1)) }
+        ensures { MatchOption result (self.now ≡ []) (λ p. (call : TableCall) × (self.now ≡ (call, told_reply p.0) ∷ p.1)) }
     {
         if self.bytes.is_empty() {
             return None;
@@ -144,11 +144,11 @@ pub struct CallsWithRoom {
 
 impl Model for CallsWithRoom {
     ghost use Rattle.std.specs.Prelude.{List, ◌+◌, ◌≤◌, length, vec_capacity};
-    ghost use Rattle.history.specs.declared.call.Call.{Call};
+    ghost use Rattle.history.specs.declared.call.TableCall.{TableCall};
     ghost use Rattle.history.specs.declared.call.Reply.{Reply};
     ghost use Rattle.history.specs.Packed.{entries_in, ArePacked, HasRoom};
 
-    ghost Value = { List (Call × Reply) };
+    ghost Value = { List (TableCall × Reply) };
 
     ghost view = { λ c. entries_in c.bytes.items };
 
@@ -157,7 +157,7 @@ impl Model for CallsWithRoom {
 
 impl CallsWithRoom {
     /// The calls with this one, in the room that there is, or as they are. Only the rows of a scan can lack memory.
-    pub fn push(self, call: &Call, reply: &Reply) -> Result<Calls, Calls>
+    pub fn push(self, call: &TableCall, reply: &Reply) -> Result<Calls, Calls>
         ensures ok { IfOk result (λ calls. calls ≡ self ++ (call.now, reply.now) ∷ []) }
         ensures err { IfErr result (λ calls. calls ≡ self) }
         ensures listed { OnErr result ((rows : List Row) × (reply.now ≡ Reply.Listed rows)) }

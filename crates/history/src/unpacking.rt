@@ -4,7 +4,7 @@ ghost use Rattle.record_slots.specs.Text.{IsName, IsValue};
 ghost use Rattle.history.specs.Packed.{word_at, text_at, name_at, call_at, get_at, put_at, del_at, scan_at, back_at, CanCall, row_at, rows_at, found_at, listed_at, log_full_at, number_reply, reply_of, reply_at, CanReply};
 ghost use Rattle.history.specs.Told.{told_reply};
 
-use crate::{Call, Reply, Rows, main_table};
+use crate::{Reply, Rows, TableCall, main_table};
 use mars_base::NoMemory;
 use record_slots::{Name, Value};
 use std::alloc::Global;
@@ -139,17 +139,17 @@ fn read_name(bytes: &[u8]) -> (Name, &[u8])
     (name, rest)
 }
 
-fn read_get(bytes: &[u8]) -> (Call, &[u8])
+fn read_get(bytes: &[u8]) -> (TableCall, &[u8])
     requires { CanCall (get_at bytes.now).0 }
     ensures call { result.0 ≡ (get_at bytes.now).0 }
     ensures rest { result.1.now ≡ (get_at bytes.now).1 }
 {
     let (table, rest) = read_name(bytes);
     let (key, rest) = read_word(rest);
-    (Call::Get { table, key }, rest)
+    (TableCall::Get { table, key }, rest)
 }
 
-fn read_put(bytes: &[u8]) -> (Call, &[u8])
+fn read_put(bytes: &[u8]) -> (TableCall, &[u8])
     requires { CanCall (put_at bytes.now).0 }
     ensures call { result.0 ≡ (put_at bytes.now).0 }
     ensures rest { result.1.now ≡ (put_at bytes.now).1 }
@@ -157,20 +157,20 @@ fn read_put(bytes: &[u8]) -> (Call, &[u8])
     let (table, rest) = read_name(bytes);
     let (key, rest) = read_word(rest);
     let (value, rest) = read_value(rest);
-    (Call::Put { table, key, value }, rest)
+    (TableCall::Put { table, key, value }, rest)
 }
 
-fn read_del(bytes: &[u8]) -> (Call, &[u8])
+fn read_del(bytes: &[u8]) -> (TableCall, &[u8])
     requires { CanCall (del_at bytes.now).0 }
     ensures call { result.0 ≡ (del_at bytes.now).0 }
     ensures rest { result.1.now ≡ (del_at bytes.now).1 }
 {
     let (table, rest) = read_name(bytes);
     let (key, rest) = read_word(rest);
-    (Call::Del { table, key }, rest)
+    (TableCall::Del { table, key }, rest)
 }
 
-fn read_scan(bytes: &[u8]) -> (Call, &[u8])
+fn read_scan(bytes: &[u8]) -> (TableCall, &[u8])
     requires { CanCall (scan_at bytes.now).0 }
     ensures call { result.0 ≡ (scan_at bytes.now).0 }
     ensures rest { result.1.now ≡ (scan_at bytes.now).1 }
@@ -178,40 +178,34 @@ fn read_scan(bytes: &[u8]) -> (Call, &[u8])
     let (table, rest) = read_name(bytes);
     let (low, rest) = read_word(rest);
     let (high, rest) = read_word(rest);
-    (Call::Scan { table, low, high }, rest)
+    (TableCall::Scan { table, low, high }, rest)
 }
 
-fn read_back(bytes: &[u8]) -> (Call, &[u8])
+fn read_back(bytes: &[u8]) -> (TableCall, &[u8])
     requires { CanCall (back_at bytes.now).0 }
     ensures call { result.0 ≡ (back_at bytes.now).0 }
     ensures rest { result.1.now ≡ (back_at bytes.now).1 }
 {
     let (save, rest) = read_word(bytes);
-    (Call::Back { save: save as u32 }, rest)
+    (TableCall::Back { save: save as u32 }, rest)
 }
 
 /// The call at the front, and what is behind it.
-pub(crate) fn read_call(bytes: &[u8]) -> (Call, &[u8])
+pub(crate) fn read_call(bytes: &[u8]) -> (TableCall, &[u8])
     requires { CanCall (call_at bytes.now).0 }
     ensures call { result.0 ≡ (call_at bytes.now).0 }
     ensures rest { result.1.now ≡ (call_at bytes.now).1 }
 {
     let Some((kind, rest)) = bytes.split_first() else {
-        return (Call::Begin, bytes);
+        return (TableCall::Save, bytes);
     };
     match *kind {
         1 => read_get(rest),
         2 => read_put(rest),
         3 => read_del(rest),
         4 => read_scan(rest),
-        5 => (Call::Save, rest),
-        6 => read_back(rest),
-        7 => (Call::Commit, rest),
-        8 => (Call::Abort, rest),
-        9 => (Call::Offer, rest),
-        10 => (Call::Settle, rest),
-        11 => (Call::Purge, rest),
-        _ => (Call::Begin, rest),
+        5 => read_back(rest),
+        _ => (TableCall::Save, rest),
     }
 }
 
@@ -251,7 +245,7 @@ pub(crate) fn behind_call(bytes: &[u8]) -> &[u8]
         1 | 3 => behind_placed(rest),
         2 => behind_text(behind_placed(rest)),
         4 => behind_word(behind_placed(rest)),
-        6 => behind_word(rest),
+        5 => behind_word(rest),
         _ => rest,
     }
 }

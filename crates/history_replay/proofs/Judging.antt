@@ -4,7 +4,7 @@ use Rattle.std.proofs.lemmas.List.{take_more, length-take-le}
 use Rattle.history.specs.Writes.{Table}
 use Rattle.history.specs.Table.{Granted, Work, Answers, after, worked, IsRightFrom, IsRight, left_by}
 use Rattle.history.specs.Legal.{records, IsLegalFrom, IsLegal}
-use Rattle.history.specs.declared.call.Call.{Call}
+use Rattle.history.specs.declared.call.TableCall.{TableCall}
 use Rattle.history.specs.declared.call.Reply.{Reply}
 use Rattle.history.specs.declared.transaction.Done.{Done}
 use Rattle.history.proofs.OneMore.{IsLegal-push, records-push}
@@ -35,7 +35,7 @@ pub legal_at : (base : Table) (history : List Done) (i : ℕ) (done : Done) → 
     → ((get_or history i done).at ≡ i + 1) × IsRight (records base (take i history)) (get_or history i done).calls
 legal_at base history i done within legal = let both = legal_from_at 1 base history i done within legal in (omega (arith, both.0), both.1)
 
-module _ (work : Work) (left rest : Granted) (call : Call) (reply : Reply) (front : left ≡ (call, reply) ∷ rest) where
+module _ (work : Work) (left rest : Granted) (call : TableCall) (reply : Reply) (front : left ≡ (call, reply) ∷ rest) where
   -- Where calls are right, the first gets the right reply, and those behind it are right,
   pub right_front : IsRightFrom work left → Answers work call reply × IsRightFrom (after work call) rest
   right_front right = subst (λ calls. IsRightFrom work calls) front right

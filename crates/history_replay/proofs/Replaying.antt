@@ -16,7 +16,7 @@ use Rattle.history.specs.Writes.{Table, Row, is_within, set_or_remove}
 use Rattle.history.specs.Rows.{NamedRows, all_keyed, records_in, table_of}
 use Rattle.history.specs.Table.{Work, has_save, after}
 use Rattle.history_replay.specs.Replay.{table_in, with_rows, is_listed}
-use Rattle.history.specs.declared.call.Call.TheVariants.{Back}
+use Rattle.history.specs.declared.call.TableCall.TheVariants.{Back}
 use Rattle.std.proofs.lemmas.Bool.{and_parts, ltb-true, leb-true}
 use Rattle.std.proofs.lemmas.List.{length-map, take-map, get_or-map, drop_more}
 use Rattle.history.proofs.Keys.{key_cmp_total, tied, same_turned}

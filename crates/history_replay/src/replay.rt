@@ -5,12 +5,12 @@ ghost use Rattle.history.specs.Key.{of_table};
 ghost use Rattle.history.specs.Writes.{rows_within};
 ghost use Rattle.history.specs.Table.{Answers, after, begun, worked, IsRight, left_by, found, removed, has_save};
 ghost use Rattle.history.specs.Legal.{records, IsLegal};
-ghost use Rattle.history.specs.declared.call.Call.TheVariants.{Save, Back};
+ghost use Rattle.history.specs.declared.call.TableCall.TheVariants.{Save, Back};
 ghost use Rattle.history.specs.declared.call.Reply.TheVariants.{Fine, Found, Absent, Listed, Saved};
 ghost use Rattle.history.specs.Rows.{records_in, table_of};
 ghost use Rattle.history_replay.specs.Replay.{table_in, work_in, with_rows, is_listed};
 
-use history::{Call, Calls, Done, Key, Reply, Rows, Tables};
+use history::{Calls, Done, Key, Reply, Rows, TableCall, Tables};
 use mars_base::NoMemory;
 use record_slots::{Name, Value};
 use std::alloc::Global;
@@ -94,18 +94,16 @@ impl Replay {
     }
 
     // Whether this is the table's reply to the call.
-    fn answers(&self, call: &Call, reply: &Reply, alloc: Global) -> Result<bool, NoMemory>
+    fn answers(&self, call: &TableCall, reply: &Reply, alloc: Global) -> Result<bool, NoMemory>
         ensures { IfOk result (λ right. IsTrue right ↔ Answers (work_in self.now) call.now reply.now) }
     {
         match call {
-            Call::Get { table, key } => Ok(self.finds(&placed(table, *key), reply)),
-            Call::Put { .. } => Ok(is_fine(reply)),
-            Call::Del { table, key } => Ok(self.removes(&placed(table, *key), reply)),
-            Call::Scan { table, low, high } => self.lists(table, *low, *high, reply, alloc),
-            Call::Save => Ok(self.saves_as(reply)),
-            Call::Back { save } => Ok(self.has_save(*save) && is_fine(reply)),
-            Call::Begin | Call::Commit | Call::Abort | Call::Offer | Call::Settle | Call::Purge =>
-                Ok(false),
+            TableCall::Get { table, key } => Ok(self.finds(&placed(table, *key), reply)),
+            TableCall::Put { .. } => Ok(is_fine(reply)),
+            TableCall::Del { table, key } => Ok(self.removes(&placed(table, *key), reply)),
+            TableCall::Scan { table, low, high } => self.lists(table, *low, *high, reply, alloc),
+            TableCall::Save => Ok(self.saves_as(reply)),
+            TableCall::Back { save } => Ok(self.has_save(*save) && is_fine(reply)),
         }
     }
 
@@ -183,25 +181,18 @@ impl Replay {
         self.saves.truncate(0);
     }
 
-    fn make(&mut self, call: &Call) -> Result<(), NoMemory>
+    fn make(&mut self, call: &TableCall) -> Result<(), NoMemory>
         ensures { OnOk result (work_in self.new ≡ after (work_in self.old) call.now) }
     {
         match call {
-            Call::Put { table, key, value } => self.put(placed(table, *key), *value),
-            Call::Del { table, key } => {
+            TableCall::Put { table, key, value } => self.put(placed(table, *key), *value),
+            TableCall::Del { table, key } => {
                 self.del(&placed(table, *key));
                 Ok(())
             }
-            Call::Save => self.save(),
-            Call::Back { save } => self.back(*save),
-            Call::Begin
-            | Call::Get { .. }
-            | Call::Scan { .. }
-            | Call::Commit
-            | Call::Abort
-            | Call::Offer
-            | Call::Settle
-            | Call::Purge => Ok(()),
+            TableCall::Save => self.save(),
+            TableCall::Back { save } => self.back(*save),
+            TableCall::Get { .. } | TableCall::Scan { .. } => Ok(()),
         }
     }
 

@@ -2,7 +2,7 @@
 use Rattle.std.proofs.Common.{◌≡◌, ℕ, List, [], ◌∷◌, ◌++◌, append_assoc}
 use Rattle.std.specs.Prelude.{codes}
 use Rattle.std.specs.Fmt.{decimal}
-use Rattle.history.specs.declared.call.Call.{Call}
+use Rattle.history.specs.declared.call.TableCall.{TableCall}
 use Rattle.history.specs.declared.call.Reply.{Reply}
 use Rattle.script_text.specs.Replies.{reply_line}
 
@@ -17,5 +17,5 @@ pub done_pieces : (at caller : ℕ) (replies : List ℕ)
 done_pieces at caller replies = simp append_assoc
 
 -- the lines of the reply to a call
-abbrev pub kept_lines : ℕ → Call × Reply → List ℕ
+abbrev pub kept_lines : ℕ → TableCall × Reply → List ℕ
 kept_lines caller entry = reply_line caller entry.1

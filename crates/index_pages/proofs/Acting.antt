@@ -80,6 +80,7 @@ module _ (tells : Bool) (Opens : List ℕ → List ℕ → Type 0) (t : ℕ) whe
   acts_none old pages parts (Damaged bad) lacks = absurd lacks
   acts_none old pages parts _ lacks = record {
     shape = refl;
+    depth = refl;
     cause = lacks;
     saves = refl;
     others = λ u ne. refl;
@@ -87,12 +88,13 @@ module _ (tells : Bool) (Opens : List ℕ → List ℕ → Type 0) (t : ℕ) whe
     made = λ told living. refl;
     dies = λ failed. absurd (false≢true failed);
     time = λ told living. weaker (λ image opens. inl opens) (stays old.store.moment old.store.left_since (λ image. Opens image old.store.state.bytes));
-    mirrors = none_sent tells old.store old.store refl refl (λ fine. fine) (λ told mirrors fine. refl);
+    mirrors = none_sent tells old.store old.store refl refl refl (λ fine. fine) (λ told mirrors fine. refl);
   }
 
   -- Within a top action that has begun: these parts were written, and in these pages a part each is still to be written.
   pub record Acting (old now : PagesView) (parts : List Part) (left : List ℕ) : Type 0 where
     pub shape : now.store.shape ≡ old.store.shape
+    pub depth : now.store.depth ≡ old.store.depth
     pub mirrors : Mirrors tells old.store now.store
     pub alive : now.store.is_dead ≡ false
     pub faults : now.store.faults ≡ old.store.faults
@@ -111,7 +113,8 @@ module _ (tells : Bool) (Opens : List ℕ → List ℕ → Type 0) (t : ℕ) whe
       let ranges : (u : ℕ) → now.store.ranges u ≡ old.store.ranges u = λ u. ap (λ (s : StoreView). s.ranges u) same in
       record {
         shape = ap (λ (s : StoreView). s.shape) same;
-        mirrors = subst (λ (s : StoreView). Mirrors tells old.store s) (sym same) (none_sent tells old.store old.store refl refl (λ fine. fine) (λ told mirrors fine. refl));
+        depth = ap (λ (s : StoreView). s.depth) same;
+        mirrors = subst (λ (s : StoreView). Mirrors tells old.store s) (sym same) (none_sent tells old.store old.store refl refl refl (λ fine. fine) (λ told mirrors fine. refl));
         alive = begun.alive;
         faults = ap (λ (s : StoreView). s.faults) same;
         saves = ap (λ (o : Outline). o.counts) begun.outline;
@@ -163,6 +166,7 @@ module _ (tells : Bool) (Opens : List ℕ → List ℕ → Type 0) (t : ℕ) whe
         ap (λ (x : Outline). listed (x.ranges t)) out ∙ ap listed (with_here now.store.ranges t (Some (with_range (floor_in (outline_of now) t) (address page at, length bytes) (listed (now.store.ranges t))))) in
         record {
           shape = does.shape ∙ acting.shape;
+          depth = does.depth ∙ acting.depth;
           mirrors = sent_then tells old.store now.store new.store acting.mirrors does.mirrors;
           alive = does.done.alive;
           faults = does.kept ∙ acting.faults;
@@ -182,6 +186,7 @@ module _ (tells : Bool) (Opens : List ℕ → List ℕ → Type 0) (t : ℕ) whe
         → (let r : Result (Unit {0}) PageFault = Err fault in Does tells Opens (write_as t (address page at) bytes) now new r) → (let r : Result (Unit {0}) PageFault = Err fault in Acts tells Opens t pages all old new r)
     acting_fail Media alive pages all does = record {
       shape = does.shape ∙ acting.shape;
+      depth = does.depth ∙ acting.depth;
       mirrors = sent_then tells old.store now.store new.store acting.mirrors does.mirrors;
       cause = alive;
       saves = does.marks.0 ∙ acting.saves;
@@ -245,6 +250,7 @@ module _ (tells : Bool) (Opens : List ℕ → List ℕ → Type 0) (t : ℕ) whe
         ] in
         record {
           shape = does.shape ∙ acting.shape;
+          depth = does.depth ∙ acting.depth;
           mirrors = sent_then tells old.store now.store new.store acting.mirrors does.mirrors;
           cause = (alive, fits);
           saves = ap (λ (o : Outline). o.counts) out ∙ acting.saves;
@@ -262,6 +268,7 @@ module _ (tells : Bool) (Opens : List ℕ → List ℕ → Type 0) (t : ℕ) whe
         }
     acting_end (Err Media) does = record {
       shape = does.shape ∙ acting.shape;
+      depth = does.depth ∙ acting.depth;
       mirrors = sent_then tells old.store now.store new.store acting.mirrors does.mirrors;
       cause = alive;
       saves = does.marks.0 ∙ acting.saves;

@@ -10,8 +10,13 @@ use Rattle.page_store.specs.declared.fault.PageFault.TheVariants as page
 use Rattle.page_store.specs.declared.index_fault.IndexFault.{IndexFault}
 use Rattle.page_store.specs.declared.index_fault.IndexFault.TheVariants as index
 use Rattle.index_pages.specs.Acts.{ActCause}
-use Rattle.index_pages.specs.Faults.{as_index, IsOfIndex}
+use Rattle.page_store.specs.Faults.{as_index}
 use Rattle.index_pages.specs.Fetched.{TestCause}
+
+-- it is not that of too many saves
+abbrev pub IsOfIndex : PageFault → Type 0
+IsOfIndex page.SavesFull = ⊥
+IsOfIndex _ = Unit {0}
 
 -- a fault of a read, a look or an action is not that of too many saves
 pub test_of_index : (T : Type 0) (tells : Bool) (Good : Type 0) (at : ℕ) (old : StoreView) (fault : PageFault) → (let r : Result T PageFault = Err fault in TestCause tells Good at old r) → IsOfIndex fault

@@ -11,7 +11,7 @@ use Rattle.page_store.specs.Works.{WorksFrom, Limits, unless_full}
 use Rattle.page_store.specs.declared.fault.PageFault.{PageFault}
 use Rattle.page_store.specs.declared.fault.PageFault.TheVariants as page
 use Rattle.page_store.specs.declared.index_fault.IndexFault.{IndexFault}
-use Rattle.index_pages.specs.Faults.{as_index}
+use Rattle.page_store.specs.Faults.{as_index}
 
 -- a fault of pages does not say so
 fault_left : (fault : PageFault) → (let r : Result ℕ IndexFault = Err (as_index fault) in are_slots_full r ≡ false)

@@ -21,7 +21,7 @@ use Rattle.page_store.specs.declared.fault.PageFault.TheVariants as page
 use Rattle.page_store.specs.declared.index_fault.IndexFault.{IndexFault}
 use Rattle.page_store.specs.declared.index_fault.IndexFault.TheVariants as index
 use Rattle.index_pages.specs.Acts.{Acts}
-use Rattle.index_pages.specs.Faults.{as_index}
+use Rattle.page_store.specs.Faults.{as_index}
 
 pub nothing_touched : (ix : Index) (root : ℕ) (bytes : List ℕ) → IsUntouched ix root bytes bytes
 nothing_touched ix root bytes = record { pairs = refl; level = refl; pages = λ x on. (on, refl) }
@@ -70,6 +70,7 @@ module _ (ix : Index) (tells : Bool) (Opens : List ℕ → List ℕ → Type 0) 
   -- So far logs and saves are as they were, and the data has at most grown.
   pub record Going (old now : PagesView) : Type 0 where
     pub shape : now.store.shape ≡ old.store.shape
+    pub depth : now.store.depth ≡ old.store.depth
     pub mirrors : Mirrors tells old.store now.store
     pub saves : now.counts ≡ old.counts
     pub others : (u : ℕ) → u ≢ t → now.store.ranges u ≡ old.store.ranges u
@@ -82,6 +83,7 @@ module _ (ix : Index) (tells : Bool) (Opens : List ℕ → List ℕ → Type 0) 
       let still = looks.still refl in
       record {
         shape = looks.shape;
+        depth = looks.depth;
         mirrors = looks.mirrors;
         saves = looks.saves;
         others = λ u ne. ap (λ (f : ℕ → Option (List (ℕ × ℕ))). f u) looks.ranges;
@@ -105,6 +107,7 @@ module _ (ix : Index) (tells : Bool) (Opens : List ℕ → List ℕ → Type 0) 
       let still = looks.still refl in
       record {
         shape = looks.shape ∙ going.shape;
+        depth = looks.depth ∙ going.depth;
         mirrors = sent_then tells old.store mid.store now.store going.mirrors looks.mirrors;
         saves = looks.saves ∙ going.saves;
         others = λ u ne. ap (λ (f : ℕ → Option (List (ℕ × ℕ))). f u) looks.ranges ∙ going.others u ne;
@@ -131,6 +134,7 @@ module _ (ix : Index) (tells : Bool) (Opens : List ℕ → List ℕ → Type 0) 
         → (IsTrue tells → IsAlive old.store → Grows ix root old.store.state.bytes (applied parts mid.store.state.bytes) × Rests ix root old.store.state.bytes (applied parts mid.store.state.bytes)) → Going old now
     going_act acts grown = record {
       shape = acts.shape ∙ going.shape;
+      depth = acts.depth ∙ going.depth;
       mirrors = sent_then tells old.store mid.store now.store going.mirrors acts.mirrors;
       saves = acts.saves ∙ going.saves;
       others = λ u ne. acts.others u ne ∙ going.others u ne;
@@ -143,6 +147,7 @@ module _ (ix : Index) (tells : Bool) (Opens : List ℕ → List ℕ → Type 0) 
     refused : (g h n : ℕ) → (let r : Result (Unit {0}) PageFault = Err (page.LogFull g h n) in Acts tells Opens t pages parts mid now r) → Going old now
     refused g h n acts = record {
       shape = acts.shape ∙ going.shape;
+      depth = acts.depth ∙ going.depth;
       mirrors = sent_then tells old.store mid.store now.store going.mirrors acts.mirrors;
       saves = acts.saves ∙ going.saves;
       others = λ u ne. acts.others u ne ∙ going.others u ne;
@@ -157,6 +162,7 @@ module _ (ix : Index) (tells : Bool) (Opens : List ℕ → List ℕ → Type 0) 
         → (let s : Result ℕ IndexFault = Ok slot in InsertCause tells ix t root key old.store s) → (let s : Result ℕ IndexFault = Ok slot in Inserts tells Opens ix t root table key old now s)
     inserts_done slot acts data' cause = record {
       shape = acts.shape ∙ going.shape;
+      depth = acts.depth ∙ going.depth;
       mirrors = sent_then tells old.store mid.store now.store going.mirrors acts.mirrors;
       cause = cause;
       saves = acts.saves ∙ going.saves;
@@ -173,6 +179,7 @@ module _ (ix : Index) (tells : Bool) (Opens : List ℕ → List ℕ → Type 0) 
       → ((n : ℕ) → fault ≡ index.PagesFull n → IsTrue tells → IsAlive old.store → (n ≤ used_pages now.store.state.bytes) ⊎ (7 ≤ ix.level now.store.state.bytes root)) → (let s : Result ℕ IndexFault = Err fault in Inserts tells Opens ix t root table key old now s)
   inserts_refused old now going fault cause full = record {
     shape = going.shape;
+    depth = going.depth;
     mirrors = going.mirrors;
     cause = cause.1;
     saves = going.saves;
@@ -198,6 +205,7 @@ module _ (ix : Index) (tells : Bool) (Opens : List ℕ → List ℕ → Type 0) 
       let dies = looks.dies refl in
       record {
         shape = looks.shape ∙ going.shape;
+        depth = looks.depth ∙ going.depth;
         mirrors = sent_then tells old.store mid.store now.store going.mirrors looks.mirrors;
         cause = alive;
         saves = looks.saves ∙ going.saves;
@@ -224,6 +232,7 @@ module _ (ix : Index) (tells : Bool) (Opens : List ℕ → List ℕ → Type 0) 
       let dies = acts.dies refl in
       record {
         shape = acts.shape ∙ going.shape;
+        depth = acts.depth ∙ going.depth;
         mirrors = sent_then tells old.store mid.store now.store going.mirrors acts.mirrors;
         cause = alive;
         saves = acts.saves ∙ going.saves;

@@ -88,6 +88,7 @@ module _ (tells : Bool) (E : Shape → List ℕ → List ℕ → Type 0) (t root
       let living : IsAlive v.store = alive_now up tells (E v0.store.shape) t root table key v0 v going alive in
       record {
         shape = rest.shape ∙ going.shape;
+        depth = rest.depth ∙ going.depth;
         mirrors = sent_then tells v0.store v.store v'.store going.mirrors rest.mirrors;
         cause = cause_then r rest.cause;
         saves = rest.saves ∙ going.saves;

@@ -20,7 +20,8 @@ module _ (tells : Bool) (Opens : List ℕ → List ℕ → Type 0) where
   pub looks_none : (old : PagesView) → Looks tells Opens false old old
   looks_none old = record {
     shape = refl;
-    mirrors = none_sent tells old.store old.store refl refl (λ fine. fine) (λ told mirrors fine. refl);
+    depth = refl;
+    mirrors = none_sent tells old.store old.store refl refl refl (λ fine. fine) (λ told mirrors fine. refl);
     ranges = refl;
     saves = refl;
     tops = refl;
@@ -39,6 +40,7 @@ module _ (tells : Bool) (Opens : List ℕ → List ℕ → Type 0) where
       let still = first.still refl in
       record {
         shape = second.shape ∙ first.shape;
+        depth = second.depth ∙ first.depth;
         mirrors = sent_then tells old.store mid.store new.store first.mirrors second.mirrors;
         ranges = second.ranges ∙ first.ranges;
         saves = second.saves ∙ first.saves;
@@ -57,6 +59,7 @@ module _ (tells : Bool) (Opens : List ℕ → List ℕ → Type 0) where
       let out = does.done.outline in (
         record {
           shape = does.shape;
+          depth = does.depth;
           mirrors = does.mirrors;
           ranges = ap (λ (o : Outline). o.ranges) out;
           saves = ap (λ (o : Outline). o.counts) out;
@@ -70,6 +73,7 @@ module _ (tells : Bool) (Opens : List ℕ → List ℕ → Type 0) where
   looks_read old new (Err Media) does same = (
     record {
       shape = does.shape;
+      depth = does.depth;
       mirrors = does.mirrors;
       ranges = λ i u. does.others u (λ e. e) i;
       saves = does.marks.0;

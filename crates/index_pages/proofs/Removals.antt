@@ -27,6 +27,7 @@ module _ (tells : Bool) (Opens : List ℕ → List ℕ → Type 0) (ix : Index) 
       → (let r : Result Bool PageFault = Ok false in Removes tells Opens ix t root key old now r)
   removes_none old now looks alive none = record {
     shape = looks.shape;
+    depth = looks.depth;
     mirrors = looks.mirrors;
     cause = (alive, none);
     saves = looks.saves;
@@ -42,6 +43,7 @@ module _ (tells : Bool) (Opens : List ℕ → List ℕ → Type 0) (ix : Index) 
       → (let r : Result Bool PageFault = Err (Damaged bad) in Removes tells Opens ix t root key old now r)
   removes_damaged old now bad looks alive untold = record {
     shape = looks.shape;
+    depth = looks.depth;
     mirrors = looks.mirrors;
     cause = (alive, untold);
     saves = looks.saves;
@@ -59,6 +61,7 @@ module _ (tells : Bool) (Opens : List ℕ → List ℕ → Type 0) (ix : Index) 
       let dies = looks.0.dies refl in
       record {
         shape = looks.0.shape;
+        depth = looks.0.depth;
         mirrors = looks.0.mirrors;
         cause = looks.1;
         saves = looks.0.saves;
@@ -70,6 +73,7 @@ module _ (tells : Bool) (Opens : List ℕ → List ℕ → Type 0) (ix : Index) 
       }
   removes_look_err T old now Dead looks = record {
     shape = looks.0.shape;
+    depth = looks.0.depth;
     mirrors = looks.0.mirrors;
     cause = looks.1;
     saves = looks.0.saves;
@@ -93,6 +97,7 @@ module _ (tells : Bool) (Opens : List ℕ → List ℕ → Type 0) (ix : Index) 
     pub removes_done : (let r : Result (Unit {0}) PageFault = Ok tt in Acts tells Opens t pages parts old now r) → (let r : Result Bool PageFault = Ok true in Removes tells Opens ix t root key old now r)
     removes_done acts = record {
       shape = acts.shape;
+      depth = acts.depth;
       mirrors = acts.mirrors;
       cause = (alive, λ told. (pages, takes told, acts.cause.1));
       saves = acts.saves;
@@ -107,6 +112,7 @@ module _ (tells : Bool) (Opens : List ℕ → List ℕ → Type 0) (ix : Index) 
     pub removes_act_err : (fault : PageFault) → (let r : Result (Unit {0}) PageFault = Err fault in Acts tells Opens t pages parts old now r) → (let r : Result Bool PageFault = Err fault in Removes tells Opens ix t root key old now r)
     removes_act_err Media acts = record {
       shape = acts.shape;
+      depth = acts.depth;
       mirrors = acts.mirrors;
       cause = alive;
       saves = acts.saves;
@@ -118,6 +124,7 @@ module _ (tells : Bool) (Opens : List ℕ → List ℕ → Type 0) (ix : Index) 
     }
     removes_act_err (LogFull g h n) acts = record {
       shape = acts.shape;
+      depth = acts.depth;
       mirrors = acts.mirrors;
       cause = (alive, (pages, few, acts.cause.1), λ told. (pages, takes told, acts.cause.1));
       saves = acts.saves;
@@ -166,6 +173,7 @@ module _ (tells : Bool) (E : Shape → List ℕ → List ℕ → Type 0) (ix : I
       let living : IsAlive mid.store = (looks.still refl).dead ∙ alive in
       record {
         shape = rest.shape ∙ looks.shape;
+        depth = rest.depth ∙ looks.depth;
         mirrors = sent_then tells old.store mid.store new.store looks.mirrors rest.mirrors;
         cause = cause_back r rest.cause;
         saves = rest.saves ∙ looks.saves;

@@ -13,7 +13,7 @@ use Rattle.page_store.specs.declared.fault.PageFault.{PageFault}
 use Rattle.page_store.specs.declared.fault.PageFault.TheVariants as page
 use Rattle.page_store.specs.declared.index_fault.CheckFault.{CheckFault}
 use Rattle.page_store.specs.declared.index_fault.CheckFault.TheVariants as check
-use Rattle.index_pages.specs.Faults.{as_check}
+use Rattle.page_store.specs.Faults.{as_check}
 use Rattle.index_pages.specs.Fetched.{ReadCause, TestCause}
 use Rattle.index_pages.specs.Slots.{IsVerdict, slots_check, pages_check, tables_check, index_check}
 

@@ -21,7 +21,7 @@ use Rattle.page_store.specs.declared.fault.PageFault.{PageFault}
 use Rattle.page_store.specs.declared.fault.PageFault.TheVariants as faults
 use Rattle.page_store.specs.declared.index_fault.CheckFault.{CheckFault}
 use Rattle.page_store.specs.declared.index_fault.CheckFault.TheVariants.{Damaged, Media, Dead, NoMemory}
-use Rattle.index_pages.specs.Faults.{as_check}
+use Rattle.page_store.specs.Faults.{as_check}
 use Rattle.record_slots.specs.Super.{SaysSuper, HasTables, version_said, next_page_said, entries_said}
 use Rattle.index_pages.specs.Fetched.{IsFront, ReadCause, TestCause}
 use Rattle.mars_base.specs.Costs.{Costs}

@@ -28,7 +28,7 @@ use Rattle.page_store.specs.declared.index_fault.IndexFault.{IndexFault}
 use Rattle.page_store.specs.declared.index_fault.IndexFault.TheVariants as index
 use Rattle.index_pages.specs.Acts.{ActCause}
 use Rattle.index_pages.specs.Adding.{adding_pages, adding_parts}
-use Rattle.index_pages.specs.Faults.{as_index}
+use Rattle.page_store.specs.Faults.{as_index}
 use Rattle.index_pages.specs.Giving.{removing_pages, removing_parts}
 use Rattle.std.specs.List.{AllZip}
 use Rattle.index_pages.specs.Fetched.{ReadCause}

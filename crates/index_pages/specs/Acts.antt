@@ -28,6 +28,7 @@ ActData parts old new (Err _) = new ≡ old
 -- added at the end of what it has sent, and gives its data.
 pub record Acts (tells : Bool) (Opens : List ℕ → List ℕ → Type 0) (t : ℕ) (pages : List ℕ) (parts : List Part) (old new : PagesView) (result : Result (Unit {0}) PageFault) : Type 0 where
   pub shape : new.store.shape ≡ old.store.shape
+  pub depth : new.store.depth ≡ old.store.depth
   pub cause : ActCause old.store t pages result
   pub saves : new.counts ≡ old.counts
   pub others : (u : ℕ) → u ≢ t → new.store.ranges u ≡ old.store.ranges u

@@ -7,7 +7,6 @@ pub mod Written
 pub mod Fetched
 pub mod Held
 pub mod Acts
-pub mod Faults
 pub mod Parts
 pub mod Adding
 pub mod Giving

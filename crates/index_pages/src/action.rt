@@ -42,16 +42,10 @@ pub fn act_all<S: EawStore>(
     if pages.is_dead() {
         return Err(PageFault::Dead);
     }
-    match pages.fits(tid, pages_in(parts).as_slice()) {
-        Ok(()) => {}
-        Err(fault) => return Err(fault),
-    }
+    pages.fits(tid, pages_in(parts).as_slice())?;
     let mark = pages.top_begin(tid);
     for part in parts {
-        match pages.write_as(tid, part.page, part.at, part.bytes) {
-            Ok(()) => {}
-            Err(fault) => return Err(fault),
-        }
+        pages.write_as(tid, part.page, part.at, part.bytes)?;
     }
     pages.top_end(tid, mark)
 }

@@ -13,7 +13,6 @@ ghost use Rattle.index_pages.specs.Held.{IsHeld};
 ghost use Rattle.index_pages.specs.Plans.{Tries, free_pages_plan, free_slots_plan, held_after, held_of, lists_plan, slot_plan};
 ghost use Rattle.index_pages.specs.Slots.{slot_check, slots_check, pages_check, IsVerdict};
 
-use crate::fault::check_fault;
 use crate::fetch::{SLOTS_IN_PAGE, fetch_free_page, fetch_free_slot, index_page_count};
 use crate::held::{HeldPage, fetch_held_slot};
 use crate::taking::ranked;
@@ -57,19 +56,14 @@ pub fn check_slot<S: EawStore, H: Keeper>(
     }
     let slot = pair.1 as u32;
     let count = index_page_count(pages);
-    let said = match fetch_held_slot(pages, held, slot) {
-        Ok(said) => said,
-        Err(fault) => return Err(check_fault(fault)),
-    };
+    let said = fetch_held_slot(pages, held, slot)?;
     if !is_of_key(&said, table, pair.0) {
         return Err(CheckFault::Damaged {
             page: count + slot / SLOTS_IN_PAGE,
         });
     }
-    match push_record(rows, pair.0, &said) {
-        Ok(()) => Ok(()),
-        Err(_) => Err(CheckFault::NoMemory),
-    }
+    push_record(rows, pair.0, &said)?;
+    Ok(())
 }
 
 // Adds the record of a key if its slot holds one.
@@ -124,10 +118,7 @@ pub fn check_lists<S: EawStore>(pages: &mut Pages<S>, front: &Super) -> Result<(
         (S.view pages.old.store) (S.view pages.new.store) result }
     ensures dead { IsErrOf result CheckFault.Dead → ⊥ }
 {
-    match check_free_slots(pages, front) {
-        Ok(()) => {}
-        Err(fault) => return Err(fault),
-    }
+    check_free_slots(pages, front)?;
     check_free_pages(pages, front)
 }
 
@@ -154,10 +145,7 @@ fn check_free_slots<S: EawStore>(pages: &mut Pages<S>, front: &Super) -> Result<
             return Err(CheckFault::Damaged { page });
         }
         page = count + (named - 1) / SLOTS_IN_PAGE;
-        let said = match fetch_free_slot(pages, named - 1) {
-            Ok(said) => said,
-            Err(fault) => return Err(check_fault(fault)),
-        };
+        let said = fetch_free_slot(pages, named - 1)?;
         let Some(free) = ranked(&said, front.free_slots - done) else {
             return Err(CheckFault::Damaged { page });
         };
@@ -191,10 +179,7 @@ fn check_free_pages<S: EawStore>(pages: &mut Pages<S>, front: &Super) -> Result<
             return Err(CheckFault::Damaged { page });
         }
         page = named - 1;
-        let said = match fetch_free_page(pages, page) {
-            Ok(said) => said,
-            Err(fault) => return Err(check_fault(fault)),
-        };
+        let said = fetch_free_page(pages, page)?;
         let Some(free) = ranked(&said, front.free_pages - done) else {
             return Err(CheckFault::Damaged { page });
         };

@@ -172,10 +172,7 @@ pub fn check_super<S: EawStore>(pages: &mut Pages<S>, form: u8) -> Result<Super,
     ensures says { IsTrue S.tells → IfOk result (SaysSuper (page_bytes (S.view pages.old.store).state.bytes 0)) }
     ensures dead { IsErrOf result PageFault.Dead → pages.new ≡ pages.old }
 {
-    let front = match fetch_super(pages, form) {
-        Ok(front) => front,
-        Err(fault) => return Err(fault),
-    };
+    let front = fetch_super(pages, form)?;
     if has_tables(&front) {
         Ok(front)
     } else {

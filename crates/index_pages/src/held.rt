@@ -83,13 +83,9 @@ fn hold<S: EawStore>(pages: &mut Pages<S>, held: &mut HeldPage, page: u32) -> Re
         return Ok(());
     }
     held.page = None;
-    match fetch_page(pages, page, &mut held.bytes) {
-        Ok(()) => {
-            held.page = Some(page);
-            Ok(())
-        }
-        Err(fault) => Err(fault),
-    }
+    fetch_page(pages, page, &mut held.bytes)?;
+    held.page = Some(page);
+    Ok(())
 }
 
 // Whether this page is held.

@@ -7,7 +7,6 @@ mod action;
 mod adding;
 mod checking;
 mod cut;
-mod fault;
 mod fetch;
 mod giving;
 mod held;
@@ -21,7 +20,6 @@ pub use action::{PagePart, act_all};
 pub use adding::{add_pair, front_part, slot_part, whole_page, with_pair};
 pub use checking::{check_lists, check_slot};
 pub use cut::{copy_of, middle_of};
-pub use fault::{check_fault, index_fault};
 pub use fetch::{
     SLOTS_IN_PAGE, check_super, fetch_free_page, fetch_free_slot, fetch_page, fetch_slot,
     fetch_super, index_page_count,

@@ -51,10 +51,7 @@ pub fn take_slot<S: EawStore>(pages: &mut Pages<S>, front: &Super) -> Result<Cla
     }
     let slot = front.free_slot - 1;
     let page = index_page_count(pages) + slot / SLOTS_IN_PAGE;
-    let said = match fetch_free_slot(pages, slot) {
-        Ok(said) => said,
-        Err(fault) => return Err(fault),
-    };
+    let said = fetch_free_slot(pages, slot)?;
     let Some(free) = ranked(&said, front.free_slots) else {
         return Err(PageFault::Damaged { page });
     };
@@ -95,10 +92,7 @@ pub fn take_page<S: EawStore>(pages: &mut Pages<S>, front: &Super) -> Result<Cla
         return Err(PageFault::Damaged { page: 0 });
     }
     let page = front.free_page - 1;
-    let said = match fetch_free_page(pages, page) {
-        Ok(said) => said,
-        Err(fault) => return Err(fault),
-    };
+    let said = fetch_free_page(pages, page)?;
     let Some(free) = ranked(&said, front.free_pages) else {
         return Err(PageFault::Damaged { page });
     };

@@ -5,8 +5,8 @@ use Rattle.history.specs.Key.{main_name, of_main}
 use Rattle.history.specs.Legal.{records}
 use Rattle.history.specs.Table.{Granted, found}
 use Rattle.history.specs.Writes.{Table}
-use Rattle.history.specs.declared.call.Call.{Call}
-use Rattle.history.specs.declared.call.Call.TheVariants.{Get}
+use Rattle.history.specs.declared.call.TableCall.{TableCall}
+use Rattle.history.specs.declared.call.TableCall.TheVariants.{Get}
 use Rattle.history.specs.declared.call.Reply.{Reply}
 use Rattle.history.specs.declared.call.Reply.TheVariants.{Absent}
 use Rattle.caller_steps.specs.Core.{CoreView}
@@ -53,10 +53,10 @@ module _ (size : ℕ) (table : Table) (fits : size < 2 ^ 64) where
 
 -- the bounds were read, and what was told of them is what the records have
 module _ (size caller first count : ℕ) (old mid : CoreView) (fits : size < 2 ^ 64) (begun_so : old.state.live caller ≡ Some []) (reads : Reads first count caller old mid) where
-  abbrev read_first : Call × Reply
+  abbrev read_first : TableCall × Reply
   read_first = (Get main_name 0, found reads.one)
 
-  abbrev read_count : Call × Reply
+  abbrev read_count : TableCall × Reply
   read_count = (Get main_name 1, found reads.other)
 
   pub both_live : mid.state.live caller ≡ Some (read_first ∷ read_count ∷ [])
@@ -84,7 +84,7 @@ module _ (size caller first count : ℕ) (old mid : CoreView) (fits : size < 2 ^
   -- there are jobs, and the first one is not there
   pub job_out : (new : CoreView) → Stays caller old new → Adds caller (Get main_name (first + 2)) Absent mid new → first < 2 ^ 64 → count < 2 ^ 64 → 0 < count → HasNoQueue size (records_of old.state)
   job_out new stays adds small little more =
-      let read_job : Call × Reply = (Get main_name (first + 2), found None) in
+      let read_job : TableCall × Reply = (Get main_name (first + 2), found None) in
       let live : new.state.live caller ≡ Some (read_first ∷ read_count ∷ read_job ∷ []) = adds ∙ ap (λ (o : Option Granted). Some (unwrap_or o [] ++ read_job ∷ [])) both_live in
       let gone = read_among new.state caller (read_first ∷ read_count ∷ []) [] main_name (first + 2) None stays.goes_on.sound live refl ∙ ap (λ (t : Table). get t (of_main (first + 2))) (same_records new stays) in
       job_missing size (records_of old.state) fits reads.one reads.other first count (told_first new (read_job ∷ []) stays live) (told_count new (read_job ∷ []) stays live) reads.is_first reads.is_count small little more gone

@@ -2,7 +2,7 @@
 ghost use Rattle.std.specs.Prelude.{◌≡◌, ◌+◌, ◌<◌, ◌≤◌, ◌^◌, ◌++◌, ◌∷◌, [], List, ℕ, Some, Option, IsTrue, IfOk, IfErr, OnErr};
 ghost use Rattle.history.specs.Key.{main_name};
 ghost use Rattle.history.specs.Table.{found, left_by};
-ghost use Rattle.history.specs.declared.call.Call.TheVariants.{Get};
+ghost use Rattle.history.specs.declared.call.TableCall.TheVariants.{Get};
 ghost use Rattle.caller_steps.specs.Core.{Continues};
 ghost use Rattle.caller_steps.specs.Sound.{IsSound};
 ghost use Rattle.caller_steps.specs.State.{records_of};

@@ -24,8 +24,7 @@ use crate::page::read_leaf_head;
 use crate::place::FORM;
 use eaw_face::EawStore;
 use index_pages::{
-    Head, HeldPage, PAGE_LEN, check_fault, check_lists, check_slot, check_super, fetch_page,
-    read_pair,
+    Head, HeldPage, PAGE_LEN, check_lists, check_slot, check_super, fetch_page, read_pair,
 };
 use noted::{Keeper, NotedRows};
 use page_store::{CheckFault, Pages, TableRows};
@@ -46,14 +45,8 @@ pub fn check<S: EawStore, H: Keeper>(
         (S.view pages.old.store) (S.view pages.new.store) result }
     ensures dead { IsErrOf result CheckFault.Dead → pages.new ≡ pages.old }
 {
-    let front = match check_super(pages, FORM) {
-        Ok(front) => front,
-        Err(fault) => return Err(check_fault(fault)),
-    };
-    match check_lists(pages, &front) {
-        Ok(()) => {}
-        Err(fault) => return Err(fault),
-    }
+    let front = check_super(pages, FORM)?;
+    check_lists(pages, &front)?;
     check_tables(alloc, pages, tables, &front)
 }
 
@@ -85,14 +78,8 @@ fn check_tables<S: EawStore, H: Keeper>(
             return Err(CheckFault::Damaged { page: 0 });
         }
         let mut rows = NotedRows::new(alloc);
-        match check_table(pages, &mut rows, root, table, front) {
-            Ok(()) => {}
-            Err(fault) => return Err(fault),
-        }
-        match tables.push(rows) {
-            Ok(()) => {}
-            Err(_) => return Err(CheckFault::NoMemory),
-        }
+        check_table(pages, &mut rows, root, table, front)?;
+        tables.push(rows)?;
     }
     Ok(())
 }
@@ -122,14 +109,11 @@ fn check_table<S: EawStore, H: Keeper>(
     let mut last = None;
     let mut bytes = [0; PAGE_LEN];
     for _step in 0..front.next_page {
-        match fetch_page(pages, page, &mut bytes) {
-            Ok(()) => {}
-            Err(fault) => return Err(check_fault(fault)),
-        }
+        fetch_page(pages, page, &mut bytes)?;
         let Some(head) = chain_head(&bytes, last) else {
             return Err(CheckFault::Damaged { page });
         };
-        last = match check_pairs(
+        last = check_pairs(
             pages,
             rows,
             table,
@@ -138,10 +122,7 @@ fn check_table<S: EawStore, H: Keeper>(
             head.count,
             last,
             front.next_slot,
-        ) {
-            Ok(last) => last,
-            Err(fault) => return Err(fault),
-        };
+        )?;
         if head.link == 0 {
             return Ok(());
         }
@@ -154,10 +135,7 @@ fn check_table<S: EawStore, H: Keeper>(
         page = head.link;
     }
     // More pages than there are: this one was met before. It is read, so that each page that is named was read.
-    match fetch_page(pages, page, &mut bytes) {
-        Ok(()) => {}
-        Err(fault) => return Err(check_fault(fault)),
-    }
+    fetch_page(pages, page, &mut bytes)?;
     Err(CheckFault::Damaged { page })
 }
 
@@ -212,7 +190,7 @@ fn check_pairs<S: EawStore, H: Keeper>(
     let mut held = HeldPage::none();
     for i in 0..count {
         let (key, slot) = read_pair(bytes, i);
-        match check_pair(
+        check_pair(
             pages,
             &mut held,
             rows,
@@ -221,10 +199,7 @@ fn check_pairs<S: EawStore, H: Keeper>(
             (key, slot),
             last,
             slots,
-        ) {
-            Ok(()) => {}
-            Err(fault) => return Err(fault),
-        }
+        )?;
         last = Some(key);
     }
     Ok(last)

@@ -18,7 +18,7 @@ ghost use Rattle.key_list.specs.Located.{IsLocated, Locates};
 use crate::place::{Located, locate_for};
 use crate::write::{add_pair, cut_page, half_of};
 use eaw_face::EawStore;
-use index_pages::{PAIRS_MAX, SLOTS_IN_PAGE, index_fault, index_page_count, take_page, take_slot};
+use index_pages::{PAIRS_MAX, SLOTS_IN_PAGE, index_page_count, take_page, take_slot};
 use page_store::{IndexFault, LeafPage, Pages};
 use record_slots::Super;
 
@@ -51,10 +51,7 @@ pub fn insert<S: EawStore>(
         (pages_of (S.view pages.old.store) pages.old) (pages_of (S.view pages.new.store) pages.new) }
     ensures dead { IsErrOf result IndexFault.Dead → pages.new ≡ pages.old }
 {
-    let at = match locate_for(pages, root, table, key, place) {
-        Ok(at) => at,
-        Err(fault) => return Err(index_fault(fault)),
-    };
+    let at = locate_for(pages, root, table, key, place)?;
     let slots = SLOTS_IN_PAGE * index_page_count(pages);
     if !has_slot(&at.front, slots) {
         return Err(IndexFault::SlotsFull { slots });
@@ -109,14 +106,9 @@ fn insert_here<S: EawStore>(
     ensures left { are_slots_full result ≡ false }
     ensures dead { IsErrOf result IndexFault.Dead → ⊥ }
 {
-    let taken = match take_slot(pages, &at.front) {
-        Ok(taken) => taken,
-        Err(fault) => return Err(index_fault(fault)),
-    };
-    match add_pair(pages, tid, table, key, &taken, at) {
-        Ok(()) => Ok(taken.number),
-        Err(fault) => Err(index_fault(fault)),
-    }
+    let taken = take_slot(pages, &at.front)?;
+    add_pair(pages, tid, table, key, &taken, at)?;
+    Ok(taken.number)
 }
 
 // Takes a page, cuts the full page, and goes on with the half that has the key.
@@ -151,14 +143,8 @@ fn insert_cut<S: EawStore>(
     if !has_page(&at.front, count) {
         return Err(IndexFault::PagesFull { pages: count - 1 });
     }
-    let taken = match take_page(pages, &at.front) {
-        Ok(taken) => taken,
-        Err(fault) => return Err(index_fault(fault)),
-    };
-    match cut_page(pages, tid, &taken, &at) {
-        Ok(()) => {}
-        Err(fault) => return Err(index_fault(fault)),
-    }
+    let taken = take_page(pages, &at.front)?;
+    cut_page(pages, tid, &taken, &at)?;
     let half = half_of(&at, &taken, key);
     insert_here(pages, tid, root, table, key, half)
 }

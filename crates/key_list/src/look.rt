@@ -84,10 +84,7 @@ fn reach<S: EawStore>(
     let mut page = root;
     let mut last = root;
     for _step in 0..count {
-        let head = match read_page(pages, page, bytes) {
-            Ok(head) => head,
-            Err(fault) => return Err(fault),
-        };
+        let head = read_page(pages, page, bytes)?;
         if next_pair(bytes, head.count, from).is_some() {
             return Ok(Some(Reached {
                 page,
@@ -210,10 +207,7 @@ pub fn page_for<S: EawStore>(
 {
     let count = index_page_count(pages);
     let mut page = root;
-    let mut head = match read_page(pages, page, bytes) {
-        Ok(head) => head,
-        Err(fault) => return Err(fault),
-    };
+    let mut head = read_page(pages, page, bytes)?;
     if root == 0 {
         return Err(PageFault::Damaged { page: root });
     }
@@ -225,10 +219,7 @@ pub fn page_for<S: EawStore>(
         if ends_at(bytes, &head, key) {
             return Ok(KeyPage { page, head });
         }
-        let behind = match read_page(pages, head.link, &mut ahead) {
-            Ok(behind) => behind,
-            Err(fault) => return Err(fault),
-        };
+        let behind = read_page(pages, head.link, &mut ahead)?;
         if is_past(&ahead, behind.count, key) {
             return Ok(KeyPage { page, head });
         }

@@ -59,10 +59,7 @@ pub fn find_place<S: EawStore>(
 {
     let slots = SLOTS_IN_PAGE * index_page_count(pages);
     let mut bytes = [0; PAGE_LEN];
-    let at = match page_for(pages, root, table, key, &mut bytes) {
-        Ok(at) => at,
-        Err(fault) => return Err(fault),
-    };
+    let at = page_for(pages, root, table, key, &mut bytes)?;
     let Some(slot) = slot_in(&at, &bytes, key) else {
         return Ok(room_in(&at, &bytes));
     };
@@ -160,10 +157,8 @@ fn locate_known<S: EawStore>(
     ensures room { IfOk result (λ at. length at.pairs.items < 30) }
     ensures dead { IsErrOf result PageFault.Dead → pages.new ≡ pages.old }
 {
-    match fetch_super(pages, FORM) {
-        Ok(front) => Ok(with_front(front, leaf)),
-        Err(fault) => Err(fault),
-    }
+    let front = fetch_super(pages, FORM)?;
+    Ok(with_front(front, leaf))
 }
 
 // Reads the super page, and finds the page of a key.
@@ -186,15 +181,10 @@ pub fn locate<S: EawStore>(
     ensures said { IsTrue S.tells → IfOk result (λ at. Locates (S.view pages.old.store).state.bytes root key at.front at.page at.link at.pairs.items) }
     ensures dead { IsErrOf result PageFault.Dead → pages.new ≡ pages.old }
 {
-    let front = match fetch_super(pages, FORM) {
-        Ok(front) => front,
-        Err(fault) => return Err(fault),
-    };
+    let front = fetch_super(pages, FORM)?;
     let mut bytes = [0; PAGE_LEN];
-    match page_for(pages, root, table, key, &mut bytes) {
-        Ok(at) => Ok(with_front(front, leaf_of(&at, &bytes))),
-        Err(fault) => Err(fault),
-    }
+    let at = page_for(pages, root, table, key, &mut bytes)?;
+    Ok(with_front(front, leaf_of(&at, &bytes)))
 }
 
 fn with_front(front: Super, leaf: LeafPage) -> Located

@@ -44,10 +44,7 @@ pub fn remove<S: EawStore>(
         (blamed result) (S.view pages.old.store) (S.view pages.new.store) }
     ensures dead { IsErrOf result PageFault.Dead → pages.new ≡ pages.old }
 {
-    let at = match locate(pages, root, table, key) {
-        Ok(at) => at,
-        Err(fault) => return Err(fault),
-    };
+    let at = locate(pages, root, table, key)?;
     remove_here(pages, tid, root, table, key, at)
 }
 
@@ -91,10 +88,8 @@ fn remove_here<S: EawStore>(
         link: at.link,
         pairs: at.pairs,
     };
-    match remove_pair(pages, tid, key, &released, leaf) {
-        Ok(()) => Ok(true),
-        Err(fault) => Err(fault),
-    }
+    remove_pair(pages, tid, key, &released, leaf)?;
+    Ok(true)
 }
 
 // Whether a page has one pair at most and keeps it, since it is not the root, or pages follow it.

@@ -9,7 +9,7 @@ use Rattle.history.specs.declared.key.Key.{Key}
 use Rattle.history.specs.Table.{Work, removed}
 use Rattle.history.specs.Writes.{Table, set_or_remove}
 use Rattle.history.specs.declared.call.Call.{Call}
-use Rattle.history.specs.declared.call.Call.TheVariants.{Put, Del}
+use Rattle.history.specs.declared.call.TableCall.TheVariants.{Put, Del}
 use Rattle.history.specs.declared.call.Reply.{Reply}
 use Rattle.history.specs.declared.call.Reply.TheVariants.{Fine, Absent}
 use Rattle.history.proofs.Agreeing.{get-set_here, get-set_there}

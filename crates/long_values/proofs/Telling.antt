@@ -5,7 +5,7 @@ use Rattle.std.specs.FinMap.{get}
 use Rattle.std.proofs.lemmas.Fmt.{decimal_injective}
 use Rattle.history.specs.Key.{of_table}
 use Rattle.history.specs.Table.{Work, found}
-use Rattle.history.specs.declared.call.Call.TheVariants.{Get, Scan}
+use Rattle.history.specs.declared.call.TableCall.TheVariants.{Get, Scan}
 use Rattle.history.specs.declared.call.Reply.{Reply}
 use Rattle.history.specs.declared.call.Reply.TheVariants.{Found, Absent, Listed}
 use Rattle.caller_steps.specs.Core.{CoreView}

@@ -3,12 +3,14 @@ use Rattle.std.proofs.Common.{append_assoc, refl, ◌≡◌, ℕ, ◌+◌, ◌-�
 use Rattle.std.specs.Prelude.{◌⊎◌, IfErr, IsErr, IsErrAnd, slice_index_or}
 use Rattle.std.specs.FinMap.{get}
 use Rattle.std.proofs.Math.Seq.{get_or-append_seam}
-use Rattle.history.specs.Table.{Granted, Work, has_save}
+use Rattle.history.specs.Table.{Work, has_save}
 use Rattle.history.specs.Writes.{Table}
-use Rattle.history.specs.declared.call.Call.TheVariants.{Save, Back}
+use Rattle.history.specs.declared.call.Call.TheVariants.{Table as OnTable}
+use Rattle.history.specs.declared.call.TableCall.TheVariants.{Save, Back}
 use Rattle.history.specs.declared.call.Reply.TheVariants.{Fine, Saved}
 use Rattle.caller_steps.specs.Core.{CoreView}
 use Rattle.caller_steps.specs.State.{view_of}
+use Rattle.caller_steps.specs.Run.{Heard}
 use Rattle.caller_steps.specs.Step.{Step, Runs}
 use Rattle.transactions.specs.Adds.{Stays, Adds}
 use Rattle.transactions.specs.Told.{reply_of}
@@ -53,18 +55,18 @@ undone_outside caller name key there old new (Refused refusal) undone same k out
 undone_outside caller name key there old new (GivenUp reason) undone same k out = ap (λ (t : Table). get t k) undone.1 ∙ same k out
 
 -- a refused way back, also behind other calls
-pub refused_back : (caller save : ℕ) (refusal : Refusal) (old new : CoreView) → Step old.limits old.state caller (Back save) (reply_of refusal) new.state → RefusesBack caller old new
+pub refused_back : (caller save : ℕ) (refusal : Refusal) (old new : CoreView) → Step old.limits old.state caller (OnTable (Back save)) (reply_of refusal) new.state → RefusesBack caller old new
 refused_back caller save refusal old new step = record { before = []; save = save; refusal = refusal; run = (new.state, step, refl) }
 
 refused_later : (caller : ℕ) (old mid new : CoreView) → Stays caller old mid → RefusesBack caller mid new → RefusesBack caller old new
 refused_later caller old mid new stays lost =
     let went = stays.went in
-    let last : Granted = (Back lost.save, reply_of lost.refusal) ∷ [] in
+    let last : Heard = (OnTable (Back lost.save), reply_of lost.refusal) ∷ [] in
     record {
       before = went.told ++ lost.before;
       save = lost.save;
       refusal = lost.refusal;
-      run = subst (λ (told : Granted). Runs old.limits old.state (turns_by caller told) new.state) (sym (append_assoc went.told lost.before last))
+      run = subst (λ (told : Heard). Runs old.limits old.state (turns_by caller told) new.state) (sym (append_assoc went.told lost.before last))
           (joined caller old mid new went.told (lost.before ++ last) stays.goes_on.limits went.run lost.run);
     }
 

@@ -6,9 +6,10 @@ use Rattle.history.specs.Writes.{Table}
 use Rattle.caller_steps.specs.Core.{CoreView}
 use Rattle.caller_steps.specs.State.{view_of}
 use Rattle.caller_steps.specs.Sound.{IsSound}
+use Rattle.caller_steps.specs.Run.{Heard}
 use Rattle.caller_steps.specs.Step.{Runs}
-use Rattle.history.specs.Table.{Granted}
-use Rattle.history.specs.declared.call.Call.TheVariants.{Back}
+use Rattle.history.specs.declared.call.Call.TheVariants.{Table as OnTable}
+use Rattle.history.specs.declared.call.TableCall.TheVariants.{Back}
 use Rattle.transactions.specs.Told.{reply_of}
 use Rattle.transactions.specs.Went.{WentWithin, Refuses, turns_by}
 use Rattle.transactions.specs.declared.refusal.Refusal.{Refusal}
@@ -42,10 +43,10 @@ pub record Changes (caller : ℕ) (name : List ℕ) (low high : ℕ) (old new : 
 
 -- the core refused the caller the way back to a save
 pub record RefusesBack (caller : ℕ) (old new : CoreView) : Type 0 where
-  pub before : Granted
+  pub before : Heard
   pub save : ℕ
   pub refusal : Refusal
-  pub run : Runs old.limits old.state (turns_by caller (before ++ (Back save, reply_of refusal) ∷ [])) new.state
+  pub run : Runs old.limits old.state (turns_by caller (before ++ (OnTable (Back save), reply_of refusal) ∷ [])) new.state
 
 -- What is left where a value was not written. The caller sees what it saw; but if the core refused a call, and the way back too, a half of
 -- the value may be there.

@@ -8,8 +8,8 @@ use Rattle.taped_calls.specs.Asked.{Changes}
 use Rattle.mars_c.specs.Opens.{Opens}
 
 -- a closed array was opened
-pub opened : (index : Index) (callers : ℕ) (bytes : List ℕ) (old new : Option TapedRecords) (array : TapedRecords) → old ≡ None → new ≡ Some array → IsOpened index callers bytes array → Opens index callers bytes old new (pos 0)
-opened index callers bytes old new array closed is opens = subst (λ (was : Option TapedRecords). Opens index callers bytes was new (pos 0)) (sym closed) (inl (array, is, refl, opens))
+pub opened : (index : Index) (callers depth : ℕ) (bytes : List ℕ) (old new : Option TapedRecords) (array : TapedRecords) → old ≡ None → new ≡ Some array → IsOpened index callers depth bytes array → Opens index callers depth bytes old new (pos 0)
+opened index callers depth bytes old new array closed is opens = subst (λ (was : Option TapedRecords). Opens index callers depth bytes was new (pos 0)) (sym closed) (inl (array, is, refl, opens))
 
 -- an open array was taken out, this was done to it, and it was put back
 pub done_to : (Does : TapedRecords → TapedRecords → ℤ → Type 0) (Closed : Type 0) (old new : Option TapedRecords) (was now : TapedRecords) (status told : ℤ) → old ≡ Some was → new ≡ Some now → told ≡ status → Does was now status

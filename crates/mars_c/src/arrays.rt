@@ -36,7 +36,7 @@ pub extern "C" fn mars_format(
 /// Opens the array in a copy of these bytes for so many callers, and recovers what a loss of power left.
 #[unsafe(no_mangle)]
 pub extern "C" fn mars_open(alloc: Global, m: &mut Kept, bytes: &[u8], callers: u8) -> i32
-    ensures { Opens tree callers bytes.now m.old.held.array m.new.held.array result }
+    ensures { Opens tree callers 0 bytes.now m.old.held.array m.new.held.array result }
 {
     open_array(alloc, m, bytes, callers, 0)
 }
@@ -50,7 +50,7 @@ pub extern "C" fn mars_open_late(
     callers: u8,
     depth: u8,
 ) -> i32
-    ensures { OpensLate depth tree callers bytes.now m.old.held.array m.new.held.array result }
+    ensures { OpensLate tree callers depth bytes.now m.old.held.array m.new.held.array result }
 {
     if depth > 64 {
         return BAD_DEPTH;
@@ -60,7 +60,7 @@ pub extern "C" fn mars_open_late(
 
 fn open_array(alloc: Global, m: &mut Kept, bytes: &[u8], callers: u8, depth: u8) -> i32
     requires { depth ≤ 64 }
-    ensures { Opens tree callers bytes.now m.old.held.array m.new.held.array result }
+    ensures { Opens tree callers depth bytes.now m.old.held.array m.new.held.array result }
 {
     match m.take(alloc) {
         Some(array) => {

@@ -1,6 +1,8 @@
 // What C calls of transactions. `mars.h` says what it owes.
 ghost use Rattle.std.specs.Prelude.{◌≡◌};
-ghost use Rattle.history.specs.declared.call.Call.TheVariants.{Begin, Get, Put, Del, Scan, Save, Back, Commit, Abort, Offer, Settle, Purge};
+ghost use Rattle.history.specs.declared.call.Call.TheVariants.{Begin, Table, Control};
+ghost use Rattle.history.specs.declared.call.TableCall.TheVariants.{Get, Put, Del, Scan, Save, Back};
+ghost use Rattle.history.specs.declared.call.Control.TheVariants.{Commit, Abort, Offer, Settle, Purge};
 ghost use Rattle.taped_calls.specs.Told.{IsPutOut};
 ghost use Rattle.taped_records.specs.Calls.{Fits, IsBadName, IsBadRecord};
 ghost use Rattle.taped_records.specs.Told.{Nothing, same_rows, rows_in, number_in, count_in, value_in};
@@ -34,7 +36,7 @@ pub extern "C" fn mars_get(
     room: &mut [u8],
     len: &mut u64,
 ) -> i32
-    ensures { Calls same_rows (IsBadName table.now) (λ told. IsPutOut (value_in told) room.old room.new len.old len.new) caller (Get table.now key) m.old.held.array m.new.held.array result }
+    ensures { Calls same_rows (IsBadName table.now) (λ told. IsPutOut (value_in told) room.old room.new len.old len.new) caller (Table (Get table.now key)) m.old.held.array m.new.held.array result }
 {
     let Some(mut array) = m.take(alloc) else {
         return IS_CLOSED;
@@ -54,7 +56,7 @@ pub extern "C" fn mars_put(
     key: u64,
     value: &[u8],
 ) -> i32
-    ensures { Calls same_rows (IsBadRecord table.now value.now) Nothing caller (Put table.now key value.now) m.old.held.array m.new.held.array result }
+    ensures { Calls same_rows (IsBadRecord table.now value.now) Nothing caller (Table (Put table.now key value.now)) m.old.held.array m.new.held.array result }
 {
     let Some(mut array) = m.take(alloc) else {
         return IS_CLOSED;
@@ -67,7 +69,7 @@ pub extern "C" fn mars_put(
 /// Removes the record of a key.
 #[unsafe(no_mangle)]
 pub extern "C" fn mars_del(alloc: Global, m: &mut Kept, caller: u8, table: &[u8], key: u64) -> i32
-    ensures { Calls same_rows (IsBadName table.now) Nothing caller (Del table.now key) m.old.held.array m.new.held.array result }
+    ensures { Calls same_rows (IsBadName table.now) Nothing caller (Table (Del table.now key)) m.old.held.array m.new.held.array result }
 {
     let Some(mut array) = m.take(alloc) else {
         return IS_CLOSED;
@@ -88,7 +90,7 @@ pub extern "C" fn mars_scan(
     high: u64,
     count: &mut u64,
 ) -> i32
-    ensures { Calls rows_in (IsBadName table.now) (λ told. count.new ≡ count_in count.old told) caller (Scan table.now low high) m.old.held.array m.new.held.array result }
+    ensures { Calls rows_in (IsBadName table.now) (λ told. count.new ≡ count_in count.old told) caller (Table (Scan table.now low high)) m.old.held.array m.new.held.array result }
 {
     let Some(mut array) = m.take(alloc) else {
         return IS_CLOSED;
@@ -101,7 +103,7 @@ pub extern "C" fn mars_scan(
 /// Makes a save, and tells its number, counted from 1.
 #[unsafe(no_mangle)]
 pub extern "C" fn mars_save(alloc: Global, m: &mut Kept, caller: u8, number: &mut u64) -> i32
-    ensures { Calls same_rows Fits (λ told. number.new ≡ number_in number.old told) caller Save m.old.held.array m.new.held.array result }
+    ensures { Calls same_rows Fits (λ told. number.new ≡ number_in number.old told) caller (Table Save) m.old.held.array m.new.held.array result }
 {
     let Some(mut array) = m.take(alloc) else {
         return IS_CLOSED;
@@ -114,7 +116,7 @@ pub extern "C" fn mars_save(alloc: Global, m: &mut Kept, caller: u8, number: &mu
 /// Goes back to a save.
 #[unsafe(no_mangle)]
 pub extern "C" fn mars_back(alloc: Global, m: &mut Kept, caller: u8, save: u32) -> i32
-    ensures { Calls same_rows Fits Nothing caller (Back save) m.old.held.array m.new.held.array result }
+    ensures { Calls same_rows Fits Nothing caller (Table (Back save)) m.old.held.array m.new.held.array result }
 {
     let Some(mut array) = m.take(alloc) else {
         return IS_CLOSED;
@@ -127,7 +129,7 @@ pub extern "C" fn mars_back(alloc: Global, m: &mut Kept, caller: u8, save: u32) 
 /// Commits the transaction, and tells its number since the opening, counted from 1.
 #[unsafe(no_mangle)]
 pub extern "C" fn mars_commit(alloc: Global, m: &mut Kept, caller: u8, number: &mut u64) -> i32
-    ensures { Calls same_rows Fits (λ told. number.new ≡ number_in number.old told) caller Commit m.old.held.array m.new.held.array result }
+    ensures { Calls same_rows Fits (λ told. number.new ≡ number_in number.old told) caller (Control Commit) m.old.held.array m.new.held.array result }
 {
     let Some(mut array) = m.take(alloc) else {
         return IS_CLOSED;
@@ -140,7 +142,7 @@ pub extern "C" fn mars_commit(alloc: Global, m: &mut Kept, caller: u8, number: &
 /// Drops the transaction.
 #[unsafe(no_mangle)]
 pub extern "C" fn mars_abort(alloc: Global, m: &mut Kept, caller: u8) -> i32
-    ensures { Calls same_rows Fits Nothing caller Abort m.old.held.array m.new.held.array result }
+    ensures { Calls same_rows Fits Nothing caller (Control Abort) m.old.held.array m.new.held.array result }
 {
     let Some(mut array) = m.take(alloc) else {
         return IS_CLOSED;
@@ -153,7 +155,7 @@ pub extern "C" fn mars_abort(alloc: Global, m: &mut Kept, caller: u8) -> i32
 /// Gives the transaction to the next group that is settled.
 #[unsafe(no_mangle)]
 pub extern "C" fn mars_offer(alloc: Global, m: &mut Kept, caller: u8) -> i32
-    ensures { Calls same_rows Fits Nothing caller Offer m.old.held.array m.new.held.array result }
+    ensures { Calls same_rows Fits Nothing caller (Control Offer) m.old.held.array m.new.held.array result }
 {
     let Some(mut array) = m.take(alloc) else {
         return IS_CLOSED;
@@ -166,7 +168,7 @@ pub extern "C" fn mars_offer(alloc: Global, m: &mut Kept, caller: u8) -> i32
 /// Commits all transactions that were offered as one group, unless one has done so, and tells the number of the caller's own.
 #[unsafe(no_mangle)]
 pub extern "C" fn mars_settle(alloc: Global, m: &mut Kept, caller: u8, number: &mut u64) -> i32
-    ensures { Calls same_rows Fits (λ told. number.new ≡ number_in number.old told) caller Settle m.old.held.array m.new.held.array result }
+    ensures { Calls same_rows Fits (λ told. number.new ≡ number_in number.old told) caller (Control Settle) m.old.held.array m.new.held.array result }
 {
     let Some(mut array) = m.take(alloc) else {
         return IS_CLOSED;
@@ -179,7 +181,7 @@ pub extern "C" fn mars_settle(alloc: Global, m: &mut Kept, caller: u8, number: &
 /// Takes keys without records out of the index, and tells how many.
 #[unsafe(no_mangle)]
 pub extern "C" fn mars_purge(alloc: Global, m: &mut Kept, caller: u8, number: &mut u64) -> i32
-    ensures { Calls same_rows Fits (λ told. number.new ≡ number_in number.old told) caller Purge m.old.held.array m.new.held.array result }
+    ensures { Calls same_rows Fits (λ told. number.new ≡ number_in number.old told) caller (Control Purge) m.old.held.array m.new.held.array result }
 {
     let Some(mut array) = m.take(alloc) else {
         return IS_CLOSED;

@@ -16,8 +16,9 @@ use Rattle.history.specs.Rows.{NamedRows}
 use Rattle.history.specs.Table.{Granted, IsRight}
 use Rattle.history.specs.Legal.{records}
 use Rattle.history.specs.Log.{Log, log_of}
-use Rattle.history.specs.declared.call.Call.{Call}
-use Rattle.history.specs.declared.call.Call.TheVariants.{Begin, Get, Put, Del, Scan, Save, Back, Commit, Abort, Offer, Settle, Purge}
+use Rattle.history.specs.declared.call.Call.TheVariants.{Table as OnTable}
+use Rattle.history.specs.declared.call.TableCall.{TableCall}
+use Rattle.history.specs.declared.call.TableCall.TheVariants.{Get, Put, Del, Scan, Save, Back}
 use Rattle.history.specs.declared.call.Reply.{Reply}
 use Rattle.history.specs.declared.call.Reply.TheVariants as reply
 use Rattle.record_table.specs.State.{TableState}
@@ -52,16 +53,16 @@ use Rattle.mars_core.specs.Held.{core_over}
 use Rattle.mars_core.specs.Kept.{Mirrors, HasHeld, IsTied, IsKept}
 use Rattle.mars_core.specs.Works.{HasSaves, IsShown}
 use Rattle.mars_core.proofs.Indexing.{IsWithin, InsertsNone, is_within, indexes_granted, indexes_refused, indexes_slots}
-use Rattle.mars_core.proofs.Mirroring.{IsOfTable, scan_after, mirrors_granted, same_table, answers}
+use Rattle.mars_core.proofs.Mirroring.{scan_after, mirrors_granted, answers}
 use Rattle.mars_core.proofs.Rooming.{fits_is, log_lacks, slot_lacks, page_lacks, named_is}
 use Rattle.mars_core.proofs.Entering.{index_room, room_granted}
 use Rattle.mars_core.proofs.Saving.{saves_in, saves_same, saves_one, saves_granted}
-use Rattle.mars_core.proofs.Causes.{no_refusal, of_table_cause, granted_cause, fault_cause}
+use Rattle.mars_core.proofs.Causes.{no_refusal, granted_cause, fault_cause}
 use Rattle.mars_core.proofs.Idle.{no_calls, idle_after, idle_still}
 use Rattle.mars_core.proofs.Prefixes.{StoreLaws, sound_after, safe_dead, safe_alive}
 use Rattle.record_table.proofs.Sharing.{Laws}
 use Rattle.record_table.proofs.SlotParts.{one_slot}
-use Rattle.mars_core.proofs.Stepping.{ShowsPages, or_false, or_true, media_none, moves_refused, moves_granted, step_of, may_table, shows_tied, asks_at, steps_of, time_same, counts_is, saves_at, returns_at, enters_at}
+use Rattle.mars_core.proofs.Stepping.{ShowsPages, or_false, or_true, media_none, moves_refused, moves_granted, step_of, shows_tied, asks_at, steps_of, time_same, counts_is, saves_at, returns_at, enters_at}
 
 refusal_of : (f : TableFault) → is_refusal (reply_to f) ≡ true
 refusal_of (SlotsFull n) = refl
@@ -79,50 +80,51 @@ media_of : (f : TableFault) → Well f → is_media (reply_to f) ≡ false
 media_of Media well = absurd (cc)
 media_of _ well = refl
 
-saved_out : (p : PagesView) (t : ℕ) (call : Call) → IsOfTable call → HasSaves (length (p.counts t)) call → IsSavedOut p t call → ⊥
-saved_out p t Save of saves out = omega (arith, saves, out)
-saved_out p t _ of saves out = out
+saved_out : (p : PagesView) (t : ℕ) (call : TableCall) → HasSaves (length (p.counts t)) call → IsSavedOut p t (OnTable call) → ⊥
+saved_out p t Save saves out = omega (arith, saves, out)
+saved_out p t _ saves out = out
 
 -- a call of a table that inserts no key writes nothing into the data
-quiet_of : (index : below.Index) (p : PagesView) (t : ℕ) (call : Call) → IsOfTable call → InsertsNone (keys_of index p.store.state.bytes) call → IsQuiet index p t call
-quiet_of index p t (Put name key value) of inserts = inserts
-quiet_of index p t (Get name key) of inserts = tt
-quiet_of index p t (Del name key) of inserts = tt
-quiet_of index p t (Scan name low high) of inserts = tt
-quiet_of index p t Save of inserts = tt
-quiet_of index p t (Back n) of inserts = tt
-quiet_of index p t _ of inserts = absurd of
+quiet_of : (index : below.Index) (p : PagesView) (t : ℕ) (call : TableCall) → InsertsNone (keys_of index p.store.state.bytes) call → IsQuiet index p t (OnTable call)
+quiet_of index p t (Put name key value) inserts = inserts
+quiet_of index p t (Get name key) inserts = tt
+quiet_of index p t (Del name key) inserts = tt
+quiet_of index p t (Scan name low high) inserts = tt
+quiet_of index p t Save inserts = tt
+quiet_of index p t (Back n) inserts = tt
 
-scan_same : (limits : Limits) (call : Call) (answer : Reply) (old new : Index) → IsScan call → Indexes limits call answer old new → new ≡ old
+scan_same : (limits : Limits) (call : TableCall) (answer : Reply) (old new : Index) → IsScan (OnTable call) → Indexes limits call answer old new → new ≡ old
 scan_same limits (Put name key value) answer old new scan same = absurd scan
 scan_same limits _ answer old new scan same = same
 
 -- What the records made of a call, as far as a core needs it.
-pub record Did (tells : Bool) (Opens : List ℕ → List ℕ → Type 0) (index : below.Index) (table t : ℕ) (call : Call) (old new : PagesView) (result : Result Reply TableFault) : Type 0 where
+pub record Did (tells : Bool) (Opens : List ℕ → List ℕ → Type 0) (index : below.Index) (table t : ℕ) (call : TableCall) (old new : PagesView) (result : Result Reply TableFault) : Type 0 where
   pub shape : new.store.shape ≡ old.store.shape
-  pub cause : Cause tells index table t call old result
-  pub grown : OnOk result (length (new.counts t) ≡ saves_after call (length (old.counts t)))
+  pub depth : new.store.depth ≡ old.store.depth
+  pub cause : Cause tells index table t (OnTable call) old result
+  pub grown : OnOk result (length (new.counts t) ≡ saves_after (OnTable call) (length (old.counts t)))
   pub counts : OnErr result ((u : ℕ) → length (new.counts u) ≡ length (old.counts u))
   pub apart : (u : ℕ) → u ≢ t → new.counts u ≡ old.counts u
   pub faults : IsFalse (is_failed result) → (new.store.is_dead ≡ old.store.is_dead) × (new.store.faults ≡ old.store.faults)
   pub dies : IsTrue (is_failed result) → (new.store.is_dead ≡ true) × Rose old.store.faults new.store.faults
-  pub replies : IsTrue tells → IfOk result (Replies (state_of index old) t call)
-  pub done : IsTrue tells → IfOk result (λ reply. state_of index new ≡ after t call reply (state_of index old))
+  pub replies : IsTrue tells → IfOk result (Replies (state_of index old) t (OnTable call))
+  pub done : IsTrue tells → IfOk result (λ reply. state_of index new ≡ after t (OnTable call) reply (state_of index old))
   pub refused : IsTrue tells → IsFalse (is_failed result) → OnErr result (state_of index new ≡ state_of index old)
-  pub quiet : IsTrue tells → IsFalse (is_failed result) → IsQuiet index old t call → new.store.state.bytes ≡ old.store.state.bytes
-  pub indexed : IsTrue tells → IsAlive old.store → IsFalse (is_failed result) → Indexed table call (keys_of index old.store.state.bytes) (keys_of index new.store.state.bytes) result
+  pub quiet : IsTrue tells → IsFalse (is_failed result) → IsQuiet index old t (OnTable call) → new.store.state.bytes ≡ old.store.state.bytes
+  pub indexed : IsTrue tells → IsAlive old.store → IsFalse (is_failed result) → Indexed table (OnTable call) (keys_of index old.store.state.bytes) (keys_of index new.store.state.bytes) result
   pub version : IsTrue tells → IsFalse (is_failed result) → version_of old.store.state.bytes ≡ 2 → version_of new.store.state.bytes ≡ 2
   pub tables : IsTrue tells → IsFalse (is_failed result) → tables_of new.store.state.bytes ≡ tables_of old.store.state.bytes
   pub others : (u : ℕ) → u ≢ t → new.store.ranges u ≡ old.store.ranges u
   pub time : IsTrue tells → IsAlive old.store
-      → LeavesOnly (λ image. OpensWith Opens index image (state_of index old).table ⊎ OpensWith Opens index image (table_after t call (state_of index old))) old.store new.store
+      → LeavesOnly (λ image. OpensWith Opens index image (state_of index old).table ⊎ OpensWith Opens index image (table_after t (OnTable call) (state_of index old))) old.store new.store
   pub named : IsTrue tells → IsAlive old.store
-      → LeavesOnly (λ image. OpensAs Opens index image old.store.state.bytes (state_of index old).table ⊎ OpensAs Opens index image old.store.state.bytes (table_after t call (state_of index old))) old.store new.store
+      → LeavesOnly (λ image. OpensAs Opens index image old.store.state.bytes (state_of index old).table ⊎ OpensAs Opens index image old.store.state.bytes (table_after t (OnTable call) (state_of index old))) old.store new.store
 
-pub did : (tells : Bool) (Opens : List ℕ → List ℕ → Type 0) (index : below.Index) (table t : ℕ) (call : Call) (old new : PagesView) (result : Result Reply TableFault) → Does tells Opens index table t call old new result
+pub did : (tells : Bool) (Opens : List ℕ → List ℕ → Type 0) (index : below.Index) (table t : ℕ) (call : TableCall) (old new : PagesView) (result : Result Reply TableFault) → Does tells Opens index table t (OnTable call) old new result
     → Did tells Opens index table t call old new result
 did tells Opens index table t call old new result does = record {
   shape = does.shape;
+  depth = does.depth;
   cause = does.cause;
   grown = does.saves;
   counts = counted result does.same_saves;
@@ -146,19 +148,20 @@ did tells Opens index table t call old new result does = record {
     counted (Err e) same = λ u. ap (λ (f : ℕ → List ℕ). length (f u)) same
 
 -- only a scan lists rows
-listed_is : (saves : ℕ) (call : Call) (rows : List (ℕ × List ℕ)) → IsOfKind saves call (reply.Listed rows) → (name : List ℕ) × (low : ℕ) × (high : ℕ) × (call ≡ Scan name low high)
+listed_is : (saves : ℕ) (call : TableCall) (rows : List (ℕ × List ℕ)) → IsOfKind saves call (reply.Listed rows) → (name : List ℕ) × (low : ℕ) × (high : ℕ) × (call ≡ Scan name low high)
 listed_is saves (Scan name low high) rows kind = (name, low, high, refl)
 listed_is saves _ rows kind = absurd kind
 
 -- a scan whose rows there is no memory to keep has changed nothing
-pub did_unkept : (tells : Bool) (Opens : List ℕ → List ℕ → Type 0) (index : below.Index) (table t : ℕ) (call : Call) (old new : PagesView) (rows : List (ℕ × List ℕ)) → IsAlive old.store → IsOfKind (length (old.counts t)) call (reply.Listed rows)
-    → Does tells Opens index table t call old new (Ok (reply.Listed rows)) → Did tells Opens index table t call old new (Err NoMemory)
+pub did_unkept : (tells : Bool) (Opens : List ℕ → List ℕ → Type 0) (index : below.Index) (table t : ℕ) (call : TableCall) (old new : PagesView) (rows : List (ℕ × List ℕ)) → IsAlive old.store → IsOfKind (length (old.counts t)) call (reply.Listed rows)
+    → Does tells Opens index table t (OnTable call) old new (Ok (reply.Listed rows)) → Did tells Opens index table t call old new (Err NoMemory)
 did_unkept tells Opens index table t call old new rows alive kind does = record {
   shape = does.shape;
-  cause = (alive, (let is = scan in subst IsScan (sym is.3) tt));
+  depth = does.depth;
+  cause = (alive, (let is = scan in subst (λ (c : TableCall). IsScan (OnTable c)) (sym is.3) tt));
   grown = tt;
   counts = λ u. elim (cases_eq u t) [
-    | inl e ↦ subst (λ (v : ℕ). length (new.counts v) ≡ length (old.counts v)) (sym e) (does.saves ∙ (let is = scan in ap (λ (c : Call). saves_after c (length (old.counts t))) is.3))
+    | inl e ↦ subst (λ (v : ℕ). length (new.counts v) ≡ length (old.counts v)) (sym e) (does.saves ∙ (let is = scan in ap (λ (c : TableCall). saves_after (OnTable c) (length (old.counts t))) is.3))
     | inr ne ↦ ap (λ (counts : List ℕ). length counts) (does.others u ne).1
   ];
   apart = λ u ne. (does.others u ne).1;
@@ -166,11 +169,11 @@ did_unkept tells Opens index table t call old new rows alive kind does = record 
   dies = λ failed. absurd (false≢true failed);
   replies = λ told. tt;
   done = λ told. tt;
-  refused = λ told _. let is = scan in does.done told ∙ ap (λ (c : Call). after t c (reply.Listed rows) (state_of index old)) is.3 ∙ scan_after (state_of index old) t is.0 is.1 is.2 (reply.Listed rows);
+  refused = λ told _. let is = scan in does.done told ∙ ap (λ (c : TableCall). after t (OnTable c) (reply.Listed rows) (state_of index old)) is.3 ∙ scan_after (state_of index old) t is.0 is.1 is.2 (reply.Listed rows);
   quiet = λ told _ quiet. does.quiet told refl quiet;
   indexed = λ told living _. let is = scan in
-      subst (λ (c : Call). (let r : Result Reply TableFault = Err NoMemory in Indexed table c (keys_of index old.store.state.bytes) (keys_of index new.store.state.bytes) r)) (sym is.3)
-      (subst (λ (c : Call). (let r : Result Reply TableFault = Ok (reply.Listed rows) in Indexed table c (keys_of index old.store.state.bytes) (keys_of index new.store.state.bytes) r)) is.3 (does.indexed told living refl));
+      subst (λ (c : TableCall). (let r : Result Reply TableFault = Err NoMemory in Indexed table (OnTable c) (keys_of index old.store.state.bytes) (keys_of index new.store.state.bytes) r)) (sym is.3)
+      (subst (λ (c : TableCall). (let r : Result Reply TableFault = Ok (reply.Listed rows) in Indexed table (OnTable c) (keys_of index old.store.state.bytes) (keys_of index new.store.state.bytes) r)) is.3 (does.indexed told living refl));
   version = λ told _. does.version told refl;
   tables = λ told _. does.tables told refl;
   others = λ u ne. (does.others u ne).0;
@@ -182,7 +185,7 @@ did_unkept tells Opens index table t call old new rows alive kind does = record 
     scan = listed_is (length (old.counts t)) call rows kind
 
 -- there is the table that is asked for
-pub has_asked : (names : List (List ℕ)) (call : Call) (table : ℕ) → number_for names call ≡ Some table → has_table names call ≡ true
+pub has_asked : (names : List (List ℕ)) (call : TableCall) (table : ℕ) → number_for names call ≡ Some table → has_table names call ≡ true
 has_asked names (Get name key) table is = ap is_some is
 has_asked names (Put name key value) table is = ap is_some is
 has_asked names (Del name key) table is = ap is_some is
@@ -190,7 +193,7 @@ has_asked names (Scan name low high) table is = ap is_some is
 has_asked names _ table is = refl
 
 -- there is none
-pub has_none : (names : List (List ℕ)) (call : Call) → number_for names call ≡ None → has_table names call ≡ false
+pub has_none : (names : List (List ℕ)) (call : TableCall) → number_for names call ≡ None → has_table names call ≡ false
 has_none names (Get name key) is = ap is_some is
 has_none names (Put name key value) is = ap is_some is
 has_none names (Del name key) is = ap is_some is
@@ -203,7 +206,7 @@ mirrors_same b s new same live m = record { table = m.table ∙ sym same; logs =
 module _ (tells : Bool) (Opens : Shape → List ℕ → List ℕ → Type 0) (index : below.Index) (one : (shape : Shape) (image a b : List ℕ) → Opens shape image a → Opens shape image b → a ≡ b) (laws : Laws index)
     (p q : PagesView) (old_laws : StoreLaws tells Opens p.store) (new_laws : StoreLaws tells Opens q.store) (s new : State) (shows : ShowsPages index p s) (shows_new : ShowsPages index q new)
     (names : new.names ≡ s.names) (offers : new.offers ≡ s.offers) (base : new.base ≡ s.base) (history : new.history ≡ s.history) (doubt : new.doubt ≡ s.doubt) (count count' : ℕ) (same_count : count' ≡ count) (rows : List NamedRows)
-    (kept : IsKept tells Opens index p count rows s) (alive : IsAlive p.store) (tells_writes : IsShown tells index p) (table t : ℕ) (call : Call) (of : IsOfTable call) (asked : number_for s.names call ≡ Some table)
+    (kept : IsKept tells Opens index p count rows s) (alive : IsAlive p.store) (tells_writes : IsShown tells index p) (table t : ℕ) (call : TableCall) (asked : number_for s.names call ≡ Some table)
     (saves : HasSaves (length (p.counts t)) call) (calls : Granted) (is : s.live t ≡ Some calls) (un : s.offers t ≡ unoffered) (free : IsFree s t call) where
   same_records : records_of new ≡ records_of s
   same_records = λ i. records (base i) (history i)
@@ -241,18 +244,17 @@ module _ (tells : Bool) (Opens : Shape → List ℕ → List ℕ → Type 0) (in
           (subst (λ (h : Shape). length q.store.state.bytes ≡ data_len h) works.shape (new_laws.long told)) (laws.counts q.store.state.bytes (sound_new living)) refl refl
 
       time : LeavesOnly (HasPrefixOf (OpensWithTables (Opens q.store.shape) index new.names) new (length s.history)) p.store q.store
-      time = time_same tells Opens index p q s new (state_of index p).table (table_after t call (state_of index p)) tied works.shape tied.mirrors.table
-          (same_table (state_of index p) t call of ∙ tied.mirrors.table) names base history (works.named told alive)
+      time = time_same tells Opens index p q s new (state_of index p).table (state_of index p).table tied works.shape tied.mirrors.table tied.mirrors.table names base history (works.named told alive)
 
   -- the call has the saves that it needs, and the table is there, so the state does not refuse it
-  may : may_do s t call ≡ true
-  may = may_table s t call of ∙ takes_within s t calls un is
+  may : may_do s t (OnTable call) ≡ true
+  may = takes_within s t calls un is
 
   count_is : length (p.counts t) ≡ saves_of s t
   count_is = kept.saves alive t (records_of s)
 
-  asked_cause : (answer : Reply) → TableCause (limits_of index p.store.shape) s t call answer → ReplyCause (limits_of index p.store.shape) s t call answer
-  asked_cause answer cause = call_cause (limits_of index p.store.shape) s t call living_state may (no_refusal (saves_of s t) call (subst (λ (n : ℕ). HasSaves n call) count_is saves)) there answer (of_table_cause (limits_of index p.store.shape) s t call answer of cause)
+  asked_cause : (answer : Reply) → TableCause (limits_of index p.store.shape p.store.depth) s t call answer → ReplyCause (limits_of index p.store.shape p.store.depth) s t (OnTable call) answer
+  asked_cause answer cause = call_cause (limits_of index p.store.shape p.store.depth) s t call living_state may (no_refusal (saves_of s t) call (subst (λ (n : ℕ). HasSaves n call) count_is saves)) there answer cause
 
   -- the names stay
   names_same : (result : Result Reply TableFault) → IsTrue tells → IsFalse (is_failed result) → Did tells (Opens p.store.shape) index table t call p q result → names_of q.store.state.bytes ≡ names_of p.store.state.bytes
@@ -268,40 +270,40 @@ module _ (tells : Bool) (Opens : Shape → List ℕ → List ℕ → Type 0) (in
     dead_same = shows_new.dead ∙ (works.faults refl).0 ∙ sym shows.dead
 
     module _ (told : IsTrue tells) where
-      indexes : Indexes (limits_of index p.store.shape) call answer s.index new.index
-      indexes = subst (λ (x : Index). Indexes (limits_of index p.store.shape) call answer x new.index) (sym shows.indexed)
-          (subst (λ (x : Index). Indexes (limits_of index p.store.shape) call answer (index_of index p.store.state.bytes) x) (sym shows_new.indexed)
-          (subst (λ (ns : List (List ℕ)). Indexes (limits_of index p.store.shape) call answer (index_of index p.store.state.bytes) (index_with ns q.store.state.bytes (keys_of index q.store.state.bytes))) (sym (names_same (Ok answer) told refl works))
-          (indexes_granted index p.store.shape table (names_of p.store.state.bytes) p.store.state.bytes q.store.state.bytes (keys_of index p.store.state.bytes) (keys_of index q.store.state.bytes) (within told (Ok answer) works living) (one_slot index laws q.store.state.bytes (sound_new told (Ok answer) works living)) call answer answer of
-          (λ inserts. works.quiet told refl (quiet_of index p t call of inserts))
-          (λ name key value e. subst (λ (c : Call). Replies (state_of index p) t c answer) e (works.replies told)) (works.indexed told alive refl))))
+      indexes : Indexes (limits_of index p.store.shape p.store.depth) call answer s.index new.index
+      indexes = subst (λ (x : Index). Indexes (limits_of index p.store.shape p.store.depth) call answer x new.index) (sym shows.indexed)
+          (subst (λ (x : Index). Indexes (limits_of index p.store.shape p.store.depth) call answer (index_of index p.store.state.bytes) x) (sym shows_new.indexed)
+          (subst (λ (ns : List (List ℕ)). Indexes (limits_of index p.store.shape p.store.depth) call answer (index_of index p.store.state.bytes) (index_with ns q.store.state.bytes (keys_of index q.store.state.bytes))) (sym (names_same (Ok answer) told refl works))
+          (indexes_granted index p.store.shape p.store.depth table (names_of p.store.state.bytes) p.store.state.bytes q.store.state.bytes (keys_of index p.store.state.bytes) (keys_of index q.store.state.bytes) (within told (Ok answer) works living) (one_slot index laws q.store.state.bytes (sound_new told (Ok answer) works living)) call answer answer
+          (λ inserts. works.quiet told refl (quiet_of index p t call inserts))
+          (λ name key value e. subst (λ (c : TableCall). Replies (state_of index p) t (OnTable c) answer) e (works.replies told)) (works.indexed told alive refl))))
 
-      asks : Asks (limits_of index p.store.shape) calls s t call answer new
+      asks : Asks (limits_of index p.store.shape p.store.depth) calls s t call answer new
       asks = inr (inr (
         free,
         inl (
-          answers (state_of index p) s (tied told).mirrors t (right told) call answer of (works.replies told),
-          fits_is index table p s shows.indexed (tied told).mirrors (tells_writes.held told alive) t (right told) (tied told).room call of (asked_below told) (works.cause.2 told),
+          answers (state_of index p) s (tied told).mirrors t (right told) call answer (works.replies told),
+          fits_is index table p s shows.indexed (tied told).mirrors (tells_writes.held told alive) t (right told) (tied told).room call (asked_below told) (works.cause.2 told),
           new.index,
           indexes,
           λ i. record { names = names i; base = base i; history = history i; live = live i; offers = offers i; doubt = doubt i; is_dead = dead_same i; index = new.index },
         ),
       ))
 
-      step : Acts (limits_of index p.store.shape) s t call answer new
-      step = step_of (limits_of index p.store.shape) (Some calls) s new t call answer living_state is un
-          (asks_at (limits_of index p.store.shape) calls s new t call answer of there (saves_at index table p s shows (tied told).mirrors (tells_writes.held told alive) t (right told) call has) asks)
+      step : Acts (limits_of index p.store.shape p.store.depth) s t (OnTable call) answer new
+      step = step_of (limits_of index p.store.shape p.store.depth) (Some calls) s new t (OnTable call) answer living_state is un
+          (asks_at (limits_of index p.store.shape p.store.depth) calls s new t call answer there (saves_at index table p s shows (tied told).mirrors (tells_writes.held told alive) t (right told) call has) asks)
 
       tied_new : IsTied index q new
       tied_new = record {
         index_sound = sound_new told (Ok answer) works living;
         version = works.version told refl (tied told).version;
         named = names ∙ (tied told).named ∙ sym (names_same (Ok answer) told refl works);
-        mirrors = subst (λ (b : TableState). Mirrors b new) (sym (works.done told)) (mirrors_granted (state_of index p) s (tied told).mirrors new t calls call answer is live same_records of);
-        sound = acts_sound (limits_of index p.store.shape) s t call answer new (tied told).sound step;
-        room = subst (λ (h : Shape). HasHeld (limits_of index h) new) (sym works.shape)
-            (room_granted (limits_of index p.store.shape) s (named told) (tied told).room new.index (indexes_slots (limits_of index p.store.shape) call answer s.index new.index indexes) t calls is new call answer refl live
-            (enters_at index table p s shows (tied told).mirrors (tells_writes.held told alive) t (right told) call answer new.index of (works.cause.2 told) (works.replies told) indexes)
+        mirrors = subst (λ (b : TableState). Mirrors b new) (sym (works.done told)) (mirrors_granted (state_of index p) s (tied told).mirrors new t calls call answer is live same_records);
+        sound = acts_sound (limits_of index p.store.shape p.store.depth) s t (OnTable call) answer new (tied told).sound step;
+        room = subst (λ (x : Shape × ℕ). HasHeld (limits_of index x.0 x.1) new) (λ i. (sym works.shape i, sym works.depth i))
+            (room_granted (limits_of index p.store.shape p.store.depth) s (named told) (tied told).room new.index (indexes_slots (limits_of index p.store.shape p.store.depth) call answer s.index new.index indexes) t calls is new call answer refl live
+            (enters_at index table p s shows (tied told).mirrors (tells_writes.held told alive) t (right told) call answer new.index (works.cause.2 told) (works.replies told) indexes)
             (returns_at index table p s shows (tied told).mirrors (tells_writes.held told alive) t (right told) calls (ap (λ (o : Option Granted). unwrap_or o []) is) call has));
       }
 
@@ -313,16 +315,16 @@ module _ (tells : Bool) (Opens : Shape → List ℕ → List ℕ → Type 0) (in
       seats = same_count ∙ kept.seats ∙ sym (ap (λ (h : Shape). h.numbers) works.shape);
       in_order = kept.in_order;
       idle = λ _. idle_after p.store.ranges q.store.ranges s.live new.live t works.others (kept.idle alive) (Some (calls ++ (call, answer) ∷ [])) live (λ e. absurd (no_calls (calls ++ (call, answer) ∷ []) e));
-      saves = λ _. saves_one p.counts q.counts s new t (Some (calls ++ (call, answer) ∷ [])) works.apart live (λ table. saves_granted (length (p.counts t)) (length (q.counts t)) table calls call answer of
+      saves = λ _. saves_one p.counts q.counts s new t (Some (calls ++ (call, answer) ∷ [])) works.apart live (λ table. saves_granted (length (p.counts t)) (length (q.counts t)) table calls call answer
           (kept.saves alive t table ∙ ap (λ (o : Option Granted). saves_in table (unwrap_or o [])) is) saves works.grown) (kept.saves alive);
       tied = λ told _. tied_new told;
       safe = safe_new;
     }
 
-    pub granted_steps : Steps tells t call (core_over Opens index p.store s) (core_over Opens index q.store new) answer
-    granted_steps = steps_of tells Opens index p q s new t call answer works.shape
-        (moves_granted p.store.shape.numbers s new t calls call answer names base history dead_same offers un is live of granted plain)
-        (asked_cause answer (granted_cause (limits_of index p.store.shape) s t call answer free granted (subst (λ (n : ℕ). IsOfKind n call answer) count_is kind))) (λ failed. absurd (false≢true (sym (media_none answer granted) ∙ failed)))
+    pub granted_steps : Steps tells t (OnTable call) (core_over Opens index p.store s) (core_over Opens index q.store new) answer
+    granted_steps = steps_of tells Opens index p q s new t (OnTable call) answer works.shape works.depth
+        (moves_granted p.store.shape.numbers s new t calls call answer names base history dead_same offers un is live granted plain)
+        (asked_cause answer (granted_cause (limits_of index p.store.shape p.store.depth) s t call answer free granted (subst (λ (n : ℕ). IsOfKind n call answer) count_is kind))) (λ failed. absurd (false≢true (sym (media_none answer granted) ∙ failed)))
         (λ _. (works.faults refl).1) step (λ told. time told (Ok answer) works) safe_new (inr (λ told _. shows_tied index q new shows_new.indexed (tied_new told)))
 
   -- the call was refused
@@ -338,20 +340,20 @@ module _ (tells : Bool) (Opens : Shape → List ℕ → List ℕ → Type 0) (in
       changed = λ i. record { names = names i; base = base i; history = history i; live = live i; offers = offers i; doubt = doubt i; is_dead = dead_still i; index = new.index }
 
       module _ (told : IsTrue tells) where
-        indexes_still : Indexes (limits_of index p.store.shape) call (reply_to f) s.index new.index
-        indexes_still = subst (λ (x : Index). Indexes (limits_of index p.store.shape) call (reply_to f) x new.index) (sym shows.indexed)
-            (subst (λ (x : Index). Indexes (limits_of index p.store.shape) call (reply_to f) (index_of index p.store.state.bytes) x) (sym shows_new.indexed)
-            (subst (λ (ns : List (List ℕ)). Indexes (limits_of index p.store.shape) call (reply_to f) (index_of index p.store.state.bytes) (index_with ns q.store.state.bytes (keys_of index q.store.state.bytes))) (sym (names_same (Err f) told well works))
-            (indexes_refused index p.store.shape table (names_of p.store.state.bytes) p.store.state.bytes q.store.state.bytes (keys_of index p.store.state.bytes) (keys_of index q.store.state.bytes) (within told (Err f) works living_still) (one_slot index laws q.store.state.bytes (sound_new told (Err f) works living_still)) Reply call f of (asked_below told)
-            (λ inserts. works.quiet told well (quiet_of index p t call of inserts)) well (works.indexed told alive well))))
+        indexes_still : Indexes (limits_of index p.store.shape p.store.depth) call (reply_to f) s.index new.index
+        indexes_still = subst (λ (x : Index). Indexes (limits_of index p.store.shape p.store.depth) call (reply_to f) x new.index) (sym shows.indexed)
+            (subst (λ (x : Index). Indexes (limits_of index p.store.shape p.store.depth) call (reply_to f) (index_of index p.store.state.bytes) x) (sym shows_new.indexed)
+            (subst (λ (ns : List (List ℕ)). Indexes (limits_of index p.store.shape p.store.depth) call (reply_to f) (index_of index p.store.state.bytes) (index_with ns q.store.state.bytes (keys_of index q.store.state.bytes))) (sym (names_same (Err f) told well works))
+            (indexes_refused index p.store.shape p.store.depth table (names_of p.store.state.bytes) p.store.state.bytes q.store.state.bytes (keys_of index p.store.state.bytes) (keys_of index q.store.state.bytes) (within told (Err f) works living_still) (one_slot index laws q.store.state.bytes (sound_new told (Err f) works living_still)) Reply call f (asked_below told)
+            (λ inserts. works.quiet told well (quiet_of index p t call inserts)) well (works.indexed told alive well))))
 
         -- for its cause
-        asks_fault : (g : TableFault) → Well g → (let r : Result Reply TableFault = Err g in Cause tells index table t call p r) → Indexes (limits_of index p.store.shape) call (reply_to g) s.index new.index
-            → Asks (limits_of index p.store.shape) calls s t call (reply_to g) new
+        asks_fault : (g : TableFault) → Well g → (let r : Result Reply TableFault = Err g in Cause tells index table t (OnTable call) p r) → Indexes (limits_of index p.store.shape p.store.depth) call (reply_to g) s.index new.index
+            → Asks (limits_of index p.store.shape p.store.depth) calls s t call (reply_to g) new
         asks_fault (SlotsFull n) well cause made = inr (inr (
           free,
           inr (inl (
-            slot_lacks index table p s shows.indexed (tied told).mirrors (tells_writes.held told alive) t (right told) (tied told).room call n of (cause.3 told) cause.2,
+            slot_lacks index table p s shows.indexed (tied told).mirrors (tells_writes.held told alive) t (right told) (tied told).room call n (cause.3 told) cause.2,
             new.index,
             made,
             changed,
@@ -360,7 +362,7 @@ module _ (tells : Bool) (Opens : Shape → List ℕ → List ℕ → Type 0) (in
         asks_fault (PagesFull n) well cause made = inr (inr (
           free,
           inr (inl (
-            page_lacks index table p s shows.indexed (tied told).mirrors (tells_writes.held told alive) t (right told) (tied told).room call n of (asked_below told) (cause.3 told) cause.2,
+            page_lacks index table p s shows.indexed (tied told).mirrors (tells_writes.held told alive) t (right told) (tied told).room call n (asked_below told) (cause.3 told) cause.2,
             new.index,
             made,
             changed,
@@ -369,22 +371,22 @@ module _ (tells : Bool) (Opens : Shape → List ℕ → List ℕ → Type 0) (in
         asks_fault (LogFull g h n) well cause made = inr (inr (
           free,
           inr (inl (
-            log_lacks index table p s shows.indexed (tied told).mirrors (tells_writes.held told alive) t (right told) (tied told).room call g h n of (asked_below told) (cause.2 told) cause.1,
+            log_lacks index table p s shows.indexed (tied told).mirrors (tells_writes.held told alive) t (right told) (tied told).room call g h n (asked_below told) (cause.2 told) cause.1,
             new.index,
             made,
             changed,
           )),
         ))
-        asks_fault SavesFull well cause made = absurd (saved_out p t call of saves cause.1)
+        asks_fault SavesFull well cause made = absurd (saved_out p t call saves cause.1)
         asks_fault Dead well cause made = absurd (false≢true (sym alive ∙ cause))
         asks_fault (Damaged page) well cause made = absurd (cause.2 told)
         asks_fault NoMemory well cause made =
-            inl (refl, changed ∙ ap (λ (x : Index). record s { index = x }) (scan_same (limits_of index p.store.shape) call reply.NoMemory s.index new.index cause.1 made))
+            inl (refl, changed ∙ ap (λ (x : Index). record s { index = x }) (scan_same (limits_of index p.store.shape p.store.depth) call reply.NoMemory s.index new.index cause.1 made))
         asks_fault Media well cause made = absurd (false≢true (sym well))
 
-        step_still : Acts (limits_of index p.store.shape) s t call (reply_to f) new
-        step_still = step_of (limits_of index p.store.shape) (Some calls) s new t call (reply_to f) living_state is un
-            (asks_at (limits_of index p.store.shape) calls s new t call (reply_to f) of there (saves_at index table p s shows (tied told).mirrors (tells_writes.held told alive) t (right told) call has) (asks_fault f well works.cause indexes_still))
+        step_still : Acts (limits_of index p.store.shape p.store.depth) s t (OnTable call) (reply_to f) new
+        step_still = step_of (limits_of index p.store.shape p.store.depth) (Some calls) s new t (OnTable call) (reply_to f) living_state is un
+            (asks_at (limits_of index p.store.shape p.store.depth) calls s new t call (reply_to f) there (saves_at index table p s shows (tied told).mirrors (tells_writes.held told alive) t (right told) call has) (asks_fault f well works.cause indexes_still))
 
         tied_still : IsTied index q new
         tied_still = record {
@@ -392,9 +394,9 @@ module _ (tells : Bool) (Opens : Shape → List ℕ → List ℕ → Type 0) (in
           version = works.version told well (tied told).version;
           named = names ∙ (tied told).named ∙ sym (names_same (Err f) told well works);
           mirrors = subst (λ (b : TableState). Mirrors b new) (sym (works.refused told well)) (mirrors_same (state_of index p) s new same_records live (tied told).mirrors);
-          sound = acts_sound (limits_of index p.store.shape) s t call (reply_to f) new (tied told).sound step_still;
-          room = subst (λ (h : Shape). HasHeld (limits_of index h) new) (sym works.shape) (subst (HasHeld (limits_of index p.store.shape)) (sym changed)
-              (index_room (limits_of index p.store.shape) s (named told) (tied told).room new.index (indexes_slots (limits_of index p.store.shape) call (reply_to f) s.index new.index indexes_still)));
+          sound = acts_sound (limits_of index p.store.shape p.store.depth) s t (OnTable call) (reply_to f) new (tied told).sound step_still;
+          room = subst (λ (x : Shape × ℕ). HasHeld (limits_of index x.0 x.1) new) (λ i. (sym works.shape i, sym works.depth i)) (subst (HasHeld (limits_of index p.store.shape p.store.depth)) (sym changed)
+              (index_room (limits_of index p.store.shape p.store.depth) s (named told) (tied told).room new.index (indexes_slots (limits_of index p.store.shape p.store.depth) call (reply_to f) s.index new.index indexes_still)));
         }
 
         safe_still : IsSafe (core_over Opens index q.store new) q.store.moment (length new.history)
@@ -410,10 +412,10 @@ module _ (tells : Bool) (Opens : Shape → List ℕ → List ℕ → Type 0) (in
         safe = safe_still;
       }
 
-      well_steps : Steps tells t call (core_over Opens index p.store s) (core_over Opens index q.store new) (reply_to f)
-      well_steps = steps_of tells Opens index p q s new t call (reply_to f) works.shape
-          (moves_refused p.store.shape.numbers s new t call (reply_to f) names base history live offers (dead_still ∙ sym (ap (λ (b : Bool). s.is_dead || b) (media_of f well) ∙ or_false s.is_dead)) (refusal_of f) (plain_of f))
-          (asked_cause (reply_to f) (fault_cause tells index table p s t call alive (saved_out p t call of saves) free f works.cause (λ media. absurd (false≢true (sym well ∙ ap is_failed media)))))
+      well_steps : Steps tells t (OnTable call) (core_over Opens index p.store s) (core_over Opens index q.store new) (reply_to f)
+      well_steps = steps_of tells Opens index p q s new t (OnTable call) (reply_to f) works.shape works.depth
+          (moves_refused p.store.shape.numbers s new t (OnTable call) (reply_to f) names base history live offers (dead_still ∙ sym (ap (λ (b : Bool). s.is_dead || b) (media_of f well) ∙ or_false s.is_dead)) (refusal_of f) (plain_of f))
+          (asked_cause (reply_to f) (fault_cause tells index table p s t call alive (saved_out p t call saves) free f works.cause (λ media. absurd (false≢true (sym well ∙ ap is_failed media)))))
           (λ failed. absurd (false≢true (sym (media_of f well) ∙ failed))) (λ _. (works.faults well).1) step_still (λ told. time told (Err f) works) safe_still (inr (λ told _. shows_tied index q new shows_new.indexed (tied_still told)))
 
   -- the medium failed
@@ -421,9 +423,9 @@ module _ (tells : Bool) (Opens : Shape → List ℕ → List ℕ → Type 0) (in
     died : new.is_dead ≡ true
     died = shows_new.dead ∙ (works.dies refl).0
 
-    step_failed : IsTrue tells → Acts (limits_of index p.store.shape) s t call reply.Media new
-    step_failed told = step_of (limits_of index p.store.shape) (Some calls) s new t call reply.Media living_state is un
-        (asks_at (limits_of index p.store.shape) calls s new t call reply.Media of there (saves_at index table p s shows (tied told).mirrors (tells_writes.held told alive) t (right told) call has)
+    step_failed : IsTrue tells → Acts (limits_of index p.store.shape p.store.depth) s t (OnTable call) reply.Media new
+    step_failed told = step_of (limits_of index p.store.shape p.store.depth) (Some calls) s new t (OnTable call) reply.Media living_state is un
+        (asks_at (limits_of index p.store.shape p.store.depth) calls s new t call reply.Media there (saves_at index table p s shows (tied told).mirrors (tells_writes.held told alive) t (right told) call has)
         (inr (inr (free, inr (inr (due, (refl, new.index, λ i. record { names = names i; base = base i; history = history i; live = live i; offers = offers i; doubt = doubt i; is_dead = died i; index = new.index })))))))
 
     safe_failed : IsTrue tells → IsSafe (core_over Opens index q.store new) q.store.moment (length new.history)
@@ -439,9 +441,9 @@ module _ (tells : Bool) (Opens : Shape → List ℕ → List ℕ → Type 0) (in
       safe = safe_failed;
     }
 
-    media_steps : Steps tells t call (core_over Opens index p.store s) (core_over Opens index q.store new) reply.Media
-    media_steps = steps_of tells Opens index p q s new t call reply.Media works.shape
-        (moves_refused p.store.shape.numbers s new t call reply.Media names base history live offers (died ∙ sym (or_true s.is_dead)) refl refl) (asked_cause reply.Media (free, inr due))
+    media_steps : Steps tells t (OnTable call) (core_over Opens index p.store s) (core_over Opens index q.store new) reply.Media
+    media_steps = steps_of tells Opens index p q s new t (OnTable call) reply.Media works.shape works.depth
+        (moves_refused p.store.shape.numbers s new t (OnTable call) reply.Media names base history live offers (died ∙ sym (or_true s.is_dead)) refl refl) (asked_cause reply.Media (free, inr due))
         (λ _. (works.dies refl).1) (λ kept. absurd (false≢true (sym kept))) step_failed (λ told. time told (Err Media) works) safe_failed (inr (λ told living. absurd (false≢true (sym living ∙ died))))
 
   module _ (f : TableFault) (works : Did tells (Opens p.store.shape) index table t call p q (Err f)) (due : (let r : Result Reply TableFault = Err f in IsErrOf r Media → IsTrue (uses_index call))) (live : new.live ≡ s.live) where
@@ -458,11 +460,11 @@ module _ (tells : Bool) (Opens : Shape → List ℕ → List ℕ → Type 0) (in
         go (Damaged page) works due = well_keeps (Damaged page) works live refl
         go NoMemory works due = well_keeps NoMemory works live refl
 
-    pub refused_steps : Steps tells t call (core_over Opens index p.store s) (core_over Opens index q.store new) (reply_to f)
+    pub refused_steps : Steps tells t (OnTable call) (core_over Opens index p.store s) (core_over Opens index q.store new) (reply_to f)
     refused_steps = go f works due
       where
         go : (f : TableFault) → Did tells (Opens p.store.shape) index table t call p q (Err f) → (let r : Result Reply TableFault = Err f in IsErrOf r Media → IsTrue (uses_index call))
-            → Steps tells t call (core_over Opens index p.store s) (core_over Opens index q.store new) (reply_to f)
+            → Steps tells t (OnTable call) (core_over Opens index p.store s) (core_over Opens index q.store new) (reply_to f)
         go Media works due = media_steps works (due refl) live
         go (SlotsFull n) works due = well_steps (SlotsFull n) works live refl
         go (PagesFull n) works due = well_steps (PagesFull n) works live refl

@@ -37,6 +37,7 @@ look_left tells Opens old new alive looks =
     let still = looks.still refl in
     record {
       shape = looks.shape;
+      depth = looks.depth;
       mirrors = looks.mirrors;
       kept = λ well. (still.dead, still.faults);
       unwritten = λ told well. ap (λ (s : State). s.bytes) (still.state told);
@@ -51,6 +52,7 @@ attach_left tells Opens index old new alive (Damaged page) cause looks = look_le
 attach_left tells Opens index old new alive NoMemory cause looks = look_left tells Opens old new alive looks
 attach_left tells Opens index old new alive Media cause looks = record {
   shape = looks.shape;
+  depth = looks.depth;
   mirrors = looks.mirrors;
   kept = λ well. absurd (false≢true (sym well));
   unwritten = λ told well. absurd (false≢true (sym well));
@@ -63,6 +65,7 @@ attach_left tells Opens index old new alive Dead cause looks = absurd (false≢t
 pub left_gives : (tells : Bool) (Opens : List ℕ → List ℕ → Type 0) (failed : Bool) (old new : StoreView) → LeftAsItWas tells Opens failed old new → GivesBack tells Opens failed old new
 left_gives tells Opens failed old new left = record {
   shape = left.shape;
+  depth = left.depth;
   mirrors = left.mirrors;
   kept = left.kept;
   unwritten = left.unwritten;
@@ -80,6 +83,7 @@ pub upgrade_gives : (tells : Bool) (Opens : List ℕ → List ℕ → Type 0) (i
     → GivesBack tells Opens (is_media_fault (scan_fault f)) old.store new.store
 upgrade_gives tells Opens index old new alive fault.Media up = record {
   shape = up.shape;
+  depth = up.depth;
   mirrors = up.mirrors;
   kept = λ well. absurd (false≢true (sym well));
   unwritten = λ told well. absurd (false≢true (sym well));
@@ -89,6 +93,7 @@ upgrade_gives tells Opens index old new alive fault.Media up = record {
 upgrade_gives tells Opens index old new alive fault.NoMemory up = absurd up.cause
 upgrade_gives tells Opens index old new alive (fault.Damaged page) up = record {
   shape = up.shape;
+  depth = up.depth;
   mirrors = up.mirrors;
   kept = up.faults;
   unwritten = λ told well. absurd (up.cause.1 told);
@@ -109,6 +114,7 @@ looked_gives tells Opens failed p q new alive looks back =
     let bytes : IsTrue tells → q.store.state.bytes ≡ p.store.state.bytes = λ told. ap (λ (s : State). s.bytes) (still.state told) in
     record {
       shape = back.shape ∙ looks.shape;
+      depth = back.depth ∙ looks.depth;
       mirrors = sent_then tells p.store q.store new looks.mirrors back.mirrors;
       kept = λ well. ((back.kept well).0 ∙ still.dead, (back.kept well).1 ∙ still.faults);
       unwritten = λ told well. back.unwritten told well ∙ bytes told;
@@ -128,6 +134,7 @@ looked_begins tells Opens index p q new core alive looks begins =
       alive = begins.alive;
       faults = begins.faults ∙ still.faults;
       shape = begins.shape ∙ looks.shape;
+      depth = begins.depth ∙ looks.depth;
       state = λ told. subst (λ (d : List ℕ). core.state ≡ opened (names_of d) (table_of index d) (index_of index (upgraded d))) (bytes told) (begins.state told);
       fresh = begins.fresh;
       sound = λ told. subst (λ (d : List ℕ). index.sound d) (bytes told) (begins.sound told);
@@ -143,7 +150,8 @@ looked_begins tells Opens index p q new core alive looks begins =
 pub gives_same : (tells : Bool) (Opens : List ℕ → List ℕ → Type 0) (old : StoreView) → GivesBack tells Opens false old old
 gives_same tells Opens old = record {
   shape = refl;
-  mirrors = none_sent tells old old refl refl (λ fine. fine) (λ told mirrors fine. refl);
+  depth = refl;
+  mirrors = none_sent tells old old refl refl refl (λ fine. fine) (λ told mirrors fine. refl);
   kept = λ well. (refl, refl);
   unwritten = λ told well. refl;
   dies = λ failed. absurd (false≢true failed);

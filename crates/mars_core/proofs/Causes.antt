@@ -6,7 +6,10 @@ use Rattle.eaw_face.specs.Causes.{IsAlive}
 use Rattle.page_store.specs.Index as below
 use Rattle.page_store.specs.Shown.{PagesView}
 use Rattle.history.specs.declared.call.Call.{Call}
-use Rattle.history.specs.declared.call.Call.TheVariants.{Begin, Get, Put, Del, Scan, Save, Back, Commit, Abort, Offer, Settle, Purge}
+use Rattle.history.specs.declared.call.Call.TheVariants.{Begin, Table as OnTable, Control}
+use Rattle.history.specs.declared.call.TableCall.{TableCall}
+use Rattle.history.specs.declared.call.TableCall.TheVariants.{Get, Put, Del, Scan, Save, Back}
+use Rattle.history.specs.declared.call.Control.TheVariants.{Settle, Purge}
 use Rattle.history.specs.declared.call.Reply.{Reply}
 use Rattle.history.specs.declared.call.Reply.TheVariants as reply
 use Rattle.record_table.specs.Causes.{Cause, IsSought, MayLack}
@@ -22,14 +25,13 @@ use Rattle.caller_steps.specs.Room.{Limits}
 use Rattle.caller_steps.specs.Step.{StepAt, uses_index}
 use Rattle.caller_steps.specs.Fate.{is_refusal}
 use Rattle.caller_steps.specs.Cause.{saves_of, misplaced, save_refusal, IsOfKind, MayMeet, TableCause, CommitCause, SettleCause, CallCause, ReplyCause}
-use Rattle.caller_steps.proofs.Causing.{misplaced_cause, call_cause}
+use Rattle.caller_steps.proofs.Causing.{misplaced_cause, plain_cause}
 use Rattle.mars_core.specs.Over.{limits_of}
 use Rattle.mars_core.specs.Works.{HasSaves, IsSaveRefusal}
 use Rattle.mars_core.proofs.Touching.{both}
-use Rattle.mars_core.proofs.Mirroring.{IsOfTable}
 
 -- a call has the saves that it needs
-pub no_refusal : (saves : ℕ) (call : Call) → HasSaves saves call → save_refusal saves call ≡ None
+pub no_refusal : (saves : ℕ) (call : TableCall) → HasSaves saves call → save_refusal saves call ≡ None
 no_refusal saves Save has = ap (λ (b : Bool). if b then None else Some reply.SavesFull) (lt-ltb saves 32 has)
 no_refusal saves (Back n) has = ap (λ (b : Bool). if b then None else Some (reply.NoSave n)) ((λ i. lt-ltb 0 n has.0 i && nat_le n saves) ∙ le-leb n saves has.1)
 no_refusal saves _ has = refl
@@ -39,7 +41,7 @@ not_true true never = absurd (never refl)
 not_true false never = refl
 
 -- it has not
-pub is_refused : (saves : ℕ) (call : Call) (answer : Reply) → IsSaveRefusal saves call answer → save_refusal saves call ≡ Some answer
+pub is_refused : (saves : ℕ) (call : TableCall) (answer : Reply) → IsSaveRefusal saves call answer → save_refusal saves call ≡ Some answer
 is_refused saves Save answer refused =
     ap (λ (b : Bool). if b then None else Some reply.SavesFull) (not_true (nat_lt saves 32) (λ less. (let low = ltb-true saves 32 less in omega (arith, low, refused.0)))) ∙ ap (λ (r : Reply). Some r) (sym refused.1)
 is_refused saves (Back n) answer refused =
@@ -48,32 +50,22 @@ is_refused saves (Back n) answer refused =
 is_refused saves (Get name key) answer refused = absurd refused
 is_refused saves _ answer refused = absurd refused
 
--- a call of the table
-pub of_table_cause : (limits : Limits) (s : State) (t : ℕ) (call : Call) (answer : Reply) → IsOfTable call → TableCause limits s t call answer → CallCause limits s t call answer
-of_table_cause limits s t Begin answer of cause = absurd of
-of_table_cause limits s t Commit answer of cause = absurd of
-of_table_cause limits s t Abort answer of cause = absurd of
-of_table_cause limits s t Offer answer of cause = absurd of
-of_table_cause limits s t Settle answer of cause = absurd of
-of_table_cause limits s t Purge answer of cause = absurd of
-of_table_cause limits s t _ answer of cause = cause
-
 -- granted where nobody stands in its way
-pub granted_cause : (limits : Limits) (s : State) (t : ℕ) (call : Call) (answer : Reply) → IsFree s t call → is_refusal answer ≡ false → IsOfKind (saves_of s t) call answer → TableCause limits s t call answer
+pub granted_cause : (limits : Limits) (s : State) (t : ℕ) (call : TableCall) (answer : Reply) → IsFree s t call → is_refusal answer ≡ false → IsOfKind (saves_of s t) call answer → TableCause limits s t call answer
 granted_cause limits s t call reply.NoMemory free granted kind = tt
 granted_cause limits s t call (reply.Busy holder) free granted kind = absurd (true≢false granted)
 granted_cause limits s t call _ free granted kind = (free, inl kind)
 
-put_meets : (limits : Limits) (call : Call) (n : ℕ) → table_causes.IsPut call → (n ≡ limits.slots → MayMeet limits call (reply.SlotsFull n)) × (n ≡ limits.index_pages - 1 → MayMeet limits call (reply.PagesFull n))
+put_meets : (limits : Limits) (call : TableCall) (n : ℕ) → table_causes.IsPut (OnTable call) → (n ≡ limits.slots → MayMeet limits call (reply.SlotsFull n)) × (n ≡ limits.index_pages - 1 → MayMeet limits call (reply.PagesFull n))
 put_meets limits (Put name key value) n is = (λ e. e, λ e. e)
 put_meets limits _ n is = absurd is
 
-log_meets : (index : below.Index) (p : PagesView) (t : ℕ) (call : Call) (g h n : ℕ) → MayLack p g h n t call → MayMeet (limits_of index p.store.shape) call (reply.LogFull g h n)
+log_meets : (index : below.Index) (p : PagesView) (t : ℕ) (call : TableCall) (g h n : ℕ) → MayLack p g h n t (OnTable call) → MayMeet (limits_of index p.store.shape p.store.depth) call (reply.LogFull g h n)
 log_meets index p t (Put name key value) g h n lacks = (lacks.2.logger, lacks.0, lacks.2.full)
 log_meets index p t (Del name key) g h n lacks = (lacks.2.logger, lacks.0, lacks.2.full)
 log_meets index p t _ g h n lacks = absurd lacks
 
-sought_uses : (call : Call) → IsSought call → uses_index call ≡ true
+sought_uses : (call : TableCall) → IsSought (OnTable call) → uses_index call ≡ true
 sought_uses (Get name key) is = refl
 sought_uses (Put name key value) is = refl
 sought_uses (Del name key) is = refl
@@ -81,10 +73,10 @@ sought_uses (Scan name low high) is = refl
 sought_uses _ is = absurd is
 
 -- refused by the records
-pub fault_cause : (tells : Bool) (index : below.Index) (table : ℕ) (p : PagesView) (s : State) (t : ℕ) (call : Call) → IsAlive p.store → (table_causes.IsSavedOut p t call → ⊥) → IsFree s t call
-    → (f : TableFault) → (let r : Result Reply TableFault = Err f in Cause tells index table t call p r) → (let r : Result Reply TableFault = Err f in IsErrOf r Media → IsTrue (uses_index call)) → TableCause (limits_of index p.store.shape) s t call (reply_to f)
-fault_cause tells index table p s t call alive saved free (SlotsFull n) cause due = (free, inr ((put_meets (limits_of index p.store.shape) call n cause.1).0 cause.2))
-fault_cause tells index table p s t call alive saved free (PagesFull n) cause due = (free, inr ((put_meets (limits_of index p.store.shape) call n cause.1).1 cause.2))
+pub fault_cause : (tells : Bool) (index : below.Index) (table : ℕ) (p : PagesView) (s : State) (t : ℕ) (call : TableCall) → IsAlive p.store → (table_causes.IsSavedOut p t (OnTable call) → ⊥) → IsFree s t call
+    → (f : TableFault) → (let r : Result Reply TableFault = Err f in Cause tells index table t (OnTable call) p r) → (let r : Result Reply TableFault = Err f in IsErrOf r Media → IsTrue (uses_index call)) → TableCause (limits_of index p.store.shape p.store.depth) s t call (reply_to f)
+fault_cause tells index table p s t call alive saved free (SlotsFull n) cause due = (free, inr ((put_meets (limits_of index p.store.shape p.store.depth) call n cause.1).0 cause.2))
+fault_cause tells index table p s t call alive saved free (PagesFull n) cause due = (free, inr ((put_meets (limits_of index p.store.shape p.store.depth) call n cause.1).1 cause.2))
 fault_cause tells index table p s t call alive saved free (LogFull g h n) cause due = (free, inr (log_meets index p t call g h n cause.1))
 fault_cause tells index table p s t call alive saved free SavesFull cause due = absurd (saved cause.1)
 fault_cause tells index table p s t call alive saved free Media cause due = (free, inr (due refl))
@@ -104,38 +96,31 @@ absent_cause limits s t call alive none un new at = go call at
 
     go : (call : Call) → StepAt limits None s t call reply.NoTransaction new → ReplyCause limits s t call reply.NoTransaction
     go Begin at = absurd (let e = at.0 in cc)
-    go Purge (inl (n, is, purges)) = absurd (cc)
-    go Purge (inr (is, index, fails)) = absurd (cc)
-    go Settle at = misplaced_cause limits s t Settle alive none_offered reply.NoTransaction refl
-    go (Get name key) at = misplaced_cause limits s t (Get name key) alive none_takes reply.NoTransaction refl
-    go (Put name key value) at = misplaced_cause limits s t (Put name key value) alive none_takes reply.NoTransaction refl
-    go (Del name key) at = misplaced_cause limits s t (Del name key) alive none_takes reply.NoTransaction refl
-    go (Scan name low high) at = misplaced_cause limits s t (Scan name low high) alive none_takes reply.NoTransaction refl
-    go Save at = misplaced_cause limits s t Save alive none_takes reply.NoTransaction refl
-    go (Back n) at = misplaced_cause limits s t (Back n) alive none_takes reply.NoTransaction refl
-    go Commit at = misplaced_cause limits s t Commit alive none_takes reply.NoTransaction refl
-    go Abort at = misplaced_cause limits s t Abort alive none_takes reply.NoTransaction refl
-    go Offer at = misplaced_cause limits s t Offer alive none_takes reply.NoTransaction refl
+    go (Control Purge) (inl (n, is, purges)) = absurd (cc)
+    go (Control Purge) (inr (is, index, fails)) = absurd (cc)
+    go (Control Settle) at = misplaced_cause limits s t (Control Settle) alive none_offered reply.NoTransaction refl
+    go (OnTable asked) at = misplaced_cause limits s t (OnTable asked) alive none_takes reply.NoTransaction refl
+    go (Control ends) at = misplaced_cause limits s t (Control ends) alive none_takes reply.NoTransaction refl
 
 -- a begin or a purge within one
-pub within_cause : (limits : Limits) (s : State) (t : ℕ) (call : Call) → s.is_dead ≡ false → (engaged : (is_some (s.live t) || not (is_unoffered (s.offers t))) ≡ true) → (call ≡ Begin) ⊎ (call ≡ Purge) → ReplyCause limits s t call reply.Already
+pub within_cause : (limits : Limits) (s : State) (t : ℕ) (call : Call) → s.is_dead ≡ false → (engaged : (is_some (s.live t) || not (is_unoffered (s.offers t))) ≡ true) → (call ≡ Begin) ⊎ (call ≡ Control Purge) → ReplyCause limits s t call reply.Already
 within_cause limits s t call alive engaged (inl begin) = subst (λ (c : Call). ReplyCause limits s t c reply.Already) (sym begin) (misplaced_cause limits s t Begin alive (ap not engaged) reply.Already refl)
-within_cause limits s t call alive engaged (inr purge) = subst (λ (c : Call). ReplyCause limits s t c reply.Already) (sym purge) (misplaced_cause limits s t Purge alive (ap not engaged) reply.Already refl)
+within_cause limits s t call alive engaged (inr purge) = subst (λ (c : Call). ReplyCause limits s t c reply.Already) (sym purge) (misplaced_cause limits s t (Control Purge) alive (ap not engaged) reply.Already refl)
 
 -- a settle of what was offered
-pub settle_cause : (limits : Limits) (s : State) (t : ℕ) → s.is_dead ≡ false → s.offers t ≡ offered → (answer : Reply) → CommitCause (number_among (length s.history + 1) (offerers limits.callers s) t) answer → ReplyCause limits s t Settle answer
-settle_cause limits s t alive has answer cause = call_cause limits s t Settle alive (ap (λ (o : state.Offer). not (is_unoffered o)) has) refl refl answer (subst (λ (o : state.Offer). SettleCause limits o s t answer) (sym has) cause)
+pub settle_cause : (limits : Limits) (s : State) (t : ℕ) → s.is_dead ≡ false → s.offers t ≡ offered → (answer : Reply) → CommitCause (number_among (length s.history + 1) (offerers limits.callers s) t) answer → ReplyCause limits s t (Control Settle) answer
+settle_cause limits s t alive has answer cause = plain_cause limits s t (Control Settle) alive (ap (λ (o : state.Offer). not (is_unoffered o)) has) refl answer (subst (λ (o : state.Offer). SettleCause limits o s t answer) (sym has) cause)
 
 -- and of what a group has committed
-pub told_cause : (limits : Limits) (s : State) (t : ℕ) → s.is_dead ≡ false → (n : ℕ) → s.offers t ≡ unsettled n → ReplyCause limits s t Settle (reply.Committed n)
-told_cause limits s t alive n has = call_cause limits s t Settle alive (ap (λ (o : state.Offer). not (is_unoffered o)) has) refl refl (reply.Committed n) (subst (λ (o : state.Offer). SettleCause limits o s t (reply.Committed n)) (sym has) refl)
+pub told_cause : (limits : Limits) (s : State) (t : ℕ) → s.is_dead ≡ false → (n : ℕ) → s.offers t ≡ unsettled n → ReplyCause limits s t (Control Settle) (reply.Committed n)
+told_cause limits s t alive n has = plain_cause limits s t (Control Settle) alive (ap (λ (o : state.Offer). not (is_unoffered o)) has) refl (reply.Committed n) (subst (λ (o : state.Offer). SettleCause limits o s t (reply.Committed n)) (sym has) refl)
 
 or_is : (b c : Bool) → c ≡ true → (b || c) ≡ true
 or_is true c e = refl
 or_is false c e = e
 
 -- before its settle a caller does nothing else
-pub closed_may : (s : State) (t : ℕ) (offer : state.Offer) → s.offers t ≡ offer → is_unoffered offer ≡ false → (asked : Call) → (asked ≡ Settle → ⊥) → may_do s t asked ≡ false
+pub closed_may : (s : State) (t : ℕ) (offer : state.Offer) → s.offers t ≡ offer → is_unoffered offer ≡ false → (asked : Call) → (asked ≡ Control Settle → ⊥) → may_do s t asked ≡ false
 closed_may s t offer has closed asked settle = go asked settle
   where
     shut : is_unoffered (s.offers t) ≡ false
@@ -147,13 +132,13 @@ closed_may s t offer has closed asked settle = go asked settle
     takes : (is_unoffered (s.offers t) && is_some (s.live t)) ≡ false
     takes = ap (λ (b : Bool). b && is_some (s.live t)) shut
 
-    go : (asked : Call) → (asked ≡ Settle → ⊥) → may_do s t asked ≡ false
+    go : (asked : Call) → (asked ≡ Control Settle → ⊥) → may_do s t asked ≡ false
     go Begin never = engaged
-    go Purge never = engaged
-    go Settle never = absurd (never refl)
+    go (Control Purge) never = engaged
+    go (Control Settle) never = absurd (never refl)
     go _ never = takes
 
-pub misplaced_is : (asked : Call) → (asked ≡ Begin → ⊥) → (asked ≡ Purge → ⊥) → reply.NoTransaction ≡ misplaced asked
+pub misplaced_is : (asked : Call) → (asked ≡ Begin → ⊥) → (asked ≡ Control Purge → ⊥) → reply.NoTransaction ≡ misplaced asked
 misplaced_is Begin begin purge = absurd (begin refl)
-misplaced_is Purge begin purge = absurd (purge refl)
+misplaced_is (Control Purge) begin purge = absurd (purge refl)
 misplaced_is _ begin purge = refl

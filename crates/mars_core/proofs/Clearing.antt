@@ -24,7 +24,7 @@ use Rattle.history.specs.Locks.{Meets, touches, touched, clash}
 use Rattle.history.specs.Log.{Log}
 use Rattle.history.specs.Table.{Granted}
 use Rattle.history.specs.Writes.{Table, is_of}
-use Rattle.history.specs.declared.call.Call.TheVariants.{Del}
+use Rattle.history.specs.declared.call.TableCall.TheVariants.{Del}
 use Rattle.page_store.specs.Fits.{is_page_on}
 use Rattle.page_store.specs.Index as below
 use Rattle.page_store.specs.Index.{slots_of}
@@ -259,7 +259,8 @@ module _ (tells : Bool) (Opens : List ℕ → List ℕ → Type 0) (index : belo
   pub busy_tries : (holder : ℕ) → IsBusyWith (bare seats) t (Del key.table key.key) holder → Tries tells Opens index seats table key old old (Ok false)
   busy_tries holder busy = record {
     shape = refl;
-    mirrors = none_sent tells old.store old.store refl refl (λ fine. fine) (λ told mirrors fine. refl);
+    depth = refl;
+    mirrors = none_sent tells old.store old.store refl refl refl (λ fine. fine) (λ told mirrors fine. refl);
     cause = tt;
     faults = λ _. (refl, refl);
     dies = λ failed. absurd (false≢true failed);
@@ -317,6 +318,7 @@ module _ (tells : Bool) (Opens : List ℕ → List ℕ → Type 0) (index : belo
       pub removed_tries : (new : PagesView) (r : Result Bool TableFault) → Removes tells Opens index table t key.key old new r → Tries tells Opens index seats table key old new r
       removed_tries new r removes = record {
         shape = removes.shape;
+        depth = removes.depth;
         mirrors = removes.mirrors;
         cause = cause_so new r removes;
         faults = removes.faults;
@@ -336,6 +338,7 @@ module _ (tells : Bool) (Opens : List ℕ → List ℕ → Type 0) (index : belo
 -- A purge that has passed some keys, and has taken n keys out.
 pub record Going (tells : Bool) (Opens : List ℕ → List ℕ → Type 0) (index : below.Index) (seats : Seats) (t : ℕ) (Passed : Key → Type 0) (n : ℕ) (old now : PagesView) : Type 0 where
   pub shape : now.store.shape ≡ old.store.shape
+  pub depth : now.store.depth ≡ old.store.depth
   pub dead : now.store.is_dead ≡ old.store.is_dead
   pub faults : now.store.faults ≡ old.store.faults
   pub ranges : (u : ℕ) → listed (now.store.ranges u) ≡ listed (old.store.ranges u)
@@ -355,7 +358,8 @@ module _ (tells : Bool) (Opens : List ℕ → List ℕ → Type 0) (index : belo
   pub going_first : (Passed : Key → Type 0) → ((key : Key) → Passed key → ⊥) → (IsTrue tells → IsReady index seats t old) → Going tells Opens index seats t Passed 0 old old
   going_first Passed none ready = record {
     shape = refl;
-    mirrors = none_sent tells old.store old.store refl refl (λ fine. fine) (λ told mirrors fine. refl);
+    depth = refl;
+    mirrors = none_sent tells old.store old.store refl refl refl (λ fine. fine) (λ told mirrors fine. refl);
     dead = refl;
     faults = refl;
     ranges = λ u. refl;
@@ -391,6 +395,7 @@ module _ (tells : Bool) (Opens : List ℕ → List ℕ → Type 0) (index : belo
         let bytes = λ (told : IsTrue tells). ap (λ (s : State). s.bytes) (still.state told) in
         record {
           shape = looks.shape ∙ going.shape;
+          depth = looks.depth ∙ going.depth;
           mirrors = sent_then tells old.store mid.store new.store going.mirrors looks.mirrors;
           dead = still.dead ∙ going.dead;
           faults = still.faults ∙ going.faults;
@@ -414,6 +419,7 @@ module _ (tells : Bool) (Opens : List ℕ → List ℕ → Type 0) (index : belo
         → Clears tells Opens index seats t Wanted old new (Err fault)
     look_refused Wanted new Media both = record {
       shape = both.0.shape ∙ going.shape;
+      depth = both.0.depth ∙ going.depth;
       mirrors = sent_then tells old.store mid.store new.store going.mirrors both.0.mirrors;
       cause = tt;
       faults = λ well. absurd (false≢true (sym well));
@@ -428,6 +434,7 @@ module _ (tells : Bool) (Opens : List ℕ → List ℕ → Type 0) (index : belo
     }
     look_refused Wanted new (Damaged page) both = (let now = going_look new both.0 in record {
       shape = now.shape;
+      depth = now.depth;
       mirrors = now.mirrors;
       cause = both.1.1;
       faults = λ _. (now.dead, now.faults);
@@ -452,6 +459,7 @@ module _ (tells : Bool) (Opens : List ℕ → List ℕ → Type 0) (index : belo
         → Clears tells Opens index seats t Wanted old mid (Ok n)
     all_tried Wanted passed among = record {
       shape = going.shape;
+      depth = going.depth;
       mirrors = going.mirrors;
       cause = tt;
       faults = λ _. (going.dead, going.faults);
@@ -511,6 +519,7 @@ module _ (tells : Bool) (Opens : List ℕ → List ℕ → Type 0) (index : belo
             let well = tries.faults refl in
             record {
               shape = tries.shape ∙ going.shape;
+              depth = tries.depth ∙ going.depth;
               mirrors = sent_then tells old.store mid.store new.store going.mirrors tries.mirrors;
               dead = well.0 ∙ going.dead;
               faults = well.1 ∙ going.faults;
@@ -542,6 +551,7 @@ module _ (tells : Bool) (Opens : List ℕ → List ℕ → Type 0) (index : belo
       pub try_refused : (Wanted : Key → Type 0) (fault : TableFault) → Tries tells Opens index seats table key mid new (Err fault) → Clears tells Opens index seats t Wanted old new (Err fault)
       try_refused Wanted fault tries = record {
         shape = tries.shape ∙ going.shape;
+        depth = tries.depth ∙ going.depth;
         mirrors = sent_then tells old.store mid.store new.store going.mirrors tries.mirrors;
         cause = cause_of Bool fault tries.cause;
         faults = λ well. let kept = tries.faults well in (kept.0 ∙ going.dead, kept.1 ∙ going.faults);
@@ -564,6 +574,7 @@ module _ (tells : Bool) (Opens : List ℕ → List ℕ → Type 0) (index : belo
         pub going_more : (IsTrue tells → (one other : Key) → Passed one → More other → ComesBefore seats.names one other) → Going tells Opens index seats t (λ one. Passed one ⊎ More one) (n + m) old new
         going_more before = record {
           shape = clears.shape ∙ going.shape;
+          depth = clears.depth ∙ going.depth;
           mirrors = sent_then tells old.store mid.store new.store going.mirrors clears.mirrors;
           dead = (clears.faults refl).0 ∙ going.dead;
           faults = (clears.faults refl).1 ∙ going.faults;
@@ -585,6 +596,7 @@ module _ (tells : Bool) (Opens : List ℕ → List ℕ → Type 0) (index : belo
       pub more_refused : (Wanted : Key → Type 0) (fault : TableFault) → Clears tells Opens index seats t More mid new (Err fault) → Clears tells Opens index seats t Wanted old new (Err fault)
       more_refused Wanted fault clears = record {
         shape = clears.shape ∙ going.shape;
+        depth = clears.depth ∙ going.depth;
         mirrors = sent_then tells old.store mid.store new.store going.mirrors clears.mirrors;
         cause = clears.cause;
         faults = λ well. let kept = clears.faults well in (kept.0 ∙ going.dead, kept.1 ∙ going.faults);
@@ -604,6 +616,7 @@ pub going_to : (tells : Bool) (Opens : List ℕ → List ℕ → Type 0) (index 
     → Going tells Opens index seats t Passed n old now → Going tells Opens index seats t Other n' old now
 going_to tells Opens index seats t n n' Passed Other old now count passed among going = record {
   shape = going.shape;
+  depth = going.depth;
   mirrors = going.mirrors;
   dead = going.dead;
   faults = going.faults;

@@ -8,8 +8,8 @@ use Rattle.history.specs.Writes.{Write}
 use Rattle.history.specs.Table.{Granted, has_save}
 use Rattle.history.specs.Log.{Log, log_of, log_after, save_at}
 use Rattle.history.specs.Log as log
-use Rattle.history.specs.declared.call.Call.{Call}
-use Rattle.history.specs.declared.call.Call.TheVariants.{Put, Del, Back}
+use Rattle.history.specs.declared.call.TableCall.{TableCall}
+use Rattle.history.specs.declared.call.TableCall.TheVariants.{Put, Del, Back}
 use Rattle.history.specs.declared.call.Reply.{Reply}
 use Rattle.history.specs.declared.call.Reply.TheVariants.{Fine}
 use Rattle.history.proofs.Counting.{length-filter-front}
@@ -28,13 +28,13 @@ abbrev pub HasSlot : Limits → State → ℕ → Index → Key → Type 0
 HasSlot limits s t ix key = (slot : ℕ) × (ix.slot_of key ≡ Some slot) × HasEntry limits s t key slot
 
 -- if the call with this reply writes, it finds an entry
-abbrev pub Enters : Limits → State → ℕ → Index → Call → Reply → Type 0
+abbrev pub Enters : Limits → State → ℕ → Index → TableCall → Reply → Type 0
 Enters limits s t ix (Put name key value) answer = HasSlot limits s t ix (of_table name key)
 Enters limits s t ix (Del name key) Fine = HasSlot limits s t ix (of_table name key)
 Enters limits s t ix _ answer = Unit {0}
 
 -- a way back goes to a save
-abbrev pub Returns : List (List Write) → Call → Type 0
+abbrev pub Returns : List (List Write) → TableCall → Type 0
 Returns saved (Back n) = has_save saved n ≡ true
 Returns saved _ = Unit {0}
 
@@ -62,7 +62,7 @@ module _ (limits : Limits) (s : State) (named : (caller : ℕ) → AreNamed s.in
           (subst (λ (n : ℕ). n < limits.entries) (sym (held_index ix slots t (limits.logger_of slot))) (entry (ap (λ (cs : Granted). log.is_rewritten (log_of cs) write.0) at ∙ anew)))) g (first g)
 
       -- what they hold of the caller itself after the call
-      own_room : (call : Call) (answer : Reply) → Enters limits s t ix call answer → Returns (log_of calls).saved call
+      own_room : (call : TableCall) (answer : Reply) → Enters limits s t ix call answer → Returns (log_of calls).saved call
           → (g : ℕ) → length (filter (is_write_on limits ix g) (log_after (log_of calls) call answer).writes) ≤ limits.entries
       own_room (Put name key value) answer enters returns g = wrote (of_table name key, Some value) enters g
       own_room (Del name key) Fine enters returns g = wrote (of_table name key, None) enters g
@@ -75,7 +75,7 @@ module _ (limits : Limits) (s : State) (named : (caller : ℕ) → AreNamed s.in
           (omega (arith, fewer, same, first g))
       own_room _ answer enters returns g = first g
 
-      pub room_granted : (new : State) (call : Call) (answer : Reply) → new.index ≡ ix → new.live ≡ update nat_eq s.live t (Some (calls ++ (call, answer) ∷ []))
+      pub room_granted : (new : State) (call : TableCall) (answer : Reply) → new.index ≡ ix → new.live ≡ update nat_eq s.live t (Some (calls ++ (call, answer) ∷ []))
           → Enters limits s t ix call answer → Returns (log_of calls).saved call → HasHeld limits new
       room_granted new call answer indexed live enters returns caller g = elim (cases_eq caller t) [
         | inl e ↦ subst (λ (v : ℕ). held_on limits new v g ≤ limits.entries) (sym e)

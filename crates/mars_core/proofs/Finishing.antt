@@ -19,7 +19,8 @@ use Rattle.history.specs.Legal.{records}
 use Rattle.history.specs.Groups.{AreWhole}
 use Rattle.history.specs.Log.{Log, log_of}
 use Rattle.history.specs.declared.call.Reply.{Reply}
-use Rattle.history.specs.declared.call.Call.TheVariants.{Commit, Abort}
+use Rattle.history.specs.declared.call.Call.TheVariants.{Control}
+use Rattle.history.specs.declared.call.Control.TheVariants.{Commit, Abort}
 use Rattle.history.specs.declared.call.Reply.TheVariants.{Fine, Committed, NoMemory}
 use Rattle.history.specs.declared.call.Reply.TheVariants as reply
 use Rattle.history.specs.declared.transaction.Done.{Done}
@@ -39,7 +40,7 @@ use Rattle.caller_steps.specs.Room.{Settles}
 use Rattle.caller_steps.specs.Step.{Acts}
 use Rattle.caller_steps.specs.Prefix.{HasPrefix, HasPrefixOf}
 use Rattle.caller_steps.specs.Core.{IsSafe, Steps}
-use Rattle.caller_steps.proofs.Causing.{call_cause}
+use Rattle.caller_steps.proofs.Causing.{plain_cause}
 use Rattle.mars_core.proofs.Saving.{saves_one}
 use Rattle.caller_steps.proofs.Sound.{acts_sound, history_whole, one_more_whole}
 use Rattle.record_slots.specs.Names.{names_in}
@@ -81,12 +82,12 @@ last_is (a ∷ xs) (b ∷ ys) x (Some z) e none =
     ((λ i. heads a b (xs ++ x ∷ []) (ys ++ z ∷ []) e i ∷ rest.0 i), rest.1)
 
 -- only the medium refuses the end of a transaction
-pub commit_fails : (tells : Bool) (index : below.Index) (p : PagesView) (t : ℕ) → IsAlive p.store → (f : TableFault) → (let r : Result Reply TableFault = Err f in Cause tells index 0 t Commit p r) → f ≡ fault.Media
+pub commit_fails : (tells : Bool) (index : below.Index) (p : PagesView) (t : ℕ) → IsAlive p.store → (f : TableFault) → (let r : Result Reply TableFault = Err f in Cause tells index 0 t (Control Commit) p r) → f ≡ fault.Media
 commit_fails tells index p t alive fault.Media cause = refl
 commit_fails tells index p t alive fault.Dead cause = absurd (false≢true (sym alive ∙ cause))
 commit_fails tells index p t alive _ cause = absurd cause.1
 
-pub abort_fails : (tells : Bool) (index : below.Index) (p : PagesView) (t : ℕ) → IsAlive p.store → (f : TableFault) → (let r : Result Reply TableFault = Err f in Cause tells index 0 t Abort p r) → f ≡ fault.Media
+pub abort_fails : (tells : Bool) (index : below.Index) (p : PagesView) (t : ℕ) → IsAlive p.store → (f : TableFault) → (let r : Result Reply TableFault = Err f in Cause tells index 0 t (Control Abort) p r) → f ≡ fault.Media
 abort_fails tells index p t alive fault.Media cause = refl
 abort_fails tells index p t alive fault.Dead cause = absurd (false≢true (sym alive ∙ cause))
 abort_fails tells index p t alive _ cause = absurd cause.1
@@ -102,7 +103,7 @@ module _ (tells : Bool) (Opens : Shape → List ℕ → List ℕ → Type 0) (in
   at = ap (λ (o : Option Granted). unwrap_or o []) is
 
   -- a commit
-  module _ (done : Done) (done_is : done ≡ done_by s t calls) (result : Result Reply TableFault) (does : Does tells (Opens p.store.shape) index 0 t Commit p q result)
+  module _ (done : Done) (done_is : done ≡ done_by s t calls) (result : Result Reply TableFault) (does : Does tells (Opens p.store.shape) index 0 t (Control Commit) p q result)
       (live : new.live ≡ update nat_eq s.live t None) where
     module _ (told : IsTrue tells) where
       tied : IsTied index p s
@@ -140,7 +141,7 @@ module _ (tells : Bool) (Opens : Shape → List ℕ → List ℕ → Type 0) (in
           go image (inr o) = turned image (prefix_more (OpensWithTables (Opens q.store.shape) index new.names) image s.base s.history (done ∷ []) whole_more
               (subst (λ (table : Table). OpensWithTables (Opens q.store.shape) index new.names image table) seen_left (opened image (seen_by (state_of index p) t) o)))
 
-  module _ (done : Done) (done_is : done ≡ done_by s t calls) (k : ℕ) (does : Does tells (Opens p.store.shape) index 0 t Commit p q (Ok (Committed k)))
+  module _ (done : Done) (done_is : done ≡ done_by s t calls) (k : ℕ) (does : Does tells (Opens p.store.shape) index 0 t (Control Commit) p q (Ok (Committed k)))
       (live : new.live ≡ update nat_eq s.live t None) (history : new.history ≡ s.history ++ done ∷ []) (doubt : new.doubt ≡ s.doubt) where
     living : IsAlive q.store
     living = (does.faults refl).0 ∙ alive
@@ -164,8 +165,8 @@ module _ (tells : Bool) (Opens : Shape → List ℕ → List ℕ → Type 0) (in
         none = λ none. shows_new.indexed ∙ (λ i. index_with (names_in (does.tables told refl i)) (does.quiet told refl (writes_are ∙ none) i) (does.indexed told alive refl i)) ∙ sym shows.indexed;
       }
 
-      step : Acts (limits_of index p.store.shape) s t Commit (Committed (length s.history + 1)) new
-      step = step_of (limits_of index p.store.shape) (Some calls) s new t Commit (Committed (length s.history + 1)) living_state is un
+      step : Acts (limits_of index p.store.shape p.store.depth) s t (Control Commit) (Committed (length s.history + 1)) new
+      step = step_of (limits_of index p.store.shape p.store.depth) (Some calls) s new t (Control Commit) (Committed (length s.history + 1)) living_state is un
           (inr (inl (refl, new.index, settles, λ i. record { names = names i; base = base i; history = longer i; live = live i; offers = offers i; doubt = doubt i; is_dead = dead_same i; index = new.index })))
 
       tied_new : IsTied index q new
@@ -175,11 +176,11 @@ module _ (tells : Bool) (Opens : Shape → List ℕ → List ℕ → Type 0) (in
             index_sound = sound_after tells Opens index one p q old_laws new_laws told does.shape alive was.index_sound _ _ (does.time told alive) living;
             version = does.version told refl was.version;
             named = names ∙ was.named ∙ sym (ap names_in (does.tables told refl));
-            mirrors = subst (λ (b : TableState). Mirrors b new) (sym (does.done told)) (mirrors_at (state_of index p) s was.mirrors (after t Commit (Committed k) (state_of index p)) new t None live
+            mirrors = subst (λ (b : TableState). Mirrors b new) (sym (does.done told)) (mirrors_at (state_of index p) s was.mirrors (after t (Control Commit) (Committed k) (state_of index p)) new t None live
                 (seen_left done done_is (Ok (Committed k)) does live told ∙ (λ i. records (sym base i) (sym history i)))
-                (with_one_here (state_of index p).logs t (record { writes = []; saved = [] })) (apart (state_of index p) t Commit (Committed k)));
-            sound = acts_sound (limits_of index p.store.shape) s t Commit (Committed (length s.history + 1)) new was.sound step;
-            room = subst (λ (h : Shape). HasHeld (limits_of index h) new) (sym does.shape) (room_empty (limits_of index p.store.shape) s new t None refl was.room (ap (λ (x : Index). x.slot_of) keys_same) live);
+                (with_one_here (state_of index p).logs t (record { writes = []; saved = [] })) (apart (state_of index p) t (Control Commit) (Committed k)));
+            sound = acts_sound (limits_of index p.store.shape p.store.depth) s t (Control Commit) (Committed (length s.history + 1)) new was.sound step;
+            room = subst (λ (x : Shape × ℕ). HasHeld (limits_of index x.0 x.1) new) (λ i. (sym does.shape i, sym does.depth i)) (room_empty (limits_of index p.store.shape p.store.depth) s new t None refl was.room (ap (λ (x : Index). x.slot_of) keys_same) live);
           }
 
       safe_new : IsSafe (core_over Opens index q.store new) q.store.moment (length new.history)
@@ -198,9 +199,9 @@ module _ (tells : Bool) (Opens : Shape → List ℕ → List ℕ → Type 0) (in
       safe = safe_new;
     }
 
-    pub committed_steps : (n : ℕ) → n ≡ length s.history + 1 → Steps tells t Commit (core_over Opens index p.store s) (core_over Opens index q.store new) (Committed n)
-    committed_steps n n_is = subst (λ (k : ℕ). Steps tells t Commit (core_over Opens index p.store s) (core_over Opens index q.store new) (Committed k)) (sym n_is)
-        (steps_of tells Opens index p q s new t Commit (Committed (length s.history + 1)) does.shape (record {
+    pub committed_steps : (n : ℕ) → n ≡ length s.history + 1 → Steps tells t (Control Commit) (core_over Opens index p.store s) (core_over Opens index q.store new) (Committed n)
+    committed_steps n n_is = subst (λ (k : ℕ). Steps tells t (Control Commit) (core_over Opens index p.store s) (core_over Opens index q.store new) (Committed k)) (sym n_is)
+        (steps_of tells Opens index p q s new t (Control Commit) (Committed (length s.history + 1)) does.shape does.depth (record {
           names = names;
           base = base;
           history = longer ∙ ap (λ (cs : Granted). s.history ++ done_by s t cs ∷ []) (sym at);
@@ -213,11 +214,11 @@ module _ (tells : Bool) (Opens : Shape → List ℕ → List ℕ → Type 0) (in
             mine = ap (commits_of other) longer ∙ more_theirs other s.history (done_by s t calls) (λ e. ne (sym e));
           });
           refused = λ refusal _. absurd (false≢true refusal);
-        }) (call_cause (limits_of index p.store.shape) s t Commit living_state (takes_within s t calls un is) refl refl (Committed (length s.history + 1)) refl) (λ failed. absurd (false≢true failed)) (λ _. (does.faults refl).1) step
+        }) (plain_cause (limits_of index p.store.shape p.store.depth) s t (Control Commit) living_state (takes_within s t calls un is) refl (Committed (length s.history + 1)) refl) (λ failed. absurd (false≢true failed)) (λ _. (does.faults refl).1) step
         (λ told. time_commit done done_is (Ok (Committed k)) does live told (no_doubt told)) safe_new (inr (λ told _. shows_tied index q new shows_new.indexed (tied_new told))))
 
   -- the medium failed in the commit
-  module _ (done : Done) (done_is : done ≡ done_by s t calls) (does : Does tells (Opens p.store.shape) index 0 t Commit p q (Err fault.Media))
+  module _ (done : Done) (done_is : done ≡ done_by s t calls) (does : Does tells (Opens p.store.shape) index 0 t (Control Commit) p q (Err fault.Media))
       (live : new.live ≡ update nat_eq s.live t None) (history : new.history ≡ s.history) (doubt : new.doubt ≡ done ∷ [])
       (due : IsTrue tells → 0 < length ((state_of index p).logs t).writes) where
     wrote : IsTrue tells → 0 < length (log_of calls).writes
@@ -229,8 +230,8 @@ module _ (tells : Bool) (Opens : Shape → List ℕ → List ℕ → Type 0) (in
     doubtful : new.history ++ new.doubt ≡ s.history ++ done ∷ []
     doubtful = λ i. history i ++ doubt i
 
-    step_doubt : IsTrue tells → Acts (limits_of index p.store.shape) s t Commit reply.Media new
-    step_doubt told = step_of (limits_of index p.store.shape) (Some calls) s new t Commit reply.Media living_state is un (inr (inr (
+    step_doubt : IsTrue tells → Acts (limits_of index p.store.shape p.store.depth) s t (Control Commit) reply.Media new
+    step_doubt told = step_of (limits_of index p.store.shape p.store.depth) (Some calls) s new t (Control Commit) reply.Media living_state is un (inr (inr (
       wrote told,
       refl,
       new.index,
@@ -253,8 +254,8 @@ module _ (tells : Bool) (Opens : Shape → List ℕ → List ℕ → Type 0) (in
       safe = safe_doubt;
     }
 
-    pub doubted_steps : Steps tells t Commit (core_over Opens index p.store s) (core_over Opens index q.store new) reply.Media
-    doubted_steps = steps_of tells Opens index p q s new t Commit reply.Media does.shape (record {
+    pub doubted_steps : Steps tells t (Control Commit) (core_over Opens index p.store s) (core_over Opens index q.store new) reply.Media
+    doubted_steps = steps_of tells Opens index p q s new t (Control Commit) reply.Media does.shape does.depth (record {
       names = names;
       base = base;
       history = history;
@@ -267,11 +268,11 @@ module _ (tells : Bool) (Opens : Shape → List ℕ → List ℕ → Type 0) (in
         mine = ap (commits_of other) history;
       });
       refused = λ _ well. absurd (false≢true (sym well));
-    }) (call_cause (limits_of index p.store.shape) s t Commit living_state (takes_within s t calls un is) refl refl reply.Media tt) (λ _. (does.dies refl).1) (λ well. absurd (false≢true (sym well))) step_doubt time_doubt safe_doubt (inr (λ told living. absurd (false≢true (sym living ∙ died))))
+    }) (plain_cause (limits_of index p.store.shape p.store.depth) s t (Control Commit) living_state (takes_within s t calls un is) refl reply.Media tt) (λ _. (does.dies refl).1) (λ well. absurd (false≢true (sym well))) step_doubt time_doubt safe_doubt (inr (λ told living. absurd (false≢true (sym living ∙ died))))
 
   -- an abort
   module _ (history : new.history ≡ s.history) (doubt : new.doubt ≡ s.doubt) where
-    module _ (does : Does tells (Opens p.store.shape) index 0 t Abort p q (Ok Fine)) (live : new.live ≡ update nat_eq s.live t None) where
+    module _ (does : Does tells (Opens p.store.shape) index 0 t (Control Abort) p q (Ok Fine)) (live : new.live ≡ update nat_eq s.live t None) where
       lives : IsAlive q.store
       lives = (does.faults refl).0 ∙ alive
 
@@ -282,8 +283,8 @@ module _ (tells : Bool) (Opens : Shape → List ℕ → List ℕ → Type 0) (in
         index_alike : new.index ≡ s.index
         index_alike = shows_new.indexed ∙ (λ i. index_with (names_in (does.tables told refl i)) (does.quiet told refl tt i) (does.indexed told alive refl i)) ∙ sym shows.indexed
 
-        step_abort : Acts (limits_of index p.store.shape) s t Abort Fine new
-        step_abort = step_of (limits_of index p.store.shape) (Some calls) s new t Abort Fine living_state is un
+        step_abort : Acts (limits_of index p.store.shape p.store.depth) s t (Control Abort) Fine new
+        step_abort = step_of (limits_of index p.store.shape p.store.depth) (Some calls) s new t (Control Abort) Fine living_state is un
             (refl, λ i. record { names = names i; base = base i; history = history i; live = live i; offers = offers i; doubt = doubt i; is_dead = dead_alike i; index = index_alike i })
 
         tied_abort : IsTied index q new
@@ -293,11 +294,11 @@ module _ (tells : Bool) (Opens : Shape → List ℕ → List ℕ → Type 0) (in
               index_sound = sound_after tells Opens index one p q old_laws new_laws told does.shape alive was.index_sound _ _ (does.time told alive) lives;
               version = does.version told refl was.version;
               named = names ∙ was.named ∙ sym (ap names_in (does.tables told refl));
-              mirrors = subst (λ (b : TableState). Mirrors b new) (sym (does.done told)) (mirrors_at (state_of index p) s was.mirrors (after t Abort Fine (state_of index p)) new t None live
+              mirrors = subst (λ (b : TableState). Mirrors b new) (sym (does.done told)) (mirrors_at (state_of index p) s was.mirrors (after t (Control Abort) Fine (state_of index p)) new t None live
                   (was.mirrors.table ∙ (λ i. records (sym base i) (sym history i)))
-                  (with_one_here (state_of index p).logs t (record { writes = []; saved = [] })) (apart (state_of index p) t Abort Fine));
-              sound = acts_sound (limits_of index p.store.shape) s t Abort Fine new was.sound step_abort;
-              room = subst (λ (h : Shape). HasHeld (limits_of index h) new) (sym does.shape) (room_empty (limits_of index p.store.shape) s new t None refl was.room (ap (λ (x : Index). x.slot_of) index_alike) live);
+                  (with_one_here (state_of index p).logs t (record { writes = []; saved = [] })) (apart (state_of index p) t (Control Abort) Fine));
+              sound = acts_sound (limits_of index p.store.shape p.store.depth) s t (Control Abort) Fine new was.sound step_abort;
+              room = subst (λ (x : Shape × ℕ). HasHeld (limits_of index x.0 x.1) new) (λ i. (sym does.shape i, sym does.depth i)) (room_empty (limits_of index p.store.shape p.store.depth) s new t None refl was.room (ap (λ (x : Index). x.slot_of) index_alike) live);
             }
 
         safe_abort : IsSafe (core_over Opens index q.store new) q.store.moment (length new.history)
@@ -317,8 +318,8 @@ module _ (tells : Bool) (Opens : Shape → List ℕ → List ℕ → Type 0) (in
         safe = safe_abort;
       }
 
-      pub aborted_steps : Steps tells t Abort (core_over Opens index p.store s) (core_over Opens index q.store new) Fine
-      aborted_steps = steps_of tells Opens index p q s new t Abort Fine does.shape (record {
+      pub aborted_steps : Steps tells t (Control Abort) (core_over Opens index p.store s) (core_over Opens index q.store new) Fine
+      aborted_steps = steps_of tells Opens index p q s new t (Control Abort) Fine does.shape does.depth (record {
         names = names;
         base = base;
         history = history;
@@ -331,10 +332,10 @@ module _ (tells : Bool) (Opens : Shape → List ℕ → List ℕ → Type 0) (in
           mine = ap (commits_of other) history;
         });
         refused = λ refusal _. absurd (false≢true refusal);
-      }) (call_cause (limits_of index p.store.shape) s t Abort living_state (takes_within s t calls un is) refl refl Fine refl) (λ failed. absurd (false≢true failed)) (λ _. (does.faults refl).1) step_abort time_abort safe_abort (inr (λ told _. shows_tied index q new shows_new.indexed (tied_abort told)))
+      }) (plain_cause (limits_of index p.store.shape p.store.depth) s t (Control Abort) living_state (takes_within s t calls un is) refl Fine refl) (λ failed. absurd (false≢true failed)) (λ _. (does.faults refl).1) step_abort time_abort safe_abort (inr (λ told _. shows_tied index q new shows_new.indexed (tied_abort told)))
 
 -- a commit for which the history has no memory
 pub unkept : (tells : Bool) (Opens : Shape → List ℕ → List ℕ → Type 0) (index : below.Index) (p : PagesView) (s new : State) (shows : ShowsPages index p s) (count : ℕ) (rows : List NamedRows)
-    → IsKept tells Opens index p count rows s → IsAlive p.store → (t : ℕ) (calls : Granted) → s.live t ≡ Some calls → s.offers t ≡ unoffered → new ≡ s → Steps tells t Commit (core_over Opens index p.store s) (core_over Opens index p.store new) NoMemory
-unkept tells Opens index p s new shows count rows kept alive t calls is un same = steps_same tells Opens index p s new t Commit NoMemory same kept.safe refl refl refl (call_cause (limits_of index p.store.shape) s t Commit (shows.dead ∙ alive) (takes_within s t calls un is) refl refl NoMemory tt) (λ told.
-    step_of (limits_of index p.store.shape) (Some calls) s s t Commit NoMemory (shows.dead ∙ alive) is un (inl (refl, refl)))
+    → IsKept tells Opens index p count rows s → IsAlive p.store → (t : ℕ) (calls : Granted) → s.live t ≡ Some calls → s.offers t ≡ unoffered → new ≡ s → Steps tells t (Control Commit) (core_over Opens index p.store s) (core_over Opens index p.store new) NoMemory
+unkept tells Opens index p s new shows count rows kept alive t calls is un same = steps_same tells Opens index p s new t (Control Commit) NoMemory same kept.safe refl refl refl (plain_cause (limits_of index p.store.shape p.store.depth) s t (Control Commit) (shows.dead ∙ alive) (takes_within s t calls un is) refl NoMemory tt) (λ told.
+    step_of (limits_of index p.store.shape p.store.depth) (Some calls) s s t (Control Commit) NoMemory (shows.dead ∙ alive) is un (inl (refl, refl)))

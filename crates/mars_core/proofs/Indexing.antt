@@ -7,8 +7,9 @@ use Rattle.array_shape.specs.Places.{data_len}
 use Rattle.page_store.specs.Index as below
 use Rattle.history.specs.Key.{of_table}
 use Rattle.history.specs.declared.key.Key.{Key}
-use Rattle.history.specs.declared.call.Call.{Call}
-use Rattle.history.specs.declared.call.Call.TheVariants.{Begin, Get, Put, Del, Scan, Save, Back, Commit, Abort, Offer, Settle, Purge}
+use Rattle.history.specs.declared.call.Call.TheVariants.{Table as OnTable}
+use Rattle.history.specs.declared.call.TableCall.{TableCall}
+use Rattle.history.specs.declared.call.TableCall.TheVariants.{Get, Put, Del, Scan, Save, Back}
 use Rattle.history.specs.declared.call.Reply.{Reply}
 use Rattle.history.specs.declared.call.Reply.TheVariants.{Fine}
 use Rattle.history.specs.declared.call.Reply.TheVariants as reply
@@ -25,7 +26,6 @@ use Rattle.record_slots.specs.Names.{number_of}
 use Rattle.mars_core.specs.TableCall.{number_for}
 use Rattle.mars_core.specs.Over.{limits_of, level_of, index_with}
 use Rattle.record_table.specs.Faults.{reply_to}
-use Rattle.mars_core.proofs.Mirroring.{IsOfTable}
 
 -- no more slots are in use, and no more pages given out, than an array of this shape has
 pub record IsWithin (shape : Shape) (keys : Keys) : Type 0 where
@@ -37,14 +37,14 @@ pub is_within : (shape : Shape) (bytes : List ℕ) (keys : Keys) → length byte
 is_within shape bytes keys long counts s p = record { slots = omega (arith, counts.slots, long, s); pages = omega (arith, counts.pages, long, p) }
 
 -- the call inserts no key
-abbrev pub InsertsNone : Keys → Call → Type 0
+abbrev pub InsertsNone : Keys → TableCall → Type 0
 InsertsNone keys (Put name key value) = IsSome (keys.slot_of (of_table name key))
 InsertsNone keys call = Unit {0}
 
 some_none : {X : Type 0} (slot : ℕ) → Some slot ≡ None → X
 some_none slot e = absurd (cc)
 
-module _ (index : below.Index) (shape : Shape) (table : ℕ) (names : List (List ℕ)) (a b : List ℕ) (old new : Keys) (within : IsWithin shape new)
+module _ (index : below.Index) (shape : Shape) (depth table : ℕ) (names : List (List ℕ)) (a b : List ℕ) (old new : Keys) (within : IsWithin shape new)
     (once : (one other : Key) (slot : ℕ) → new.slot_of one ≡ Some slot → new.slot_of other ≡ Some slot → one ≡ other) where
   both : new ≡ old → b ≡ a → index_with names b new ≡ index_with names a old
   both keys bytes = λ i. index_with names (bytes i) (keys i)
@@ -53,7 +53,7 @@ module _ (index : below.Index) (shape : Shape) (table : ℕ) (names : List (List
   level_rises None rises = omega arith
   level_rises (Some j) rises = rises j
 
-  takes : TakesPages old new → TakesWithin (limits_of index shape) (index_with names a old) (index_with names b new)
+  takes : TakesPages old new → TakesWithin (limits_of index shape depth) (index_with names a old) (index_with names b new)
   takes t = record {
     most = within.pages;
     takes = record { later = t.later; few = t.few; used = t.used; levels = λ name. level_rises (number_of names name) t.levels };
@@ -72,7 +72,7 @@ module _ (index : below.Index) (shape : Shape) (table : ℕ) (names : List (List
   ]
 
   gains : (key : Key) → old.slot_of key ≡ None → GainsKey key old new
-      → GainsWithin (limits_of index shape) key (index_with names a old) (index_with names b new)
+      → GainsWithin (limits_of index shape depth) key (index_with names a old) (index_with names b new)
   gains key none g = record {
     left = omega (arith, g.slots, within.slots);
     free = was_free key none g;
@@ -80,7 +80,7 @@ module _ (index : below.Index) (shape : Shape) (table : ℕ) (names : List (List
   }
 
   refused_at : (T : Type 0) (key : Key) (asked : number_of names key.table ≡ Some table) (o : Option ℕ) → old.slot_of key ≡ o → (IsSome o → b ≡ a) → (f : TableFault) → (let r : Result T TableFault = Err f in IsFalse (is_failed r))
-      → (let r : Result T TableFault = Err f in IndexedAt table key o old new r) → IndexesAt (limits_of index shape) key o (reply_to f) (index_with names a old) (index_with names b new)
+      → (let r : Result T TableFault = Err f in IndexedAt table key o old new r) → IndexesAt (limits_of index shape depth) key o (reply_to f) (index_with names a old) (index_with names b new)
   refused_at T key asked (Some slot) is quiet f well same = both same (quiet refl)
   refused_at T key asked None is quiet (LogFull g h n) well (t, inl k) = (takes t, inl (keeps k))
   refused_at T key asked None is quiet (LogFull g h n) well (t, inr k) = (takes t, inr (gains key is k))
@@ -94,42 +94,30 @@ module _ (index : below.Index) (shape : Shape) (table : ℕ) (names : List (List
   refused_at T key asked None is quiet NoMemory well (t, k) = (takes t, keeps k)
 
   granted_at : {T : Type 0} (key : Key) (o : Option ℕ) → old.slot_of key ≡ o → (IsSome o → b ≡ a) → (answer : T)
-      → (let r : Result T TableFault = Ok answer in IndexedAt table key o old new r) → IndexesAt (limits_of index shape) key o Fine (index_with names a old) (index_with names b new)
+      → (let r : Result T TableFault = Ok answer in IndexedAt table key o old new r) → IndexesAt (limits_of index shape depth) key o Fine (index_with names a old) (index_with names b new)
   granted_at key (Some slot) is quiet answer same = both same (quiet refl)
   granted_at key None is quiet answer (t, k) = (takes t, gains key is k)
 
   -- a refusal
-  pub indexes_refused : (T : Type 0) (call : Call) (f : TableFault) → IsOfTable call → number_for names call ≡ Some table → (InsertsNone old call → b ≡ a) → (let r : Result T TableFault = Err f in IsFalse (is_failed r))
-      → (let r : Result T TableFault = Err f in Indexed table call old new r) → Indexes (limits_of index shape) call (reply_to f) (index_with names a old) (index_with names b new)
-  indexes_refused T (Put name key value) f of asked quiet well indexed = refused_at T (of_table name key) asked (old.slot_of (of_table name key)) refl quiet f well indexed
-  indexes_refused T (Get name key) f of asked quiet well same = both same (quiet tt)
-  indexes_refused T (Del name key) f of asked quiet well same = both same (quiet tt)
-  indexes_refused T (Scan name low high) f of asked quiet well same = both same (quiet tt)
-  indexes_refused T Save f of asked quiet well same = both same (quiet tt)
-  indexes_refused T (Back n) f of asked quiet well same = both same (quiet tt)
-  indexes_refused T Commit f of asked quiet well same = absurd of
-  indexes_refused T Abort f of asked quiet well same = absurd of
-  indexes_refused T Offer f of asked quiet well same = absurd of
-  indexes_refused T Settle f of asked quiet well same = absurd of
-  indexes_refused T Purge f of asked quiet well same = absurd of
-  indexes_refused T Begin f of asked quiet well same = absurd of
+  pub indexes_refused : (T : Type 0) (call : TableCall) (f : TableFault) → number_for names call ≡ Some table → (InsertsNone old call → b ≡ a) → (let r : Result T TableFault = Err f in IsFalse (is_failed r))
+      → (let r : Result T TableFault = Err f in Indexed table (OnTable call) old new r) → Indexes (limits_of index shape depth) call (reply_to f) (index_with names a old) (index_with names b new)
+  indexes_refused T (Put name key value) f asked quiet well indexed = refused_at T (of_table name key) asked (old.slot_of (of_table name key)) refl quiet f well indexed
+  indexes_refused T (Get name key) f asked quiet well same = both same (quiet tt)
+  indexes_refused T (Del name key) f asked quiet well same = both same (quiet tt)
+  indexes_refused T (Scan name low high) f asked quiet well same = both same (quiet tt)
+  indexes_refused T Save f asked quiet well same = both same (quiet tt)
+  indexes_refused T (Back n) f asked quiet well same = both same (quiet tt)
 
   -- a granted call
-  pub indexes_granted : {T : Type 0} (call : Call) (answer : T) (told : Reply) → IsOfTable call → (InsertsNone old call → b ≡ a) → ((name : List ℕ) (key : ℕ) (value : List ℕ) → call ≡ Put name key value → told ≡ Fine)
-      → (let r : Result T TableFault = Ok answer in Indexed table call old new r) → Indexes (limits_of index shape) call told (index_with names a old) (index_with names b new)
-  indexes_granted (Put name key value) answer told of quiet fine indexed =
-      subst (λ (r : Reply). IndexesAt (limits_of index shape) (of_table name key) (old.slot_of (of_table name key)) r (index_with names a old) (index_with names b new)) (sym (fine name key value refl)) (granted_at (of_table name key) (old.slot_of (of_table name key)) refl quiet answer indexed)
-  indexes_granted (Get name key) answer told of quiet fine same = both same (quiet tt)
-  indexes_granted (Del name key) answer told of quiet fine same = both same (quiet tt)
-  indexes_granted (Scan name low high) answer told of quiet fine same = both same (quiet tt)
-  indexes_granted Save answer told of quiet fine same = both same (quiet tt)
-  indexes_granted (Back n) answer told of quiet fine same = both same (quiet tt)
-  indexes_granted Commit answer told of quiet fine same = absurd of
-  indexes_granted Abort answer told of quiet fine same = absurd of
-  indexes_granted Offer answer told of quiet fine same = absurd of
-  indexes_granted Settle answer told of quiet fine same = absurd of
-  indexes_granted Purge answer told of quiet fine same = absurd of
-  indexes_granted Begin answer told of quiet fine same = absurd of
+  pub indexes_granted : {T : Type 0} (call : TableCall) (answer : T) (told : Reply) → (InsertsNone old call → b ≡ a) → ((name : List ℕ) (key : ℕ) (value : List ℕ) → call ≡ Put name key value → told ≡ Fine)
+      → (let r : Result T TableFault = Ok answer in Indexed table (OnTable call) old new r) → Indexes (limits_of index shape depth) call told (index_with names a old) (index_with names b new)
+  indexes_granted (Put name key value) answer told quiet fine indexed =
+      subst (λ (r : Reply). IndexesAt (limits_of index shape depth) (of_table name key) (old.slot_of (of_table name key)) r (index_with names a old) (index_with names b new)) (sym (fine name key value refl)) (granted_at (of_table name key) (old.slot_of (of_table name key)) refl quiet answer indexed)
+  indexes_granted (Get name key) answer told quiet fine same = both same (quiet tt)
+  indexes_granted (Del name key) answer told quiet fine same = both same (quiet tt)
+  indexes_granted (Scan name low high) answer told quiet fine same = both same (quiet tt)
+  indexes_granted Save answer told quiet fine same = both same (quiet tt)
+  indexes_granted (Back n) answer told quiet fine same = both same (quiet tt)
 
 -- the keys stay, or the index gains one that it lacked
 abbrev pub Slots : Limits → Index → Index → Type 0
@@ -162,7 +150,7 @@ at_slots : (limits : Limits) (key : Key) (o : Option ℕ) (answer : Reply) (old 
 at_slots limits key None answer old new is inserts = inserts_slots limits key answer old new is inserts
 at_slots limits key (Some slot) answer old new is same = inl (ap (λ (x : Index). x.slot_of) same)
 
-pub indexes_slots : (limits : Limits) (call : Call) (answer : Reply) (old new : Index) → Indexes limits call answer old new → Slots limits old new
+pub indexes_slots : (limits : Limits) (call : TableCall) (answer : Reply) (old new : Index) → Indexes limits call answer old new → Slots limits old new
 indexes_slots limits (Put name key value) answer old new indexes = at_slots limits (of_table name key) (old.slot_of (of_table name key)) answer old new refl indexes
 indexes_slots limits _ answer old new same = inl (ap (λ (x : Index). x.slot_of) same)
 

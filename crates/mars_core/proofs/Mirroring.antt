@@ -7,16 +7,15 @@ use Rattle.page_store.specs.State.{with_one}
 use Rattle.history.specs.Table.{Granted, Work, has_save, Answers, IsRight}
 use Rattle.history.specs.Log.{Log, log_after, log_of}
 use Rattle.history.specs.declared.call.Call.{Call}
-use Rattle.history.specs.declared.call.Call.TheVariants.{Begin, Get, Put, Del, Scan, Save, Back, Commit, Abort, Offer, Settle, Purge}
+use Rattle.history.specs.declared.call.Call.TheVariants.{Table as OnTable}
+use Rattle.history.specs.declared.call.TableCall.{TableCall}
+use Rattle.history.specs.declared.call.TableCall.TheVariants.{Scan}
 use Rattle.history.specs.declared.call.Reply.{Reply}
 use Rattle.history.proofs.OneMore.{log_of-push}
 use Rattle.history.proofs.Pending.{left_is_written, saves_are_written, as_many_saves, has_same_saves}
 use Rattle.record_table.specs.State.{TableState, seen_by, work_of}
 use Rattle.record_table.specs.Calls.{Replies, table_after, own_after, after}
 use Rattle.caller_steps.specs.State.{State, calls_of, records_of, view_of}
-use Rattle.mars_core.specs.declared.table_call.TableCall.{TableCall}
-use Rattle.mars_core.specs.declared.table_call.TableCall.TheVariants as table_call
-use Rattle.mars_core.specs.TableCall.{call_of}
 use Rattle.mars_core.specs.Kept.{Mirrors}
 
 pub with_one_here : {A : Type 0} (f : ℕ → A) (t : ℕ) (x : A) → with_one f t x t ≡ x
@@ -40,55 +39,8 @@ pub apart : (s : TableState) (t : ℕ) (call : Call) (answer : Reply) (u : ℕ) 
 apart s t call answer u ne = with_one_apart s.logs t (own_after (s.logs t) call answer) u ne
 
 -- a scan changes nothing
-pub scan_after : (s : TableState) (t : ℕ) (name : List ℕ) (low high : ℕ) (answer : Reply) → after t (Scan name low high) answer s ≡ s
+pub scan_after : (s : TableState) (t : ℕ) (name : List ℕ) (low high : ℕ) (answer : Reply) → after t (OnTable (Scan name low high)) answer s ≡ s
 scan_after s t name low high answer = ap (λ (logs : ℕ → Log). (let is : TableState = record { table = s.table; logs = logs } in is)) (with_same s.logs t)
-
--- a call of a table, which is neither a begin nor the end of a transaction
-abbrev pub IsOfTable : Call → Type 0
-IsOfTable Begin = ⊥
-IsOfTable Commit = ⊥
-IsOfTable Abort = ⊥
-IsOfTable Offer = ⊥
-IsOfTable Settle = ⊥
-IsOfTable Purge = ⊥
-IsOfTable _ = Unit {0}
-
-of_table : (call : TableCall) → IsOfTable (call_of call)
-of_table (table_call.Get name key) = tt
-of_table _ = tt
-
-pub is_of_table : (asked : TableCall) (call : Call) → call_of asked ≡ call → IsOfTable call
-is_of_table asked call said = subst IsOfTable said (of_table asked)
-
--- it does not change the table
-pub same_table : (s : TableState) (t : ℕ) (call : Call) → IsOfTable call → table_after t call s ≡ s.table
-same_table s t Commit of = absurd of
-same_table s t Abort of = absurd of
-same_table s t Offer of = absurd of
-same_table s t Settle of = absurd of
-same_table s t Purge of = absurd of
-same_table s t Begin of = absurd of
-same_table s t _ of = refl
-
--- its number's log is then that of the history
-own_is : (l : Log) (call : Call) (answer : Reply) → IsOfTable call → own_after l call answer ≡ log_after l call answer
-own_is l Commit answer of = absurd of
-own_is l Abort answer of = absurd of
-own_is l Offer answer of = absurd of
-own_is l Settle answer of = absurd of
-own_is l Purge answer of = absurd of
-own_is l Begin answer of = absurd of
-own_is l _ answer of = refl
-
--- and the reply is the table's
-replies_is : (s : TableState) (t : ℕ) (call : Call) (answer : Reply) → IsOfTable call → Replies s t call answer → Answers (work_of s t) call answer
-replies_is s t Commit answer of replies = absurd of
-replies_is s t Abort answer of replies = absurd of
-replies_is s t Offer answer of replies = absurd of
-replies_is s t Settle answer of replies = absurd of
-replies_is s t Purge answer of replies = absurd of
-replies_is s t Begin answer of replies = absurd of
-replies_is s t _ answer of replies = replies
 
 pub has_save_is : {A : Type 0} (saved : List A) (n : ℕ) → 0 < n → n ≤ length saved → has_save saved n ≡ true
 has_save_is saved n some there = (λ i. lt-ltb 0 n some i && nat_le n (length saved)) ∙ le-leb n (length saved) there
@@ -113,14 +65,14 @@ module _ (below : TableState) (old : State) (mirrors : Mirrors below old) where
   }
 
   -- after a granted call
-  pub mirrors_granted : (new : State) (t : ℕ) (calls : Granted) (call : Call) (answer : Reply) → old.live t ≡ Some calls → new.live ≡ update nat_eq old.live t (Some (calls ++ (call, answer) ∷ []))
-      → records_of new ≡ records_of old → IsOfTable call → Mirrors (after t call answer below) new
-  mirrors_granted new t calls call answer is live same of =
+  pub mirrors_granted : (new : State) (t : ℕ) (calls : Granted) (call : TableCall) (answer : Reply) → old.live t ≡ Some calls → new.live ≡ update nat_eq old.live t (Some (calls ++ (call, answer) ∷ []))
+      → records_of new ≡ records_of old → Mirrors (after t (OnTable call) answer below) new
+  mirrors_granted new t calls call answer is live same =
       let at : calls_of old t ≡ calls = ap (λ (o : Option Granted). unwrap_or o []) is in
-      mirrors_at (after t call answer below) new t (Some (calls ++ (call, answer) ∷ [])) live (same_table below t call of ∙ mirrors.table ∙ sym same)
-      (with_one_here below.logs t (own_after (below.logs t) call answer) ∙ own_is (below.logs t) call answer of ∙ ap (λ (l : Log). log_after l call answer) (mirrors.logs t ∙ ap log_of at)
+      mirrors_at (after t (OnTable call) answer below) new t (Some (calls ++ (call, answer) ∷ [])) live (mirrors.table ∙ sym same)
+      (with_one_here below.logs t (log_after (below.logs t) call answer) ∙ ap (λ (l : Log). log_after l call answer) (mirrors.logs t ∙ ap log_of at)
       ∙ sym (log_of-push calls call answer))
-      (apart below t call answer)
+      (apart below t (OnTable call) answer)
 
   module _ (t : ℕ) (right : IsRight (records_of old) (calls_of old t)) where
     -- a number sees what its caller sees, with the same saves
@@ -138,5 +90,5 @@ module _ (below : TableState) (old : State) (mirrors : Mirrors below old) where
     has_saves n = has_same_saves (records_of old) (calls_of old t) n right ∙ ap (λ (l : Log). has_save l.saved n) (sym (mirrors.logs t))
 
     -- so the reply for what it sees is that of the one-thread table
-    pub answers : (call : Call) (answer : Reply) → IsOfTable call → Replies below t call answer → Answers (view_of old t) call answer
-    answers call answer of replies = subst (λ (work : Work). Answers work call answer) work_is (replies_is below t call answer of replies)
+    pub answers : (call : TableCall) (answer : Reply) → Replies below t (OnTable call) answer → Answers (view_of old t) call answer
+    answers call answer replies = subst (λ (work : Work). Answers work call answer) work_is replies

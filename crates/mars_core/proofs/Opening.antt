@@ -82,7 +82,7 @@ module _ (tells : Bool) (Opens : Shape → List ℕ → List ℕ → Type 0) (in
       named = named told ∙ sym names_new;
       mirrors = mirrors;
       sound = subst IsSound (sym opened_is) (opened_sound (names_of p.store.state.bytes) (shown.table_of index p.store.state.bytes) (index_of index (upgraded p.store.state.bytes)));
-      room = subst (HasHeld (limits_of index r.store.shape)) (sym opened_is) (λ caller g. omega arith);
+      room = subst (HasHeld (limits_of index r.store.shape r.store.depth)) (sym opened_is) (λ caller g. omega arith);
     }
 
   pub opened_keeps : IsKept tells Opens index r (length seats.places) rows (state_at index r.store seats.names (table_of rows) history (live_in seats) (offers_in seats) doubt)
@@ -116,6 +116,7 @@ module _ (tells : Bool) (Opens : Shape → List ℕ → List ℕ → Type 0) (in
     alive = lives;
     faults = (upgrades.faults refl).1;
     shape = upgrades.shape;
+    depth = upgrades.depth;
     mirrors = upgrades.mirrors;
     state = opened_is;
     fresh = (empty, none, sure, unoffered_all);

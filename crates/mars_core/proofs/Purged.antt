@@ -29,7 +29,8 @@ use Rattle.history.specs.Rows.{NamedRows}
 use Rattle.history.specs.Writes.{Table, Write, is_of}
 use Rattle.history.specs.declared.transaction.Done.{Done}
 use Rattle.history.specs.declared.call.Call.{Call}
-use Rattle.history.specs.declared.call.Call.TheVariants.{Purge}
+use Rattle.history.specs.declared.call.Call.TheVariants as call
+use Rattle.history.specs.declared.call.Control.TheVariants.{Purge}
 use Rattle.history.specs.declared.call.Reply.{Reply}
 use Rattle.history.specs.declared.call.Reply.TheVariants as reply
 use Rattle.record_table.specs.Does.{is_failed}
@@ -40,7 +41,7 @@ use Rattle.record_table.specs.declared.fault.TableFault.{TableFault}
 use Rattle.record_table.specs.declared.fault.TableFault.TheVariants.{SlotsFull, PagesFull, SavesFull, LogFull, Media, Dead, Damaged, NoMemory}
 use Rattle.caller_steps.specs.Core.{IsSafe, Steps}
 use Rattle.caller_steps.specs.Cause as cause
-use Rattle.caller_steps.proofs.Causing.{call_cause}
+use Rattle.caller_steps.proofs.Causing.{plain_cause}
 use Rattle.mars_core.proofs.Saving.{saves_same}
 use Rattle.caller_steps.specs.Prefix.{HasPrefixOf}
 use Rattle.caller_steps.specs.Purging as face
@@ -58,9 +59,6 @@ use Rattle.mars_core.specs.Held.{core_over, state_at}
 use Rattle.mars_core.specs.Kept.{IsTied, IsKept}
 use Rattle.mars_core.specs.Over.{limits_of, index_of, keeps_at, keeps_in, OpensWithTables}
 use Rattle.mars_core.specs.Purging.{IsOfFirst, IsTouchedIn, Keeps, AreFreeIn, Tried, Trail, IsReady, ClearCause, Clears}
-use Rattle.mars_core.specs.TableCall.{call_of}
-use Rattle.mars_core.specs.declared.table_call.TableCall.{TableCall}
-use Rattle.mars_core.specs.declared.table_call.TableCall.TheVariants as asks
 use Rattle.mars_core.specs.Seats.{Seats, live_in, offers_in, calls_at}
 use Rattle.mars_core.proofs.Answered.{fault_plain}
 use Rattle.record_table.proofs.Sharing.{Laws}
@@ -96,20 +94,9 @@ module _ (index : below.Index) (d : List ℕ) (key : Key) where
   unfolding pairs_of
   named_key some = named_in (tables_of d) some
 
--- a call of the records is no purge
-pub no_purge : (call : Call) → is_purge call ≡ false → call ≡ Purge → ⊥
-no_purge call plain is = true≢false (sym (ap is_purge is) ∙ plain)
-
-pub table_no_purge : (asked : TableCall) → call_of asked ≡ Purge → ⊥
-table_no_purge asked is = no_purge (call_of asked) (plain asked) is
-  where
-    plain : (asked : TableCall) → is_purge (call_of asked) ≡ false
-    plain (asks.Get name key) = refl
-    plain (asks.Put name key value) = refl
-    plain (asks.Del name key) = refl
-    plain (asks.Scan name low high) = refl
-    plain asks.Save = refl
-    plain (asks.Back n) = refl
+-- a call that is none is no purge
+pub no_purge : (asked : Call) → is_purge asked ≡ false → asked ≡ call.Control Purge → ⊥
+no_purge asked plain is = true≢false (sym (ap is_purge is) ∙ plain)
 
 -- a name at a number is that of the table there
 entry_at : (entries : List TableEntry) (j : ℕ) (name : List ℕ) → slice_get (names_in entries) j ≡ Some name → (entry : TableEntry) × (slice_get entries j ≡ Some entry) × (entry.name ≡ name)
@@ -207,9 +194,9 @@ module _ (tells : Bool) (Opens : Shape → List ℕ → List ℕ → Type 0) (in
             named = sym (clears.ready told).named;
             mirrors = record { table = ap (λ (x : TableState). x.table) state ∙ was.mirrors.table; logs = λ u. ap (λ (x : TableState). x.logs u) state ∙ was.mirrors.logs u };
             sound = record { legal = was.sound.legal; certain = λ _. was.sound.certain alive; doubtful = was.sound.doubtful; groups = was.sound.groups; doubtful_groups = was.sound.doubtful_groups; right = was.sound.right; offers = was.sound.offers; apart = was.sound.apart };
-            room = λ u g. subst (λ (l : Limits). held_on l (state_at index q.store seats.names base history (live_in seats) (offers_in seats) doubt) u g ≤ l.entries) (ap (limits_of index) (sym clears.shape))
+            room = λ u g. subst (λ (l : Limits). held_on l (state_at index q.store seats.names base history (live_in seats) (offers_in seats) doubt) u g ≤ l.entries) (λ i. limits_of index (sym clears.shape i) (sym clears.depth i))
                 (subst (λ (k : ℕ). k ≤ p.store.shape.entries)
-                (sym (ap length (all_lost (limits_of index p.store.shape) g index seats p.store.state.bytes u (index_of index p.store.state.bytes) (index_of index q.store.state.bytes) cleared.keys cleared.lost cleared.free))) (was.room u g));
+                (sym (ap length (all_lost (limits_of index p.store.shape p.store.depth) g index seats p.store.state.bytes u (index_of index p.store.state.bytes) (index_of index q.store.state.bytes) cleared.keys cleared.lost cleared.free))) (was.room u g));
           }
 
       -- Where the store tells its data, nothing but a fault of the medium refuses a purge.
@@ -253,7 +240,7 @@ module _ (tells : Bool) (Opens : Shape → List ℕ → List ℕ → Type 0) (in
 
     -- and what came of each that was tried
     comes_so : (key : Key) (lost : Bool) (a b : List ℕ) (table : ℕ) → index.sound a → IsCalled a table key.table → names_of b ≡ names_of a → Tried index seats table key a b lost
-        → Becomes (limits_of index p.store.shape) (state_at index p.store seats.names base history (live_in seats) (offers_in seats) doubt) key lost (index_of index a) (index_of index b)
+        → Becomes (limits_of index p.store.shape p.store.depth) (state_at index p.store seats.names base history (live_in seats) (offers_in seats) doubt) key lost (index_of index a) (index_of index b)
     comes_so key true a b table sound called named comes = (comes.0, keeps_not index index_laws a sound key table called comes.1, loses_one index a b table key called named comes.2)
     comes_so key false a b table sound called named comes = (touched_or comes.1, ap (index_of index) comes.0)
       where
@@ -262,7 +249,7 @@ module _ (tells : Bool) (Opens : Shape → List ℕ → List ℕ → Type 0) (in
         touched_or (inr keeps) = inr (keeps_told index index_laws a sound key keeps)
 
     tries_so : (first now : List ℕ) (tries : List Try) → Trail index seats first tries now
-        → face.Tries (limits_of index p.store.shape) (state_at index p.store seats.names base history (live_in seats) (offers_in seats) doubt) (index_of index first) tries (index_of index now)
+        → face.Tries (limits_of index p.store.shape p.store.depth) (state_at index p.store seats.names base history (live_in seats) (offers_in seats) doubt) (index_of index first) tries (index_of index now)
     tries_so first now [] trail = ap (index_of index) trail
     tries_so first now (one ∷ tries) (before, trail, tried) =
         (index_of index before, tries_so first before tries trail, comes_so one.0 one.1 before now tried.table tried.sound tried.called tried.named tried.comes)
@@ -292,18 +279,18 @@ module _ (tells : Bool) (Opens : Shape → List ℕ → List ℕ → Type 0) (in
     dying : (let r : Result ℕ TableFault = Err Media in Clears tells (Opens p.store.shape) index seats t (IsOfFirst seats.names (length seats.names)) p q r) → new ≡ record s { index = index_of index q.store.state.bytes; is_dead = true }
     dying clears = λ i. record new { is_dead = (clears.dies refl).0 i }
 
-    moves_of : (r : Result ℕ TableFault) → Clears tells (Opens p.store.shape) index seats t (IsOfFirst seats.names (length seats.names)) p q r → Moves p.store.shape.numbers s t Purge (outcome r) new
-    moves_of (Ok n) clears = fate_moves p.store.shape.numbers s t Purge (reply.Purged n) new (fates.purged n un none refl refl (index_of index q.store.state.bytes) (still (Ok n) refl clears))
-    moves_of (Err Media) clears = fate_moves p.store.shape.numbers s t Purge reply.Media new (fates.failed refl refl (index_of index q.store.state.bytes) (dying clears))
-    moves_of (Err (Damaged page)) clears = fate_moves p.store.shape.numbers s t Purge (reply.Damaged page) new (fates.refused refl refl (index_of index q.store.state.bytes) (still (Err (Damaged page)) refl clears))
+    moves_of : (r : Result ℕ TableFault) → Clears tells (Opens p.store.shape) index seats t (IsOfFirst seats.names (length seats.names)) p q r → Moves p.store.shape.numbers s t (call.Control Purge) (outcome r) new
+    moves_of (Ok n) clears = fate_moves p.store.shape.numbers s t (call.Control Purge) (reply.Purged n) new (fates.purged n un none refl refl (index_of index q.store.state.bytes) (still (Ok n) refl clears))
+    moves_of (Err Media) clears = fate_moves p.store.shape.numbers s t (call.Control Purge) reply.Media new (fates.failed refl refl (index_of index q.store.state.bytes) (dying clears))
+    moves_of (Err (Damaged page)) clears = fate_moves p.store.shape.numbers s t (call.Control Purge) (reply.Damaged page) new (fates.refused refl refl (index_of index q.store.state.bytes) (still (Err (Damaged page)) refl clears))
     moves_of _ clears = absurd clears.cause
 
-    purge_step : (r : Result ℕ TableFault) → Clears tells (Opens p.store.shape) index seats t (IsOfFirst seats.names (length seats.names)) p q r → IsTrue tells → Acts (limits_of index p.store.shape) s t Purge (outcome r) new
+    purge_step : (r : Result ℕ TableFault) → Clears tells (Opens p.store.shape) index seats t (IsOfFirst seats.names (length seats.names)) p q r → IsTrue tells → Acts (limits_of index p.store.shape p.store.depth) s t (call.Control Purge) (outcome r) new
     purge_step (Ok n) clears told =
         let cleared = clears.cleared told in
         let ready_then = clears.ready told in
         let table = ap (λ (x : TableState). x.table) (clears.state told refl) ∙ (was told).mirrors.table in
-        step_of (limits_of index p.store.shape) None s new t Purge (reply.Purged n) alive none un (inl (
+        step_of (limits_of index p.store.shape p.store.depth) None s new t (call.Control Purge) (reply.Purged n) alive none un (inl (
           n,
           refl,
           record {
@@ -329,7 +316,7 @@ module _ (tells : Bool) (Opens : Shape → List ℕ → List ℕ → Type 0) (in
                 ];
           },
         ))
-    purge_step (Err Media) clears told = step_of (limits_of index p.store.shape) None s new t Purge reply.Media alive none un (inr (refl, index_of index q.store.state.bytes, dying clears))
+    purge_step (Err Media) clears told = step_of (limits_of index p.store.shape p.store.depth) None s new t (call.Control Purge) reply.Media alive none un (inr (refl, index_of index q.store.state.bytes, dying clears))
     purge_step (Err (Damaged page)) clears told = absurd (clears.cause told)
     purge_step _ clears told = absurd clears.cause
 
@@ -352,8 +339,8 @@ module _ (tells : Bool) (Opens : Shape → List ℕ → List ℕ → Type 0) (in
     failed_is _ cause = absurd cause
 
     module _ (r : Result ℕ TableFault) (clears : Clears tells (Opens p.store.shape) index seats t (IsOfFirst seats.names (length seats.names)) p q r) where
-      pub purged_steps : Steps tells t Purge (core_over Opens index p.store s) (core_over Opens index q.store new) (outcome r)
-      purged_steps = steps_of tells Opens index p q s new t Purge (outcome r) clears.shape (moves_of r clears)
-          (call_cause (limits_of index p.store.shape) s t Purge alive (ap not free_caller) refl refl (outcome r) (cleared_cause r clears.cause))
+      pub purged_steps : Steps tells t (call.Control Purge) (core_over Opens index p.store s) (core_over Opens index q.store new) (outcome r)
+      purged_steps = steps_of tells Opens index p q s new t (call.Control Purge) (outcome r) clears.shape clears.depth (moves_of r clears)
+          (plain_cause (limits_of index p.store.shape p.store.depth) s t (call.Control Purge) alive (ap not free_caller) refl (outcome r) (cleared_cause r clears.cause))
           (λ ill. (clears.dies (sym (failed_is r clears.cause) ∙ ill)).1) (λ well. (clears.faults (sym (failed_is r clears.cause) ∙ well)).1)
           (purge_step r clears) (time_now r clears) (purged_keeps r clears).safe (inr (λ told living. shows_tied index q new refl (tied_of told r clears living)))

@@ -51,7 +51,7 @@ module _ (tells : Bool) (Opens : Shape → List ℕ → List ℕ → Type 0) (in
                 logs = λ caller. ap (λ (x : TableState). x.logs caller) shows ∙ tied.mirrors.logs caller;
               };
               sound = tied.sound;
-              room = subst (λ (h : Shape). HasHeld (limits_of index h) s) (sym same.shape) tied.room;
+              room = subst (λ (x : Shape × ℕ). HasHeld (limits_of index x.0 x.1) s) (λ i. (sym same.shape i, sym same.depth i)) tied.room;
             };
         safe = λ told image left.
             subst (λ (h : Shape). HasPrefixOf (OpensWithTables (Opens h) index names) s (length history) image) (sym same.shape)
@@ -81,7 +81,7 @@ continues_as core left same sound safe =
 
 module _ {S : Type 0} (tells : Bool) (Opens : Shape → List ℕ → List ℕ → Type 0) (index : Index) (old new : StoreView) (same : ShowsSame old new) (was is : Held S) (rest : is ≡ record was { records = is.records }) where
   core_is : core_of Opens index new is ≡ record (core_of Opens index old was) { left_since = new.left_since }
-  core_is = λ i. record (core_over Opens index (record old { shape = same.shape i; state = same.state i; is_dead = same.is_dead i; faults = same.faults i; moment = same.moment i })
+  core_is = λ i. record (core_over Opens index (record old { shape = same.shape i; depth = same.depth i; state = same.state i; is_dead = same.is_dead i; faults = same.faults i; moment = same.moment i })
       (state_over index (record old { state = same.state i; is_dead = same.is_dead i }) (rest i))) { left_since = new.left_since }
 
   -- a core whose store shows the same goes on

@@ -6,15 +6,16 @@ use Rattle.std.proofs.lemmas.Bool.{cases_eq}
 use Rattle.std.proofs.lemmas.List.{length-append, length-take-le}
 use Rattle.history.specs.Writes.{Table}
 use Rattle.history.specs.Table.{Granted, Work, begun, worked, after}
-use Rattle.history.specs.declared.call.Call.{Call}
-use Rattle.history.specs.declared.call.Call.TheVariants.{Begin, Get, Put, Del, Scan, Save, Back, Commit, Abort, Offer, Settle, Purge}
+use Rattle.history.specs.declared.call.Call.TheVariants.{Table as OnTable}
+use Rattle.history.specs.declared.call.TableCall.{TableCall}
+use Rattle.history.specs.declared.call.TableCall.TheVariants.{Get, Put, Del, Scan, Save, Back}
 use Rattle.history.specs.declared.call.Reply.{Reply}
 use Rattle.history.proofs.OneMore.{worked-push}
 use Rattle.record_table.specs.Calls.{saves_after}
 use Rattle.caller_steps.specs.State.{State, calls_of}
 use Rattle.mars_core.specs.Kept.{HaveSaves}
 use Rattle.mars_core.specs.Works.{HasSaves}
-use Rattle.mars_core.proofs.Mirroring.{IsOfTable, has_save_is, calls_here, calls_there}
+use Rattle.mars_core.proofs.Mirroring.{has_save_is, calls_here, calls_there}
 
 -- how many saves the calls leave that began on this table
 abbrev pub saves_in : Table → Granted → ℕ
@@ -33,19 +34,18 @@ saves_one was now s new t x others live here saves u table = elim (cases_eq u t)
 ]
 
 -- what a call makes of their number
-pub saves_of_call : (work : Work) (call : Call) → IsOfTable call → HasSaves (length work.saves) call → length (after work call).saves ≡ saves_after call (length work.saves)
-saves_of_call work Save of has = length-append work.saves (work.table ∷ [])
-saves_of_call work (Back n) of has =
+pub saves_of_call : (work : Work) (call : TableCall) → HasSaves (length work.saves) call → length (after work call).saves ≡ saves_after (OnTable call) (length work.saves)
+saves_of_call work Save has = length-append work.saves (work.table ∷ [])
+saves_of_call work (Back n) has =
     ap (λ (b : Bool). (let left : Work = if b then record { table = slice_index_or work.saves (n - 1) work.table; saves = take n work.saves } else work in length left.saves)) (has_save_is work.saves n has.0 has.1)
     ∙ length-take-le n work.saves has.1
-saves_of_call work (Get name key) of has = refl
-saves_of_call work (Put name key value) of has = refl
-saves_of_call work (Del name key) of has = refl
-saves_of_call work (Scan name low high) of has = refl
-saves_of_call work _ of has = absurd of
+saves_of_call work (Get name key) has = refl
+saves_of_call work (Put name key value) has = refl
+saves_of_call work (Del name key) has = refl
+saves_of_call work (Scan name low high) has = refl
 
 -- and so a granted call
-pub saves_granted : (n m : ℕ) (table : Table) (calls : Granted) (call : Call) (answer : Reply) → IsOfTable call → n ≡ saves_in table calls → HasSaves n call → m ≡ saves_after call n → m ≡ saves_in table (calls ++ (call, answer) ∷ [])
-saves_granted n m table calls call answer of is has grown =
-    grown ∙ ap (saves_after call) is ∙ sym (saves_of_call (worked (begun table) calls) call of (subst (λ (k : ℕ). HasSaves k call) is has))
+pub saves_granted : (n m : ℕ) (table : Table) (calls : Granted) (call : TableCall) (answer : Reply) → n ≡ saves_in table calls → HasSaves n call → m ≡ saves_after (OnTable call) n → m ≡ saves_in table (calls ++ (call, answer) ∷ [])
+saves_granted n m table calls call answer is has grown =
+    grown ∙ ap (saves_after (OnTable call)) is ∙ sym (saves_of_call (worked (begun table) calls) call (subst (λ (k : ℕ). HasSaves k call) is has))
     ∙ ap (λ (work : Work). length work.saves) (sym (worked-push (begun table) calls call answer))

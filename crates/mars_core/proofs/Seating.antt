@@ -8,7 +8,7 @@ use Rattle.std.proofs.lemmas.Map.{update_here, update_apart}
 use Rattle.std.proofs.lemmas.Bool.{cases_eq, cases_lt, both_ways, true≢false}
 use Rattle.history.specs.Table.{Granted}
 use Rattle.history.specs.Locks.{touches, touched, clash, Meets}
-use Rattle.history.specs.declared.call.Call.{Call}
+use Rattle.history.specs.declared.call.TableCall.{TableCall}
 use Rattle.history.proofs.Modes.{clash_none}
 use Rattle.caller_steps.specs.State.{Offer, unoffered, unsettled, offers_with}
 use Rattle.caller_steps.specs.Offers.{is_offered, is_unoffered}
@@ -158,7 +158,7 @@ no_calls : (live : Option Granted) → is_some live ≡ false → unwrap_or live
 no_calls None idle = refl
 no_calls (Some calls) idle = absurd (true≢false idle)
 
-module _ (seats : Seats) (caller : ℕ) (call : Call) where
+module _ (seats : Seats) (caller : ℕ) (call : TableCall) where
   -- the caller itself is not one of those before n that hold a stripe of the call
   pub free_own : (n : ℕ) → ((holder : ℕ) → holder < n → Blocks (bare seats) caller call holder → ⊥) → n ≡ caller
       → (holder : ℕ) → holder < n + 1 → Blocks (bare seats) caller call holder → ⊥

@@ -18,6 +18,7 @@ use Rattle.history.specs.Log.{log_of}
 use Rattle.history.specs.declared.call.Reply.{Reply}
 use Rattle.history.specs.declared.call.Call.{Call}
 use Rattle.history.specs.declared.call.Call.TheVariants as call
+use Rattle.history.specs.declared.call.Control.TheVariants as control
 use Rattle.history.specs.declared.call.Reply.TheVariants.{Fine, Committed}
 use Rattle.history.specs.declared.call.Reply.TheVariants as reply
 use Rattle.history.specs.declared.transaction.Done.{Done}
@@ -38,7 +39,7 @@ use Rattle.caller_steps.specs.Prefix.{HasPrefix, HasPrefixOf}
 use Rattle.caller_steps.specs.Purging.{PurgeCause}
 use Rattle.caller_steps.specs.Core.{IsSafe, Steps}
 use Rattle.caller_steps.specs.Cause.{misplaced, ReplyCause}
-use Rattle.caller_steps.proofs.Causing.{misplaced_cause, call_cause}
+use Rattle.caller_steps.proofs.Causing.{misplaced_cause, plain_cause}
 use Rattle.caller_steps.proofs.Able.{takes_within}
 use Rattle.caller_steps.proofs.Fates.{given, settled, unsure, told, fate_moves}
 use Rattle.caller_steps.proofs.Sound.{acts_sound, history_whole}
@@ -133,8 +134,8 @@ module _ (tells : Bool) (Opens : Shape → List ℕ → List ℕ → Type 0) (in
       index = new.index;
     }
 
-    moves : Moves p.store.shape.numbers s t call.Settle (Committed (number_among (length s.history + 1) os t)) new
-    moves = fate_moves p.store.shape.numbers s t call.Settle (Committed (number_among (length s.history + 1) os t)) new (settled inside has refl refl new.index new_is)
+    moves : Moves p.store.shape.numbers s t (call.Control control.Settle) (Committed (number_among (length s.history + 1) os t)) new
+    moves = fate_moves p.store.shape.numbers s t (call.Control control.Settle) (Committed (number_among (length s.history + 1) os t)) new (settled inside has refl refl new.index new_is)
 
     -- a caller of the group has no calls, and another has its own
     calls_here : (u : ℕ) → is_in u os ≡ true → calls_of new u ≡ []
@@ -156,16 +157,16 @@ module _ (tells : Bool) (Opens : Shape → List ℕ → List ℕ → Type 0) (in
         none = λ none. shows_new.indexed ∙ (λ i. index_with (names_in (does.tables told refl i)) (does.quiet told refl (same_writes (state_of index p) s was.mirrors.logs os ∙ none) i) (does.indexed told refl i)) ∙ sym shows.indexed;
       }
 
-      step : Acts (limits_of index p.store.shape) s t call.Settle (Committed (number_among (length s.history + 1) os t)) new
-      step = step_by (limits_of index p.store.shape) offered s new t call.Settle (Committed (number_among (length s.history + 1) os t)) living_state has (inr (inside, inl (refl, new.index, settles, new_is)))
+      step : Acts (limits_of index p.store.shape p.store.depth) s t (call.Control control.Settle) (Committed (number_among (length s.history + 1) os t)) new
+      step = step_by (limits_of index p.store.shape p.store.depth) offered s new t (call.Control control.Settle) (Committed (number_among (length s.history + 1) os t)) living_state has (inr (inside, inl (refl, new.index, settles, new_is)))
 
       log_here : (u : ℕ) (b : Bool) → is_one_of os u ≡ b → cond b (record { writes = []; saved = [] }) ((state_of index p).logs u) ≡ log_of (calls_of new u)
       log_here u true is = ap log_of (sym (calls_here u is))
       log_here u false out = was.mirrors.logs u ∙ ap log_of (sym (calls_there u out))
 
-      held_here : (u g : ℕ) (b : Bool) → is_one_of os u ≡ b → held_on (limits_of index p.store.shape) new u g ≤ (limits_of index p.store.shape).entries
-      held_here u g true is = subst (λ (cs : Granted). length (filter (is_write_on (limits_of index p.store.shape) new.index g) (log_of cs).writes) ≤ (limits_of index p.store.shape).entries) (sym (calls_here u is)) (omega arith)
-      held_here u g false out = subst (λ (x : Index × Granted). length (filter (is_write_on (limits_of index p.store.shape) x.0 g) (log_of x.1).writes) ≤ (limits_of index p.store.shape).entries)
+      held_here : (u g : ℕ) (b : Bool) → is_one_of os u ≡ b → held_on (limits_of index p.store.shape p.store.depth) new u g ≤ (limits_of index p.store.shape p.store.depth).entries
+      held_here u g true is = subst (λ (cs : Granted). length (filter (is_write_on (limits_of index p.store.shape p.store.depth) new.index g) (log_of cs).writes) ≤ (limits_of index p.store.shape p.store.depth).entries) (sym (calls_here u is)) (omega arith)
+      held_here u g false out = subst (λ (x : Index × Granted). length (filter (is_write_on (limits_of index p.store.shape p.store.depth) x.0 g) (log_of x.1).writes) ≤ (limits_of index p.store.shape p.store.depth).entries)
           (λ i. (sym keys_same i, sym (calls_there u out) i)) (was.room u g)
 
       tied_new : IsTied index q new
@@ -177,8 +178,8 @@ module _ (tells : Bool) (Opens : Shape → List ℕ → List ℕ → Type 0) (in
           table = table_left (Ok tt) does told ∙ (λ i. records (sym base i) (sym history i));
           logs = λ u. log_here u (is_one_of os u) refl;
         });
-        sound = acts_sound (limits_of index p.store.shape) s t call.Settle (Committed (number_among (length s.history + 1) os t)) new was.sound step;
-        room = subst (λ (h : Shape). HasHeld (limits_of index h) new) (sym does.shape) (λ u g. held_here u g (is_one_of os u) refl);
+        sound = acts_sound (limits_of index p.store.shape p.store.depth) s t (call.Control control.Settle) (Committed (number_among (length s.history + 1) os t)) new was.sound step;
+        room = subst (λ (x : Shape × ℕ). HasHeld (limits_of index x.0 x.1) new) (λ i. (sym does.shape i, sym does.depth i)) (λ u g. held_here u g (is_one_of os u) refl);
       }
 
       safe_new : IsSafe (core_over Opens index q.store new) q.store.moment (length new.history)
@@ -213,9 +214,9 @@ module _ (tells : Bool) (Opens : Shape → List ℕ → List ℕ → Type 0) (in
       safe = safe_new;
     }
 
-    pub settled_steps : (n : ℕ) → n ≡ number_among (length s.history + 1) os t → Steps tells t call.Settle (core_over Opens index p.store s) (core_over Opens index q.store new) (Committed n)
-    settled_steps n n_is = subst (λ (k : ℕ). Steps tells t call.Settle (core_over Opens index p.store s) (core_over Opens index q.store new) (Committed k)) (sym n_is)
-        (steps_of tells Opens index p q s new t call.Settle (Committed (number_among (length s.history + 1) os t)) does.shape moves (settle_cause (limits_of index p.store.shape) s t living_state has (Committed (number_among (length s.history + 1) os t)) refl) (λ failed. absurd (false≢true failed)) (λ _. (does.faults refl).1) step
+    pub settled_steps : (n : ℕ) → n ≡ number_among (length s.history + 1) os t → Steps tells t (call.Control control.Settle) (core_over Opens index p.store s) (core_over Opens index q.store new) (Committed n)
+    settled_steps n n_is = subst (λ (k : ℕ). Steps tells t (call.Control control.Settle) (core_over Opens index p.store s) (core_over Opens index q.store new) (Committed k)) (sym n_is)
+        (steps_of tells Opens index p q s new t (call.Control control.Settle) (Committed (number_among (length s.history + 1) os t)) does.shape does.depth moves (settle_cause (limits_of index p.store.shape p.store.depth) s t living_state has (Committed (number_among (length s.history + 1) os t)) refl) (λ failed. absurd (false≢true failed)) (λ _. (does.faults refl).1) step
         (λ told. time_group (Ok tt) does told (no_doubt told)) safe_new (inr (λ told _. shows_tied index q new shows_new.indexed (tied_new told))))
 
   -- the medium failed in it
@@ -236,8 +237,8 @@ module _ (tells : Bool) (Opens : Shape → List ℕ → List ℕ → Type 0) (in
       index = new.index;
     }
 
-    step_lost : IsTrue tells → Acts (limits_of index p.store.shape) s t call.Settle reply.Media new
-    step_lost so = step_by (limits_of index p.store.shape) offered s new t call.Settle reply.Media living_state has (inr (
+    step_lost : IsTrue tells → Acts (limits_of index p.store.shape p.store.depth) s t (call.Control control.Settle) reply.Media new
+    step_lost so = step_by (limits_of index p.store.shape p.store.depth) offered s new t (call.Control control.Settle) reply.Media living_state has (inr (
       inside,
       inr (subst (λ (ws : List Write). 0 < length ws) (same_writes (state_of index p) s (kept.tied so alive).mirrors.logs os) (due so), refl, new.index, lost_is),
     ))
@@ -262,16 +263,16 @@ module _ (tells : Bool) (Opens : Shape → List ℕ → List ℕ → Type 0) (in
       safe = safe_lost;
     }
 
-    pub lost_steps : Steps tells t call.Settle (core_over Opens index p.store s) (core_over Opens index q.store new) reply.Media
-    lost_steps = steps_of tells Opens index p q s new t call.Settle reply.Media does.shape
-        (fate_moves p.store.shape.numbers s t call.Settle reply.Media new (unsure inside has refl refl new.index lost_is)) (settle_cause (limits_of index p.store.shape) s t living_state has reply.Media tt)
+    pub lost_steps : Steps tells t (call.Control control.Settle) (core_over Opens index p.store s) (core_over Opens index q.store new) reply.Media
+    lost_steps = steps_of tells Opens index p q s new t (call.Control control.Settle) reply.Media does.shape does.depth
+        (fate_moves p.store.shape.numbers s t (call.Control control.Settle) reply.Media new (unsure inside has refl refl new.index lost_is)) (settle_cause (limits_of index p.store.shape p.store.depth) s t living_state has reply.Media tt)
         (λ _. (does.dies refl).1) (λ well. absurd (false≢true (sym well))) step_lost time_lost safe_lost (inr (λ told living. absurd (false≢true (sym living ∙ died))))
 
 -- What only changes what a caller has offered, and ends no log.
 module _ (tells : Bool) (Opens : Shape → List ℕ → List ℕ → Type 0) (index : below.Index) (p : PagesView) (laws : StoreLaws tells Opens p.store) (s new : State) (shows : ShowsPages index p s) (count count' : ℕ)
     (same_count : count' ≡ count) (rows : List NamedRows) (kept : IsKept tells Opens index p count rows s) (alive : IsAlive p.store) (t : ℕ) where
   module _ (call : Call) (answer : Reply) (live : new.live ≡ s.live) (base : new.base ≡ s.base) (names : new.names ≡ s.names) (history : new.history ≡ s.history) (slots : new.index ≡ s.index)
-      (step : IsTrue tells → Acts (limits_of index p.store.shape) s t call answer new) where
+      (step : IsTrue tells → Acts (limits_of index p.store.shape p.store.depth) s t call answer new) where
     module _ (told : IsTrue tells) where
       tied_kept : IsTied index p new
       tied_kept =
@@ -284,8 +285,8 @@ module _ (tells : Bool) (Opens : Shape → List ℕ → List ℕ → Type 0) (in
               table = was.mirrors.table ∙ (λ i. records (sym base i) (sym history i));
               logs = λ u. was.mirrors.logs u ∙ ap (λ (f : ℕ → Option Granted). log_of (unwrap_or (f u) [])) (sym live);
             };
-            sound = acts_sound (limits_of index p.store.shape) s t call answer new was.sound (step told);
-            room = λ u g. subst (λ (x : Index × (ℕ → Option Granted)). length (filter (is_write_on (limits_of index p.store.shape) x.0 g) (log_of (unwrap_or (x.1 u) [])).writes) ≤ (limits_of index p.store.shape).entries)
+            sound = acts_sound (limits_of index p.store.shape p.store.depth) s t call answer new was.sound (step told);
+            room = λ u g. subst (λ (x : Index × (ℕ → Option Granted)). length (filter (is_write_on (limits_of index p.store.shape p.store.depth) x.0 g) (log_of (unwrap_or (x.1 u) [])).writes) ≤ (limits_of index p.store.shape p.store.depth).entries)
                 (λ i. (sym slots i, sym live i)) (was.room u g);
           }
 
@@ -302,86 +303,86 @@ module _ (tells : Bool) (Opens : Shape → List ℕ → List ℕ → Type 0) (in
       safe = safe_kept;
     }
 
-    pub offer_steps : Moves p.store.shape.numbers s t call answer new → ReplyCause (limits_of index p.store.shape) s t call answer → is_media answer ≡ false → Steps tells t call (core_over Opens index p.store s) (core_over Opens index p.store new) answer
-    offer_steps moves cause sure = steps_of tells Opens index p p s new t call answer refl moves cause (λ failed. absurd (false≢true (sym sure ∙ failed))) (λ _. refl) step (λ told. stays p.store.moment p.store.left_since _) safe_kept (inr (λ told _. shows_tied index p new (slots ∙ shows.indexed) (tied_kept told)))
+    pub offer_steps : Moves p.store.shape.numbers s t call answer new → ReplyCause (limits_of index p.store.shape p.store.depth) s t call answer → is_media answer ≡ false → Steps tells t call (core_over Opens index p.store s) (core_over Opens index p.store new) answer
+    offer_steps moves cause sure = steps_of tells Opens index p p s new t call answer refl refl moves cause (λ failed. absurd (false≢true (sym sure ∙ failed))) (λ _. refl) step (λ told. stays p.store.moment p.store.left_since _) safe_kept (inr (λ told _. shows_tied index p new (slots ∙ shows.indexed) (tied_kept told)))
 
   -- a caller offers its transaction
   module _ (calls : Granted) (is : s.live t ≡ Some calls) (un : s.offers t ≡ unoffered) (new_is : new ≡ with_offer s t offered) where
-    step_given : IsTrue tells → Acts (limits_of index p.store.shape) s t call.Offer Fine new
-    step_given _ = step_of (limits_of index p.store.shape) (Some calls) s new t call.Offer Fine (shows.dead ∙ alive) is un (refl, new_is)
+    step_given : IsTrue tells → Acts (limits_of index p.store.shape p.store.depth) s t (call.Control control.Offer) Fine new
+    step_given _ = step_of (limits_of index p.store.shape p.store.depth) (Some calls) s new t (call.Control control.Offer) Fine (shows.dead ∙ alive) is un (refl, new_is)
 
     pub given_keeps : IsKept tells Opens index p count' rows new
-    given_keeps = offer_keeps call.Offer Fine (ap (λ (x : State). x.live) new_is) (ap (λ (x : State). x.base) new_is) (ap (λ (x : State). x.names) new_is) (ap (λ (x : State). x.history) new_is) (ap (λ (x : State). x.index) new_is) step_given
+    given_keeps = offer_keeps (call.Control control.Offer) Fine (ap (λ (x : State). x.live) new_is) (ap (λ (x : State). x.base) new_is) (ap (λ (x : State). x.names) new_is) (ap (λ (x : State). x.history) new_is) (ap (λ (x : State). x.index) new_is) step_given
 
-    pub given_steps : Steps tells t call.Offer (core_over Opens index p.store s) (core_over Opens index p.store new) Fine
-    given_steps = offer_steps call.Offer Fine (ap (λ (x : State). x.live) new_is) (ap (λ (x : State). x.base) new_is) (ap (λ (x : State). x.names) new_is) (ap (λ (x : State). x.history) new_is) (ap (λ (x : State). x.index) new_is) step_given
-        (fate_moves p.store.shape.numbers s t call.Offer Fine new (given calls un refl refl is new_is)) (call_cause (limits_of index p.store.shape) s t call.Offer (shows.dead ∙ alive) (takes_within s t calls un is) refl refl Fine refl) refl
+    pub given_steps : Steps tells t (call.Control control.Offer) (core_over Opens index p.store s) (core_over Opens index p.store new) Fine
+    given_steps = offer_steps (call.Control control.Offer) Fine (ap (λ (x : State). x.live) new_is) (ap (λ (x : State). x.base) new_is) (ap (λ (x : State). x.names) new_is) (ap (λ (x : State). x.history) new_is) (ap (λ (x : State). x.index) new_is) step_given
+        (fate_moves p.store.shape.numbers s t (call.Control control.Offer) Fine new (given calls un refl refl is new_is)) (plain_cause (limits_of index p.store.shape p.store.depth) s t (call.Control control.Offer) (shows.dead ∙ alive) (takes_within s t calls un is) refl Fine refl) refl
 
   -- a caller whose transaction a group has committed is told its number
   module _ (n : ℕ) (has : s.offers t ≡ unsettled n) (none : s.live t ≡ None) (settles : new ≡ with_offer s t unoffered) where
     ended_is : new ≡ with_offer (with_live s t None) t unoffered
     ended_is = settles ∙ (λ i. record (with_offer s t unoffered) { live = sym (update_same s.live t None none) i })
 
-    step_told : IsTrue tells → Acts (limits_of index p.store.shape) s t call.Settle (Committed n) new
-    step_told _ = step_by (limits_of index p.store.shape) (unsettled n) s new t call.Settle (Committed n) (shows.dead ∙ alive) has (refl, ended_is)
+    step_told : IsTrue tells → Acts (limits_of index p.store.shape p.store.depth) s t (call.Control control.Settle) (Committed n) new
+    step_told _ = step_by (limits_of index p.store.shape p.store.depth) (unsettled n) s new t (call.Control control.Settle) (Committed n) (shows.dead ∙ alive) has (refl, ended_is)
 
     pub told_keeps : IsKept tells Opens index p count' rows new
-    told_keeps = offer_keeps call.Settle (Committed n) (ap (λ (x : State). x.live) settles) (ap (λ (x : State). x.base) settles) (ap (λ (x : State). x.names) settles) (ap (λ (x : State). x.history) settles) (ap (λ (x : State). x.index) settles) step_told
+    told_keeps = offer_keeps (call.Control control.Settle) (Committed n) (ap (λ (x : State). x.live) settles) (ap (λ (x : State). x.base) settles) (ap (λ (x : State). x.names) settles) (ap (λ (x : State). x.history) settles) (ap (λ (x : State). x.index) settles) step_told
 
-    pub told_steps : Steps tells t call.Settle (core_over Opens index p.store s) (core_over Opens index p.store new) (Committed n)
-    told_steps = offer_steps call.Settle (Committed n) (ap (λ (x : State). x.live) settles) (ap (λ (x : State). x.base) settles) (ap (λ (x : State). x.names) settles) (ap (λ (x : State). x.history) settles) (ap (λ (x : State). x.index) settles) step_told
-        (fate_moves p.store.shape.numbers s t call.Settle (Committed n) new (told n has refl refl ended_is)) (told_cause (limits_of index p.store.shape) s t (shows.dead ∙ alive) n has) refl
+    pub told_steps : Steps tells t (call.Control control.Settle) (core_over Opens index p.store s) (core_over Opens index p.store new) (Committed n)
+    told_steps = offer_steps (call.Control control.Settle) (Committed n) (ap (λ (x : State). x.live) settles) (ap (λ (x : State). x.base) settles) (ap (λ (x : State). x.names) settles) (ap (λ (x : State). x.history) settles) (ap (λ (x : State). x.index) settles) step_told
+        (fate_moves p.store.shape.numbers s t (call.Control control.Settle) (Committed n) new (told n has refl refl ended_is)) (told_cause (limits_of index p.store.shape p.store.depth) s t (shows.dead ∙ alive) n has) refl
 
 -- Calls that are refused because of what their callers have offered.
 module _ (tells : Bool) (Opens : Shape → List ℕ → List ℕ → Type 0) (index : below.Index) (p : PagesView) (s : State) (shows : ShowsPages index p s) (safe : IsTrue tells → IsSafe (core_over Opens index p.store s) p.store.moment (length s.history)) (alive : IsAlive p.store)
     (t : ℕ) where
-  closed_steps : (offer : Offer) (asked : Call) (answer : Reply) → s.offers t ≡ offer → StepBy (limits_of index p.store.shape) offer s t asked answer s → is_refusal answer ≡ true → is_media answer ≡ false → is_committed answer ≡ false → may_do s t asked ≡ false → answer ≡ misplaced asked
+  closed_steps : (offer : Offer) (asked : Call) (answer : Reply) → s.offers t ≡ offer → StepBy (limits_of index p.store.shape p.store.depth) offer s t asked answer s → is_refusal answer ≡ true → is_media answer ≡ false → is_committed answer ≡ false → may_do s t asked ≡ false → answer ≡ misplaced asked
       → Steps tells t asked (core_over Opens index p.store s) (core_over Opens index p.store s) answer
   closed_steps offer asked answer has by refusal sure plain may kind =
-      steps_same tells Opens index p s s t asked answer refl safe refusal sure plain (misplaced_cause (limits_of index p.store.shape) s t asked (shows.dead ∙ alive) may answer kind) (λ told. step_by (limits_of index p.store.shape) offer s s t asked answer (shows.dead ∙ alive) has by)
+      steps_same tells Opens index p s s t asked answer refl safe refusal sure plain (misplaced_cause (limits_of index p.store.shape p.store.depth) s t asked (shows.dead ∙ alive) may answer kind) (λ told. step_by (limits_of index p.store.shape p.store.depth) offer s s t asked answer (shows.dead ∙ alive) has by)
 
   -- one that has offered its transaction begins no other and purges nothing, and its own takes no calls
   pub offered_begins : s.offers t ≡ offered → Steps tells t call.Begin (core_over Opens index p.store s) (core_over Opens index p.store s) reply.Already
   offered_begins has = closed_steps offered call.Begin reply.Already has (refl, refl) refl refl refl (closed_may s t offered has refl call.Begin (λ e. cc)) refl
 
-  pub offered_purges : s.offers t ≡ offered → Steps tells t call.Purge (core_over Opens index p.store s) (core_over Opens index p.store s) reply.Already
-  offered_purges has = closed_steps offered call.Purge reply.Already has (refl, refl) refl refl refl (closed_may s t offered has refl call.Purge (λ e. cc)) refl
+  pub offered_purges : s.offers t ≡ offered → Steps tells t (call.Control control.Purge) (core_over Opens index p.store s) (core_over Opens index p.store s) reply.Already
+  offered_purges has = closed_steps offered (call.Control control.Purge) reply.Already has (refl, refl) refl refl refl (closed_may s t offered has refl (call.Control control.Purge) (λ e. cc)) refl
 
   pub offered_cause : s.offers t ≡ offered → PurgeCause s t reply.Already
   offered_cause has = (shows.dead ∙ alive, or_right (is_some (s.live t)) (not (is_unoffered (s.offers t))) (ap (λ (o : Offer). not (is_unoffered o)) has))
 
-  pub offered_asks : s.offers t ≡ offered → (asked : Call) → (asked ≡ call.Begin → ⊥) → (asked ≡ call.Settle → ⊥) → (asked ≡ call.Purge → ⊥) → Steps tells t asked (core_over Opens index p.store s) (core_over Opens index p.store s) reply.NoTransaction
+  pub offered_asks : s.offers t ≡ offered → (asked : Call) → (asked ≡ call.Begin → ⊥) → (asked ≡ call.Control control.Settle → ⊥) → (asked ≡ call.Control control.Purge → ⊥) → Steps tells t asked (core_over Opens index p.store s) (core_over Opens index p.store s) reply.NoTransaction
   offered_asks has asked begin settle purge = closed_steps offered asked reply.NoTransaction has (by asked begin settle purge) refl refl refl (closed_may s t offered has refl asked settle) (misplaced_is asked begin purge)
     where
-      by : (asked : Call) → (asked ≡ call.Begin → ⊥) → (asked ≡ call.Settle → ⊥) → (asked ≡ call.Purge → ⊥) → StepBy (limits_of index p.store.shape) offered s t asked reply.NoTransaction s
+      by : (asked : Call) → (asked ≡ call.Begin → ⊥) → (asked ≡ call.Control control.Settle → ⊥) → (asked ≡ call.Control control.Purge → ⊥) → StepBy (limits_of index p.store.shape p.store.depth) offered s t asked reply.NoTransaction s
       by call.Begin begin settle purge = absurd (begin refl)
-      by call.Settle begin settle purge = absurd (settle refl)
-      by call.Purge begin settle purge = absurd (purge refl)
+      by (call.Control control.Settle) begin settle purge = absurd (settle refl)
+      by (call.Control control.Purge) begin settle purge = absurd (purge refl)
       by _ begin settle purge = (refl, refl)
 
   -- neither does one that has not settled
   pub unsettled_begins : (n : ℕ) → s.offers t ≡ unsettled n → Steps tells t call.Begin (core_over Opens index p.store s) (core_over Opens index p.store s) reply.Already
   unsettled_begins n has = closed_steps (unsettled n) call.Begin reply.Already has (refl, refl) refl refl refl (closed_may s t (unsettled n) has refl call.Begin (λ e. cc)) refl
 
-  pub unsettled_purges : (n : ℕ) → s.offers t ≡ unsettled n → Steps tells t call.Purge (core_over Opens index p.store s) (core_over Opens index p.store s) reply.Already
-  unsettled_purges n has = closed_steps (unsettled n) call.Purge reply.Already has (refl, refl) refl refl refl (closed_may s t (unsettled n) has refl call.Purge (λ e. cc)) refl
+  pub unsettled_purges : (n : ℕ) → s.offers t ≡ unsettled n → Steps tells t (call.Control control.Purge) (core_over Opens index p.store s) (core_over Opens index p.store s) reply.Already
+  unsettled_purges n has = closed_steps (unsettled n) (call.Control control.Purge) reply.Already has (refl, refl) refl refl refl (closed_may s t (unsettled n) has refl (call.Control control.Purge) (λ e. cc)) refl
 
   pub unsettled_cause : (n : ℕ) → s.offers t ≡ unsettled n → PurgeCause s t reply.Already
   unsettled_cause n has = (shows.dead ∙ alive, or_right (is_some (s.live t)) (not (is_unoffered (s.offers t))) (ap (λ (o : Offer). not (is_unoffered o)) has))
 
-  pub unsettled_asks : (n : ℕ) → s.offers t ≡ unsettled n → (asked : Call) → (asked ≡ call.Begin → ⊥) → (asked ≡ call.Settle → ⊥) → (asked ≡ call.Purge → ⊥) → Steps tells t asked (core_over Opens index p.store s) (core_over Opens index p.store s) reply.NoTransaction
+  pub unsettled_asks : (n : ℕ) → s.offers t ≡ unsettled n → (asked : Call) → (asked ≡ call.Begin → ⊥) → (asked ≡ call.Control control.Settle → ⊥) → (asked ≡ call.Control control.Purge → ⊥) → Steps tells t asked (core_over Opens index p.store s) (core_over Opens index p.store s) reply.NoTransaction
   unsettled_asks n has asked begin settle purge = closed_steps (unsettled n) asked reply.NoTransaction has (by asked begin settle purge) refl refl refl (closed_may s t (unsettled n) has refl asked settle) (misplaced_is asked begin purge)
     where
-      by : (asked : Call) → (asked ≡ call.Begin → ⊥) → (asked ≡ call.Settle → ⊥) → (asked ≡ call.Purge → ⊥) → StepBy (limits_of index p.store.shape) (unsettled n) s t asked reply.NoTransaction s
+      by : (asked : Call) → (asked ≡ call.Begin → ⊥) → (asked ≡ call.Control control.Settle → ⊥) → (asked ≡ call.Control control.Purge → ⊥) → StepBy (limits_of index p.store.shape p.store.depth) (unsettled n) s t asked reply.NoTransaction s
       by call.Begin begin settle purge = absurd (begin refl)
-      by call.Settle begin settle purge = absurd (settle refl)
-      by call.Purge begin settle purge = absurd (purge refl)
+      by (call.Control control.Settle) begin settle purge = absurd (settle refl)
+      by (call.Control control.Purge) begin settle purge = absurd (purge refl)
       by _ begin settle purge = (refl, refl)
 
   -- and one that has offered nothing has nothing to settle
-  pub open_settles : s.offers t ≡ unoffered → Steps tells t call.Settle (core_over Opens index p.store s) (core_over Opens index p.store s) reply.NoTransaction
-  open_settles un = closed_steps unoffered call.Settle reply.NoTransaction un (by (s.live t)) refl refl refl (ap (λ (o : Offer). not (is_unoffered o)) un) refl
+  pub open_settles : s.offers t ≡ unoffered → Steps tells t (call.Control control.Settle) (core_over Opens index p.store s) (core_over Opens index p.store s) reply.NoTransaction
+  open_settles un = closed_steps unoffered (call.Control control.Settle) reply.NoTransaction un (by (s.live t)) refl refl refl (ap (λ (o : Offer). not (is_unoffered o)) un) refl
     where
-      by : (live : Option Granted) → StepAt (limits_of index p.store.shape) live s t call.Settle reply.NoTransaction s
+      by : (live : Option Granted) → StepAt (limits_of index p.store.shape p.store.depth) live s t (call.Control control.Settle) reply.NoTransaction s
       by None = (refl, refl)
       by (Some calls) = (refl, refl)

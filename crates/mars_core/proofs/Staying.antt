@@ -14,7 +14,9 @@ use Rattle.history.specs.Table.{Granted, has_save}
 use Rattle.history.specs.Locks.{Meets, has_table}
 use Rattle.history.specs.Log.{log_of}
 use Rattle.history.specs.declared.call.Call.{Call}
-use Rattle.history.specs.declared.call.Call.TheVariants.{Begin, Get, Put, Del, Scan, Save, Back, Commit, Abort, Offer, Settle, Purge}
+use Rattle.history.specs.declared.call.Call.TheVariants.{Begin, Table as OnTable}
+use Rattle.history.specs.declared.call.TableCall.{TableCall}
+use Rattle.history.specs.declared.call.TableCall.TheVariants.{Get, Put, Del, Scan, Save, Back}
 use Rattle.history.specs.declared.call.Reply.{Reply}
 use Rattle.history.specs.declared.call.Reply.TheVariants.{Fine, Busy, NoMemory, SavesFull, NoSave, NoTransaction, NoTable}
 use Rattle.record_table.specs.Shown.{state_of}
@@ -22,29 +24,27 @@ use Rattle.caller_steps.specs.State.{State, unoffered, calls_of, commits_of, rec
 use Rattle.caller_steps.specs.Offers.{may_do}
 use Rattle.caller_steps.specs.Cause.{saves_of, save_refusal}
 use Rattle.caller_steps.proofs.Able.{takes_within, free_outside}
-use Rattle.caller_steps.proofs.Causing.{save_cause, table_cause, call_cause}
+use Rattle.caller_steps.proofs.Causing.{save_cause, table_cause, call_cause, plain_cause}
 use Rattle.caller_steps.specs.Locked.{Blocks, IsFree, IsBusyWith}
 use Rattle.caller_steps.specs.Room.{Limits}
 use Rattle.caller_steps.specs.Step.{Acts, StepAt}
 use Rattle.caller_steps.specs.Fate.{is_refusal, is_media, is_committed}
 use Rattle.caller_steps.specs.Core.{IsSafe, Steps}
 use Rattle.caller_steps.proofs.Sound.{acts_sound}
-use Rattle.mars_core.specs.declared.table_call.TableCall.{TableCall}
-use Rattle.mars_core.specs.declared.table_call.TableCall.TheVariants as table_call
-use Rattle.mars_core.specs.TableCall.{call_of, number_for}
+use Rattle.mars_core.specs.TableCall.{number_for}
 use Rattle.mars_core.specs.Over.{limits_of}
 use Rattle.mars_core.specs.Held.{core_over}
 use Rattle.mars_core.specs.Kept.{IsTied, IsKept}
 use Rattle.mars_core.specs.Works.{HasSaves, IsSaveRefusal, IsShown}
 use Rattle.mars_core.proofs.Touching.{both}
-use Rattle.mars_core.proofs.Mirroring.{IsOfTable, calls_there, mirrors_at, saves_are, has_saves}
+use Rattle.mars_core.proofs.Mirroring.{calls_there, mirrors_at, saves_are, has_saves}
 use Rattle.mars_core.proofs.Entering.{room_empty}
 use Rattle.mars_core.proofs.Answering.{has_none}
 use Rattle.mars_core.proofs.Saving.{saves_in, saves_one}
-use Rattle.mars_core.proofs.Causes.{no_refusal, is_refused, of_table_cause, absent_cause}
+use Rattle.mars_core.proofs.Causes.{no_refusal, is_refused, absent_cause}
 use Rattle.mars_core.proofs.Idle.{no_calls, idle_after}
 use Rattle.mars_core.proofs.Prefixes.{StoreLaws, safe_alive}
-use Rattle.mars_core.proofs.Stepping.{ShowsPages, or_false, step_of, may_table, shows_tied, asks_at, steps_same, steps_of, counts_is, saves_at}
+use Rattle.mars_core.proofs.Stepping.{ShowsPages, or_false, step_of, shows_tied, asks_at, steps_same, steps_of, counts_is, saves_at}
 
 -- an option that has a value
 pub some_of : {A : Type 0} (o : Option A) → is_some o ≡ true → (x : A) × (o ≡ Some x)
@@ -84,7 +84,7 @@ module _ (live : ℕ → Option Granted) (t : ℕ) where
   changed_twice x y mid new first second = second ∙ ap (λ (f : ℕ → Option Granted). update nat_eq f t y) first ∙ update_twice x y
 
 -- Which callers hold the keys of a call does not depend on what its own caller touched.
-module _ (s mid : State) (t : ℕ) (x : Option Granted) (live : mid.live ≡ update nat_eq s.live t x) (names : mid.names ≡ s.names) (call : Call) where
+module _ (s mid : State) (t : ℕ) (x : Option Granted) (live : mid.live ≡ update nat_eq s.live t x) (names : mid.names ≡ s.names) (call : TableCall) where
   blocks_to : (holder : ℕ) → Blocks mid t call holder → Blocks s t call holder
   blocks_to holder (ne, meets) = (ne, subst (λ (y : List (List ℕ) × Granted). Meets y.0 call y.1) (λ i. (names i, calls_there s mid t x live holder ne i)) meets)
 
@@ -105,7 +105,7 @@ no_saves saves n none = false_from_ne_true (has_save saves n) (λ there.
     let parts = both (nat_lt 0 n) (nat_le n (length saves)) there in none (ltb-true 0 n parts.0, leb-true n (length saves) parts.1))
 
 module _ (tells : Bool) (Opens : Shape → List ℕ → List ℕ → Type 0) (index : below.Index) (p : PagesView) (s : State) (shows : ShowsPages index p s) (count : ℕ) (rows : List NamedRows)
-    (kept : IsKept tells Opens index p count rows s) (alive : IsAlive p.store) (tells_writes : IsShown tells index p) (t : ℕ) (call : Call) (calls : Granted) (is : s.live t ≡ Some calls) (un : s.offers t ≡ unoffered) where
+    (kept : IsKept tells Opens index p count rows s) (alive : IsAlive p.store) (tells_writes : IsShown tells index p) (t : ℕ) (call : TableCall) (calls : Granted) (is : s.live t ≡ Some calls) (un : s.offers t ≡ unoffered) where
   module _ (told : IsTrue tells) where
     tied : IsTied index p s
     tied = kept.tied told alive
@@ -113,11 +113,11 @@ module _ (tells : Bool) (Opens : Shape → List ℕ → List ℕ → Type 0) (in
     saved_is : length ((state_of index p).logs t).saved ≡ length (view_of s t).saves
     saved_is = saves_are (state_of index p) s tied.mirrors t (tied.sound.right t)
 
-    save_step : (c : Call) (answer : Reply) → IsSaveRefusal (length (p.counts t)) c answer → Acts (limits_of index p.store.shape) s t c answer s
-    save_step Save answer refused = subst (λ (r : Reply). Acts (limits_of index p.store.shape) s t Save r s) (sym refused.1)
-        (step_of (limits_of index p.store.shape) (Some calls) s s t Save SavesFull (shows.dead ∙ alive) is un (inl (omega (arith, refused.0, counts_is index p t, saved_is), (refl, refl))))
-    save_step (Back n) answer refused = subst (λ (r : Reply). Acts (limits_of index p.store.shape) s t (Back n) r s) (sym refused.1)
-        (step_of (limits_of index p.store.shape) (Some calls) s s t (Back n) (NoSave n) (shows.dead ∙ alive) is un (inl (
+    save_step : (c : TableCall) (answer : Reply) → IsSaveRefusal (length (p.counts t)) c answer → Acts (limits_of index p.store.shape p.store.depth) s t (OnTable c) answer s
+    save_step Save answer refused = subst (λ (r : Reply). Acts (limits_of index p.store.shape p.store.depth) s t (OnTable Save) r s) (sym refused.1)
+        (step_of (limits_of index p.store.shape p.store.depth) (Some calls) s s t (OnTable Save) SavesFull (shows.dead ∙ alive) is un (inl (omega (arith, refused.0, counts_is index p t, saved_is), (refl, refl))))
+    save_step (Back n) answer refused = subst (λ (r : Reply). Acts (limits_of index p.store.shape p.store.depth) s t (OnTable (Back n)) r s) (sym refused.1)
+        (step_of (limits_of index p.store.shape p.store.depth) (Some calls) s s t (OnTable (Back n)) (NoSave n) (shows.dead ∙ alive) is un (inl (
           has_saves (state_of index p) s tied.mirrors t (tied.sound.right t) n ∙ no_saves (((state_of index p).logs t).saved) n (subst (λ (k : ℕ). (0 < n) × (n ≤ k) → ⊥) (sym (counts_is index p t)) refused.0),
           (refl, refl),
         )))
@@ -127,60 +127,49 @@ module _ (tells : Bool) (Opens : Shape → List ℕ → List ℕ → Type 0) (in
   count_is = kept.saves alive t (records_of s)
 
   -- refused because of its saves
-  pub save_refused : (answer : Reply) → IsSaveRefusal (length (p.counts t)) call answer → Steps tells t call (core_over Opens index p.store s) (core_over Opens index p.store s) answer
+  pub save_refused : (answer : Reply) → IsSaveRefusal (length (p.counts t)) call answer → Steps tells t (OnTable call) (core_over Opens index p.store s) (core_over Opens index p.store s) answer
   save_refused answer refused =
       let kind = refusal call answer refused in
-      steps_same tells Opens index p s s t call answer refl kept.safe kind.0 kind.1 kind.2 (save_cause (limits_of index p.store.shape) s t call (shows.dead ∙ alive) (may_asked call answer refused) answer (is_refused (saves_of s t) call answer (subst (λ (n : ℕ). IsSaveRefusal n call answer) count_is refused))) (λ told. save_step told call answer refused)
+      steps_same tells Opens index p s s t (OnTable call) answer refl kept.safe kind.0 kind.1 kind.2 (save_cause (limits_of index p.store.shape p.store.depth) s t call (shows.dead ∙ alive) (takes_within s t calls un is) answer (is_refused (saves_of s t) call answer (subst (λ (n : ℕ). IsSaveRefusal n call answer) count_is refused))) (λ told. save_step told call answer refused)
     where
-      may_asked : (c : Call) (r : Reply) → IsSaveRefusal (length (p.counts t)) c r → may_do s t c ≡ true
-      may_asked Save r refused = takes_within s t calls un is
-      may_asked (Back n) r refused = takes_within s t calls un is
-      may_asked _ r refused = absurd refused
-
-      refusal : (c : Call) (r : Reply) → IsSaveRefusal (length (p.counts t)) c r → (is_refusal r ≡ true) × (is_media r ≡ false) × (is_committed r ≡ false)
+      refusal : (c : TableCall) (r : Reply) → IsSaveRefusal (length (p.counts t)) c r → (is_refusal r ≡ true) × (is_media r ≡ false) × (is_committed r ≡ false)
       refusal Save r refused = subst (λ (x : Reply). (is_refusal x ≡ true) × (is_media x ≡ false) × (is_committed x ≡ false)) (sym refused.1) (refl, refl, refl)
       refusal (Back n) r refused = subst (λ (x : Reply). (is_refusal x ≡ true) × (is_media x ≡ false) × (is_committed x ≡ false)) (sym refused.1) (refl, refl, refl)
       refusal _ r refused = absurd refused
 
-  module _ (of : IsOfTable call) (saves : HasSaves (length (p.counts t)) call) (new : State) (same : new ≡ s) where
+  module _ (saves : HasSaves (length (p.counts t)) call) (new : State) (same : new ≡ s) where
     has : HasSaves (length ((state_of index p).logs t).saved) call
     has = subst (λ (n : ℕ). HasSaves n call) (sym (counts_is index p t)) saves
 
-    may : may_do s t call ≡ true
-    may = may_table s t call of ∙ takes_within s t calls un is
+    may : may_do s t (OnTable call) ≡ true
+    may = takes_within s t calls un is
 
     saved : save_refusal (saves_of s t) call ≡ None
     saved = no_refusal (saves_of s t) call (subst (λ (n : ℕ). HasSaves n call) count_is saves)
 
     -- since its table is not there
-    pub table_refused : number_for s.names call ≡ None → Steps tells t call (core_over Opens index p.store s) (core_over Opens index p.store new) NoTable
-    table_refused none = steps_same tells Opens index p s new t call NoTable same kept.safe refl refl refl (table_cause (limits_of index p.store.shape) s t call (shows.dead ∙ alive) may saved (has_none s.names call none)) (λ told.
-        step_of (limits_of index p.store.shape) (Some calls) s s t call NoTable (shows.dead ∙ alive) is un (none_at call none))
+    pub table_refused : number_for s.names call ≡ None → Steps tells t (OnTable call) (core_over Opens index p.store s) (core_over Opens index p.store new) NoTable
+    table_refused none = steps_same tells Opens index p s new t (OnTable call) NoTable same kept.safe refl refl refl (table_cause (limits_of index p.store.shape p.store.depth) s t call (shows.dead ∙ alive) may saved (has_none s.names call none)) (λ told.
+        step_of (limits_of index p.store.shape p.store.depth) (Some calls) s s t (OnTable call) NoTable (shows.dead ∙ alive) is un (none_at call none))
       where
-        none_at : (c : Call) → number_for s.names c ≡ None → StepAt (limits_of index p.store.shape) (Some calls) s t c NoTable s
+        none_at : (c : TableCall) → number_for s.names c ≡ None → StepAt (limits_of index p.store.shape p.store.depth) (Some calls) s t (OnTable c) NoTable s
         none_at (Get name key) none = inl (ap is_some none, (refl, refl))
         none_at (Put name key value) none = inl (ap is_some none, (refl, refl))
         none_at (Del name key) none = inl (ap is_some none, (refl, refl))
         none_at (Scan name low high) none = inl (ap is_some none, (refl, refl))
         none_at Save none = absurd (cc)
         none_at (Back n) none = absurd (cc)
-        none_at Commit none = absurd (cc)
-        none_at Abort none = absurd (cc)
-        none_at Offer none = absurd (cc)
-        none_at Settle none = absurd (cc)
-        none_at Purge none = absurd (cc)
-        none_at Begin none = absurd (cc)
 
     -- for lack of memory
-    pub memory_refused : has_table s.names call ≡ true → Steps tells t call (core_over Opens index p.store s) (core_over Opens index p.store new) NoMemory
-    memory_refused there = steps_same tells Opens index p s new t call NoMemory same kept.safe refl refl refl (call_cause (limits_of index p.store.shape) s t call (shows.dead ∙ alive) may saved there NoMemory (of_table_cause (limits_of index p.store.shape) s t call NoMemory of tt)) (λ told.
-        step_of (limits_of index p.store.shape) (Some calls) s s t call NoMemory (shows.dead ∙ alive) is un (asks_at (limits_of index p.store.shape) calls s s t call NoMemory of there
+    pub memory_refused : has_table s.names call ≡ true → Steps tells t (OnTable call) (core_over Opens index p.store s) (core_over Opens index p.store new) NoMemory
+    memory_refused there = steps_same tells Opens index p s new t (OnTable call) NoMemory same kept.safe refl refl refl (call_cause (limits_of index p.store.shape p.store.depth) s t call (shows.dead ∙ alive) may saved there NoMemory tt) (λ told.
+        step_of (limits_of index p.store.shape p.store.depth) (Some calls) s s t (OnTable call) NoMemory (shows.dead ∙ alive) is un (asks_at (limits_of index p.store.shape p.store.depth) calls s s t call NoMemory there
         (saves_at index 0 p s shows (tied told).mirrors (tells_writes.held told alive) t ((tied told).sound.right t) call has) (inl (refl, refl))))
 
     -- because another caller holds its keys
-    pub busy_refused : has_table s.names call ≡ true → (holder : ℕ) → IsBusyWith s t call holder → Steps tells t call (core_over Opens index p.store s) (core_over Opens index p.store new) (Busy holder)
-    busy_refused there holder busy = steps_same tells Opens index p s new t call (Busy holder) same kept.safe refl refl refl (call_cause (limits_of index p.store.shape) s t call (shows.dead ∙ alive) may saved there (Busy holder) (of_table_cause (limits_of index p.store.shape) s t call (Busy holder) of busy)) (λ told.
-        step_of (limits_of index p.store.shape) (Some calls) s s t call (Busy holder) (shows.dead ∙ alive) is un (asks_at (limits_of index p.store.shape) calls s s t call (Busy holder) of there
+    pub busy_refused : has_table s.names call ≡ true → (holder : ℕ) → IsBusyWith s t call holder → Steps tells t (OnTable call) (core_over Opens index p.store s) (core_over Opens index p.store new) (Busy holder)
+    busy_refused there holder busy = steps_same tells Opens index p s new t (OnTable call) (Busy holder) same kept.safe refl refl refl (call_cause (limits_of index p.store.shape p.store.depth) s t call (shows.dead ∙ alive) may saved there (Busy holder) busy) (λ told.
+        step_of (limits_of index p.store.shape p.store.depth) (Some calls) s s t (OnTable call) (Busy holder) (shows.dead ∙ alive) is un (asks_at (limits_of index p.store.shape p.store.depth) calls s s t call (Busy holder) there
         (saves_at index 0 p s shows (tied told).mirrors (tells_writes.held told alive) t ((tied told).sound.right t) call has) (inr (inl (holder, busy, (refl, refl))))))
 
 -- the invariant holds after no change
@@ -196,8 +185,8 @@ module _ (tells : Bool) (Opens : Shape → List ℕ → List ℕ → Type 0) (in
   live_is = ap (λ (x : State). x.live) begins
 
   module _ (told : IsTrue tells) where
-    step : Acts (limits_of index p.store.shape) s t Begin Fine new
-    step = step_of (limits_of index p.store.shape) None s new t Begin Fine (shows.dead ∙ alive) none un (refl, begins)
+    step : Acts (limits_of index p.store.shape p.store.depth) s t Begin Fine new
+    step = step_of (limits_of index p.store.shape p.store.depth) None s new t Begin Fine (shows.dead ∙ alive) none un (refl, begins)
 
     tied_new : IsTied index p new
     tied_new =
@@ -209,8 +198,8 @@ module _ (tells : Bool) (Opens : Shape → List ℕ → List ℕ → Type 0) (in
           named = ap (λ (x : State). x.names) begins ∙ was.named;
           mirrors = mirrors_at (state_of index p) s was.mirrors (state_of index p) new t (Some []) live_is (was.mirrors.table ∙ sym (ap records_of begins))
               (was.mirrors.logs t ∙ ap (λ (cs : Granted). log_of cs) at) (λ u ne. refl);
-          sound = acts_sound (limits_of index p.store.shape) s t Begin Fine new was.sound step;
-          room = room_empty (limits_of index p.store.shape) s new t (Some []) refl was.room (ap (λ (x : State). x.index.slot_of) begins) live_is;
+          sound = acts_sound (limits_of index p.store.shape p.store.depth) s t Begin Fine new was.sound step;
+          room = room_empty (limits_of index p.store.shape p.store.depth) s new t (Some []) refl was.room (ap (λ (x : State). x.index.slot_of) begins) live_is;
         }
 
     safe_new : IsSafe (core_over Opens index p.store new) p.store.moment (length new.history)
@@ -228,7 +217,7 @@ module _ (tells : Bool) (Opens : Shape → List ℕ → List ℕ → Type 0) (in
   }
 
   pub begun_steps : Steps tells t Begin (core_over Opens index p.store s) (core_over Opens index p.store new) Fine
-  begun_steps = steps_of tells Opens index p p s new t Begin Fine refl (record {
+  begun_steps = steps_of tells Opens index p p s new t Begin Fine refl refl (record {
     names = ap (λ (x : State). x.names) begins;
     base = ap (λ (x : State). x.base) begins;
     history = ap (λ (x : State). x.history) begins;
@@ -241,18 +230,11 @@ module _ (tells : Bool) (Opens : Shape → List ℕ → List ℕ → Type 0) (in
       mine = ap (λ (x : State). commits_of other x.history) begins;
     });
     refused = λ refusal _. absurd (false≢true refusal);
-  }) (call_cause (limits_of index p.store.shape) s t Begin (shows.dead ∙ alive) (free_outside s t un none) refl refl Fine refl) (λ failed. absurd (false≢true failed)) (λ _. refl) step (λ told. stays p.store.moment p.store.left_since _) safe_new (inr (λ told _. shows_tied index p new (ap (λ (x : State). x.index) begins ∙ shows.indexed) (tied_new told)))
+  }) (plain_cause (limits_of index p.store.shape p.store.depth) s t Begin (shows.dead ∙ alive) (free_outside s t un none) refl Fine refl) (λ failed. absurd (false≢true failed)) (λ _. refl) step (λ told. stays p.store.moment p.store.left_since _) safe_new (inr (λ told _. shows_tied index p new (ap (λ (x : State). x.index) begins ∙ shows.indexed) (tied_new told)))
 
--- a call of the table outside of a transaction
-absent_at : (limits : Limits) (s : State) (t : ℕ) (call : TableCall) → StepAt limits None s t (call_of call) NoTransaction s
-absent_at limits s t (table_call.Get name key) = (refl, refl)
-absent_at limits s t _ = (refl, refl)
-
-pub is_absent_at : (limits : Limits) (s : State) (t : ℕ) (asked : TableCall) (call : Call) → call_of asked ≡ call → StepAt limits None s t call NoTransaction s
-is_absent_at limits s t asked call said = subst (λ (c : Call). StepAt limits None s t c NoTransaction s) said (absent_at limits s t asked)
-
+-- a call outside of a transaction
 pub absent_steps : (tells : Bool) (Opens : Shape → List ℕ → List ℕ → Type 0) (index : below.Index) (p : PagesView) (s : State) → ShowsPages index p s → (count : ℕ) (rows : List NamedRows) → IsKept tells Opens index p count rows s
-    → IsAlive p.store → (t : ℕ) (call : Call) → s.live t ≡ None → s.offers t ≡ unoffered → StepAt (limits_of index p.store.shape) None s t call NoTransaction s → (new : State) → new ≡ s
+    → IsAlive p.store → (t : ℕ) (call : Call) → s.live t ≡ None → s.offers t ≡ unoffered → StepAt (limits_of index p.store.shape p.store.depth) None s t call NoTransaction s → (new : State) → new ≡ s
     → Steps tells t call (core_over Opens index p.store s) (core_over Opens index p.store new) NoTransaction
-absent_steps tells Opens index p s shows count rows kept alive t call none un at new same = steps_same tells Opens index p s new t call NoTransaction same kept.safe refl refl refl (absent_cause (limits_of index p.store.shape) s t call (shows.dead ∙ alive) none un s at) (λ told.
-    step_of (limits_of index p.store.shape) None s s t call NoTransaction (shows.dead ∙ alive) none un at)
+absent_steps tells Opens index p s shows count rows kept alive t call none un at new same = steps_same tells Opens index p s new t call NoTransaction same kept.safe refl refl refl (absent_cause (limits_of index p.store.shape p.store.depth) s t call (shows.dead ∙ alive) none un s at) (λ told.
+    step_of (limits_of index p.store.shape p.store.depth) None s s t call NoTransaction (shows.dead ∙ alive) none un at)

@@ -20,7 +20,9 @@ use Rattle.history.specs.Groups.{AreWhole}
 use Rattle.history.specs.Legal.{records}
 use Rattle.history.specs.Log.{Log, log_of}
 use Rattle.history.specs.declared.call.Call.{Call}
-use Rattle.history.specs.declared.call.Call.TheVariants.{Begin, Get, Put, Del, Scan, Save, Back, Commit, Abort, Offer, Settle, Purge}
+use Rattle.history.specs.declared.call.Call.TheVariants.{Table as OnTable}
+use Rattle.history.specs.declared.call.TableCall.{TableCall}
+use Rattle.history.specs.declared.call.TableCall.TheVariants.{Get, Put, Del, Scan, Save, Back}
 use Rattle.history.specs.declared.call.Reply.{Reply}
 use Rattle.history.specs.declared.call.Reply.TheVariants.{Fine}
 use Rattle.history.specs.declared.call.Reply.TheVariants as reply
@@ -47,7 +49,7 @@ use Rattle.record_table.specs.Calls.{Replies}
 use Rattle.mars_core.specs.Works.{HasSaves}
 use Rattle.caller_steps.proofs.Sound.{history_whole}
 use Rattle.mars_core.proofs.Indexing.{slot_after}
-use Rattle.mars_core.proofs.Mirroring.{IsOfTable, has_save_is, saves_are, has_saves}
+use Rattle.mars_core.proofs.Mirroring.{has_save_is, saves_are, has_saves}
 use Rattle.mars_core.proofs.Rooming.{has_entry, entry_is}
 use Rattle.mars_core.proofs.Entering.{Enters, Returns}
 use Rattle.mars_core.proofs.Prefixes.{prefix_all, opens_tied}
@@ -84,41 +86,20 @@ pub media_none : (r : Reply) → is_refusal r ≡ false → is_media r ≡ false
 media_none reply.Media e = absurd (cc)
 media_none _ e = refl
 
-live_with_is : (calls : Granted) (call : Call) (answer : Reply) → IsOfTable call → live_with calls call answer ≡ Some (calls ++ (call, answer) ∷ [])
-live_with_is calls Commit answer of = absurd of
-live_with_is calls Abort answer of = absurd of
-live_with_is calls Offer answer of = absurd of
-live_with_is calls Settle answer of = absurd of
-live_with_is calls Purge answer of = absurd of
-live_with_is calls Begin answer of = absurd of
-live_with_is calls _ answer of = refl
-
--- it leaves no offer
-offer_with_is : (call : Call) → IsOfTable call → offer_with call ≡ unoffered
-offer_with_is Offer of = absurd of
-offer_with_is _ of = refl
-
--- it is done within a transaction that takes calls
-pub may_table : (s : State) (t : ℕ) (call : Call) → IsOfTable call → may_do s t call ≡ takes_calls s t
-may_table s t Begin of = absurd of
-may_table s t Settle of = absurd of
-may_table s t Purge of = absurd of
-may_table s t _ of = refl
-
 -- what a granted call moves
-pub moves_granted : (callers : ℕ) (s new : State) (t : ℕ) (calls : Granted) (call : Call) (answer : Reply) → new.names ≡ s.names → new.base ≡ s.base → new.history ≡ s.history → new.is_dead ≡ s.is_dead
+pub moves_granted : (callers : ℕ) (s new : State) (t : ℕ) (calls : Granted) (call : TableCall) (answer : Reply) → new.names ≡ s.names → new.base ≡ s.base → new.history ≡ s.history → new.is_dead ≡ s.is_dead
     → new.offers ≡ s.offers → s.offers t ≡ unoffered
-    → s.live t ≡ Some calls → new.live ≡ update nat_eq s.live t (Some (calls ++ (call, answer) ∷ [])) → IsOfTable call → is_refusal answer ≡ false → is_committed answer ≡ false → Moves callers s t call answer new
-moves_granted callers s new t calls call answer names base history dead offers un is live of granted plain = record {
+    → s.live t ≡ Some calls → new.live ≡ update nat_eq s.live t (Some (calls ++ (call, answer) ∷ [])) → is_refusal answer ≡ false → is_committed answer ≡ false → Moves callers s t (OnTable call) answer new
+moves_granted callers s new t calls call answer names base history dead offers un is live granted plain = record {
   names = names;
   base = base;
-  history = history ∙ sym (cond-false (is_committed answer) (s.history ++ committed_by callers s t call) s.history plain);
+  history = history ∙ sym (cond-false (is_committed answer) (s.history ++ committed_by callers s t (OnTable call)) s.history plain);
   dead = dead ∙ sym (ap (λ (b : Bool). s.is_dead || b) (media_none answer granted) ∙ or_false s.is_dead);
-  able = λ _. may_table s t call of ∙ takes_within s t calls un is;
+  able = λ _. takes_within s t calls un is;
   own = λ _. (
     ap (λ (f : ℕ → Option Granted). f t) live ∙ update_here s.live t (Some (calls ++ (call, answer) ∷ []))
-        ∙ sym (ap (λ (o : Option Granted). live_with (unwrap_or o []) call answer) is ∙ live_with_is calls call answer of),
-    ap (λ (f : ℕ → state.Offer). f t) offers ∙ un ∙ sym (offer_with_is call of),
+        ∙ sym (ap (λ (o : Option Granted). live_with (unwrap_or o []) (OnTable call) answer) is),
+    ap (λ (f : ℕ → state.Offer). f t) offers ∙ un,
   );
   others = λ other ne. inl (record {
     live = ap (λ (f : ℕ → Option Granted). f other) live ∙ update_apart s.live t (Some (calls ++ (call, answer) ∷ [])) other ne;
@@ -135,19 +116,18 @@ step_of limits calls s new t call answer alive is un at =
     (subst (λ (o : state.Offer). StepBy limits o s t call answer new) (sym un) (subst (λ (o : Option Granted). StepAt limits o s t call answer new) (sym is) at))
 
 -- the caller sees the saves that its call needs
-abbrev pub SavesAt : State → ℕ → Call → Type 0
+abbrev pub SavesAt : State → ℕ → TableCall → Type 0
 SavesAt s t Save = length (view_of s t).saves < most_saves
 SavesAt s t (Back n) = IsTrue (has_save (view_of s t).saves n)
 SavesAt s t _ = Unit {0}
 
-pub asks_at : (limits : Limits) (calls : Granted) (s new : State) (t : ℕ) (call : Call) (answer : Reply) → IsOfTable call → has_table s.names call ≡ true → SavesAt s t call → Asks limits calls s t call answer new → StepAt limits (Some calls) s t call answer new
-asks_at limits calls s new t (Get name key) answer of there saves asks = inr (there, asks)
-asks_at limits calls s new t (Put name key value) answer of there saves asks = inr (there, asks)
-asks_at limits calls s new t (Del name key) answer of there saves asks = inr (there, asks)
-asks_at limits calls s new t (Scan name low high) answer of there saves asks = inr (there, asks)
-asks_at limits calls s new t Save answer of there saves asks = inr (saves, asks)
-asks_at limits calls s new t (Back n) answer of there saves asks = inr (saves, asks)
-asks_at limits calls s new t _ answer of there saves asks = absurd of
+pub asks_at : (limits : Limits) (calls : Granted) (s new : State) (t : ℕ) (call : TableCall) (answer : Reply) → has_table s.names call ≡ true → SavesAt s t call → Asks limits calls s t call answer new → StepAt limits (Some calls) s t (OnTable call) answer new
+asks_at limits calls s new t (Get name key) answer there saves asks = inr (there, asks)
+asks_at limits calls s new t (Put name key value) answer there saves asks = inr (there, asks)
+asks_at limits calls s new t (Del name key) answer there saves asks = inr (there, asks)
+asks_at limits calls s new t (Scan name low high) answer there saves asks = inr (there, asks)
+asks_at limits calls s new t Save answer there saves asks = inr (saves, asks)
+asks_at limits calls s new t (Back n) answer there saves asks = inr (saves, asks)
 
 -- while the store is not dead, its data shows the state
 pub shows_tied : (index : below.Index) (q : PagesView) (new : State) → new.index ≡ index_of index q.store.state.bytes → IsTied index q new → ShowsAll index new
@@ -161,8 +141,8 @@ shows_tied index q new indexed tied =
     }
 
 -- what the data of a state says is what it shows
-shown_by : (index : below.Index) (shape : Shape) (s : State) → ShowsAll index s → IsShown (limits_of index shape) s
-shown_by index shape s shows = record { names = shows.names; table = shows.table; index = sym shows.keys }
+shown_by : (index : below.Index) (shape : Shape) (depth : ℕ) (s : State) → ShowsAll index s → IsShown (limits_of index shape depth) s
+shown_by index shape depth s shows = record { names = shows.names; table = shows.table; index = sym shows.keys }
 
 -- a call that leaves the state as it was, or one that its data shows
 abbrev LeavesShown : Bool → below.Index → State → State → Type 0
@@ -173,24 +153,24 @@ module _ (tells : Bool) (index : below.Index) where
   stays_so s new told (inl same) alive was = subst (ShowsAll index) (sym same) (was (ap (λ (x : State). x.is_dead) (sym same) ∙ alive))
   stays_so s new told (inr now) alive was = now told alive
 
-  stays_shown : (shape : Shape) (s new : State) → IsTrue tells → LeavesShown tells index s new → IsFalse new.is_dead → IsShown (limits_of index shape) s → IsShown (limits_of index shape) new
-  stays_shown shape s new told (inl same) alive was = subst (IsShown (limits_of index shape)) (sym same) was
-  stays_shown shape s new told (inr now) alive was = shown_by index shape new (now told alive)
+  stays_shown : (shape : Shape) (depth : ℕ) (s new : State) → IsTrue tells → LeavesShown tells index s new → IsFalse new.is_dead → IsShown (limits_of index shape depth) s → IsShown (limits_of index shape depth) new
+  stays_shown shape depth s new told (inl same) alive was = subst (IsShown (limits_of index shape depth)) (sym same) was
+  stays_shown shape depth s new told (inr now) alive was = shown_by index shape depth new (now told alive)
 
 module _ (tells : Bool) (Opens : Shape → List ℕ → List ℕ → Type 0) (index : below.Index) where
-  pub steps_of : (p q : PagesView) (s new : State) (t : ℕ) (call : Call) (answer : Reply) → q.store.shape ≡ p.store.shape → Moves p.store.shape.numbers s t call answer new → ReplyCause (limits_of index p.store.shape) s t call answer
-      → (IsTrue (is_media answer) → Rose p.store.faults q.store.faults) → (IsFalse (is_media answer) → q.store.faults ≡ p.store.faults) → (IsTrue tells → Acts (limits_of index p.store.shape) s t call answer new)
+  pub steps_of : (p q : PagesView) (s new : State) (t : ℕ) (call : Call) (answer : Reply) → q.store.shape ≡ p.store.shape → q.store.depth ≡ p.store.depth → Moves p.store.shape.numbers s t call answer new → ReplyCause (limits_of index p.store.shape p.store.depth) s t call answer
+      → (IsTrue (is_media answer) → Rose p.store.faults q.store.faults) → (IsFalse (is_media answer) → q.store.faults ≡ p.store.faults) → (IsTrue tells → Acts (limits_of index p.store.shape p.store.depth) s t call answer new)
       → (IsTrue tells → LeavesOnly (HasPrefixOf (OpensWithTables (Opens q.store.shape) index new.names) new (length s.history)) p.store q.store)
       → (IsTrue tells → IsSafe (core_over Opens index q.store new) q.store.moment (length new.history)) → LeavesShown tells index s new
       → Steps tells t call (core_over Opens index p.store s) (core_over Opens index q.store new) answer
-  steps_of p q s new t call answer shape moves cause failed kept step time now shown = record {
-    limits = ap (limits_of index) shape;
+  steps_of p q s new t call answer shape depth moves cause failed kept step time now shown = record {
+    limits = λ i. limits_of index (shape i) (depth i);
     opens = λ image table opens. subst (λ (x : Shape × List (List ℕ)). OpensWithTables (Opens x.0) index x.1 image table) (λ i. (sym shape i, sym moves.names i)) opens;
     moves = moves;
     cause = cause;
     failed = failed;
     kept = kept;
-    step = λ told. record { acts = step told; shown = λ alive was. stays_shown tells index p.store.shape s new told shown alive was };
+    step = λ told. record { acts = step told; shown = λ alive was. stays_shown tells index p.store.shape p.store.depth s new told shown alive was };
     time = time;
     now = now;
     shows = λ state. (λ x. x, λ x. x);
@@ -199,11 +179,11 @@ module _ (tells : Bool) (Opens : Shape → List ℕ → List ℕ → Type 0) (in
 
   -- a refusal that leaves everything as it was
   pub steps_same : (p : PagesView) (s new : State) (t : ℕ) (call : Call) (answer : Reply) → new ≡ s → (IsTrue tells → IsSafe (core_over Opens index p.store s) p.store.moment (length s.history))
-      → is_refusal answer ≡ true → is_media answer ≡ false → is_committed answer ≡ false → ReplyCause (limits_of index p.store.shape) s t call answer → (IsTrue tells → Acts (limits_of index p.store.shape) s t call answer s)
+      → is_refusal answer ≡ true → is_media answer ≡ false → is_committed answer ≡ false → ReplyCause (limits_of index p.store.shape p.store.depth) s t call answer → (IsTrue tells → Acts (limits_of index p.store.shape p.store.depth) s t call answer s)
       → Steps tells t call (core_over Opens index p.store s) (core_over Opens index p.store new) answer
   steps_same p s new t call answer same safe refusal no_media plain cause step =
       subst (λ (x : State). Steps tells t call (core_over Opens index p.store s) (core_over Opens index p.store x) answer) (sym same)
-      (steps_of p p s s t call answer refl (moves_refused p.store.shape.numbers s s t call answer refl refl refl refl refl (sym (ap (λ (b : Bool). s.is_dead || b) no_media ∙ or_false s.is_dead)) refusal plain) cause
+      (steps_of p p s s t call answer refl refl (moves_refused p.store.shape.numbers s s t call answer refl refl refl refl refl (sym (ap (λ (b : Bool). s.is_dead || b) no_media ∙ or_false s.is_dead)) refusal plain) cause
       (λ failed. absurd (false≢true (sym no_media ∙ failed))) (λ _. refl) step (λ told. stays p.store.moment p.store.left_since _) safe (inl refl))
 
   -- what a loss of power leaves within a call that does not change the table
@@ -231,28 +211,28 @@ counts_is index p t = length-map _ (shown.writes_of p.store.state.bytes) ∙ len
 module _ (index : below.Index) (table : ℕ) (p : PagesView) (s : State) (shows : ShowsPages index p s) (mirrors : Mirrors (state_of index p) s)
     (held : (t g : ℕ) → held_on p t g ≡ length (filter (is_write_on p.store.shape (pairs_of index p.store.state.bytes) g) ((state_of index p).logs t).writes)) (t : ℕ) (right : IsRight (records_of s) (calls_of s t)) where
   -- the saves that a call finds are its caller's
-  pub saves_at : (call : Call) → HasSaves (length ((state_of index p).logs t).saved) call → SavesAt s t call
+  pub saves_at : (call : TableCall) → HasSaves (length ((state_of index p).logs t).saved) call → SavesAt s t call
   saves_at Save saves = subst (λ (n : ℕ). n < 32) (saves_are (state_of index p) s mirrors t right) saves
   saves_at (Back n) saves = has_saves (state_of index p) s mirrors t right n ∙ has_save_is ((state_of index p).logs t).saved n saves.0 saves.1
   saves_at _ saves = tt
 
-  pub returns_at : (calls : Granted) → calls_of s t ≡ calls → (call : Call) → HasSaves (length ((state_of index p).logs t).saved) call → Returns (log_of calls).saved call
+  pub returns_at : (calls : Granted) → calls_of s t ≡ calls → (call : TableCall) → HasSaves (length ((state_of index p).logs t).saved) call → Returns (log_of calls).saved call
   returns_at calls at (Back n) saves =
       subst (λ (ls : List (List Write)). has_save ls n ≡ true) (ap (λ (l : Log). l.saved) (mirrors.logs t) ∙ ap (λ (cs : Granted). (log_of cs).saved) at) (has_save_is ((state_of index p).logs t).saved n saves.0 saves.1)
   returns_at calls at (Get name key) saves = tt
   returns_at calls at _ saves = tt
 
   -- if a call writes, it finds an entry
-  pub enters_at : (call : Call) (answer : Reply) (ix : Index) → IsOfTable call → table_causes.Fits index table p t call → Replies (state_of index p) t call answer
-      → Indexes (limits_of index p.store.shape) call answer s.index ix → Enters (limits_of index p.store.shape) s t ix call answer
-  enters_at (Put name key value) answer ix of fits replies indexes =
-      let after = slot_after (limits_of index p.store.shape) (of_table name key) (s.index.slot_of (of_table name key)) s.index ix refl (subst (λ (r : Reply). IndexesAt (limits_of index p.store.shape) (of_table name key) (s.index.slot_of (of_table name key)) r s.index ix) replies indexes) in
-      (after.0, after.1, subst (λ (slot : ℕ). HasEntry (limits_of index p.store.shape) s t (of_table name key) slot) (sym after.2) (entry_is index table p s shows.indexed mirrors held t right (Put name key value) of fits))
-  enters_at (Del name key) answer ix of fits replies indexes = subst (Enters (limits_of index p.store.shape) s t ix (Del name key)) (sym replies) (go (get (seen_by (state_of index p) t) (of_table name key)) refl)
+  pub enters_at : (call : TableCall) (answer : Reply) (ix : Index) → table_causes.Fits index table p t (OnTable call) → Replies (state_of index p) t (OnTable call) answer
+      → Indexes (limits_of index p.store.shape p.store.depth) call answer s.index ix → Enters (limits_of index p.store.shape p.store.depth) s t ix call answer
+  enters_at (Put name key value) answer ix fits replies indexes =
+      let after = slot_after (limits_of index p.store.shape p.store.depth) (of_table name key) (s.index.slot_of (of_table name key)) s.index ix refl (subst (λ (r : Reply). IndexesAt (limits_of index p.store.shape p.store.depth) (of_table name key) (s.index.slot_of (of_table name key)) r s.index ix) replies indexes) in
+      (after.0, after.1, subst (λ (slot : ℕ). HasEntry (limits_of index p.store.shape p.store.depth) s t (of_table name key) slot) (sym after.2) (entry_is index table p s shows.indexed mirrors held t right (Put name key value) fits))
+  enters_at (Del name key) answer ix fits replies indexes = subst (Enters (limits_of index p.store.shape p.store.depth) s t ix (Del name key)) (sym replies) (go (get (seen_by (state_of index p) t) (of_table name key)) refl)
     where
-      go : (o : Option (List ℕ)) → get (seen_by (state_of index p) t) (of_table name key) ≡ o → Enters (limits_of index p.store.shape) s t ix (Del name key) (removed o)
+      go : (o : Option (List ℕ)) → get (seen_by (state_of index p) t) (of_table name key) ≡ o → Enters (limits_of index p.store.shape p.store.depth) s t ix (Del name key) (removed o)
       go None none = tt
       go (Some value) some =
           let at = fits (ap is_some some) in
           (at.0, ap (λ (x : Index). x.slot_of (of_table name key)) (indexes ∙ shows.indexed) ∙ at.1, has_entry index table p s shows.indexed mirrors held t (of_table name key) at.0 at.2)
-  enters_at _ answer ix of fits replies indexes = tt
+  enters_at _ answer ix fits replies indexes = tt

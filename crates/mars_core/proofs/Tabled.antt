@@ -114,6 +114,7 @@ module _ (tells : Bool) (Opens : Shape → List ℕ → List ℕ → Type 0) (in
   pub made_table : (result : Result ℕ MakeFault) → Makes tells (Opens q.store.shape) index name q r result → MakesTable tells (Opens p.store.shape) index name p.store r.store result
   made_table result makes = record {
     shape = shape result makes;
+    depth = makes.depth ∙ attached.looks.depth;
     mirrors = sent_then tells p.store q.store r.store attached.looks.mirrors makes.mirrors;
     sound = attached.sound;
     cause = moved_cause tells name p.store q.store attached.alive still.0 attached.looks.shape (λ told. bytes result makes told) result makes.cause;

@@ -9,6 +9,7 @@ use Rattle.history.specs.Writes.{Table}
 use Rattle.history.specs.Rows.{NamedRows}
 use Rattle.history.specs.Table.{Granted}
 use Rattle.history.specs.declared.call.Call.TheVariants as call
+use Rattle.history.specs.declared.call.Control.TheVariants as control
 use Rattle.history.specs.declared.call.Reply.TheVariants.{Committed, NoMemory}
 use Rattle.history.specs.declared.call.Reply.TheVariants as reply
 use Rattle.history.specs.declared.transaction.Done.{Done}
@@ -98,7 +99,7 @@ module _ (tells : Bool) (Opens : Shape → List ℕ → List ℕ → Type 0) (in
       group_keeps = settled_keeps tells Opens index one p q old_laws new_laws s after shows (record { indexed = refl; dead = refl }) (given.names ∙ all.names) refl (length old.places) (length new.places) (given.count ∙ all.count) rows kept alive t has inside
           (does_all (Ok tt) is) live offers all.group refl
 
-      pub group_steps : (n : ℕ) → offers_in mid t ≡ unsettled n → Steps tells t call.Settle (core_over Opens index p.store s) (core_over Opens index q.store after) (Committed n)
+      pub group_steps : (n : ℕ) → offers_in mid t ≡ unsettled n → Steps tells t (call.Control control.Settle) (core_over Opens index p.store s) (core_over Opens index q.store after) (Committed n)
       group_steps n number = settled_steps tells Opens index one p q old_laws new_laws s after shows (record { indexed = refl; dead = refl }) (given.names ∙ all.names) refl (length old.places) (length new.places) (given.count ∙ all.count) rows kept alive t has inside
           (does_all (Ok tt) is) live offers all.group refl n (same_number n (number_among (length history + 1) os t) (sym number ∙ (in_group mid longer ends).1))
 
@@ -118,6 +119,6 @@ module _ (tells : Bool) (Opens : Shape → List ℕ → List ℕ → Type 0) (in
       doubt_keeps = lost_keeps tells Opens index one p q old_laws new_laws s left shows (record { indexed = refl; dead = refl }) lost.names refl (length old.places) (length new.places) lost.count rows kept alive t has inside
           (does_all (Err fault.Media) is) lost.live lost.offers refl lost.group due_all
 
-      pub doubt_steps : Steps tells t call.Settle (core_over Opens index p.store s) (core_over Opens index q.store left) reply.Media
+      pub doubt_steps : Steps tells t (call.Control control.Settle) (core_over Opens index p.store s) (core_over Opens index q.store left) reply.Media
       doubt_steps = lost_steps tells Opens index one p q old_laws new_laws s left shows (record { indexed = refl; dead = refl }) lost.names refl (length old.places) (length new.places) lost.count rows kept alive t has inside
           (does_all (Err fault.Media) is) lost.live lost.offers refl lost.group due_all

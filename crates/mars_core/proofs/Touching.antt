@@ -12,8 +12,8 @@ use Rattle.history.specs.declared.locks.Mode.TheVariants.{Shared, Exclusive}
 use Rattle.history.specs.Key.{of_table}
 use Rattle.history.specs.declared.key.Key.{Key}
 use Rattle.history.specs.Locks.{Touch, key_stripe, stripe_of, touches, touched, is_touch, clash}
-use Rattle.history.specs.declared.call.Call.{Call}
-use Rattle.history.specs.declared.call.Call.TheVariants.{Get, Put, Del, Scan}
+use Rattle.history.specs.declared.call.TableCall.{TableCall}
+use Rattle.history.specs.declared.call.TableCall.TheVariants.{Get, Put, Del, Scan}
 use Rattle.history.specs.declared.call.Reply.{Reply}
 use Rattle.history.proofs.OneMore.{touched-push}
 use Rattle.mars_core.specs.declared.masks.Masks.{Masks}
@@ -155,6 +155,6 @@ clash_word one other word true are none some = zero_word (λ stripe. clash (one 
 clash_word one other word false are none some = some_bit (λ stripe. clash (one stripe) (other stripe)) word are (some refl)
 
 -- one more call adds its masks
-pub masks-push : (names : List (List ℕ)) (calls : Granted) (masks : Masks) (call : Call) (reply : Reply) → AreMasksOf (λ stripe mode. touched names calls stripe mode || touches names call stripe mode) masks
+pub masks-push : (names : List (List ℕ)) (calls : Granted) (masks : Masks) (call : TableCall) (reply : Reply) → AreMasksOf (λ stripe mode. touched names calls stripe mode || touches names call stripe mode) masks
     → AreMasksOf (touched names (calls ++ (call, reply) ∷ [])) masks
 masks-push names calls masks call reply are = subst (λ (t : ℕ → Touch). AreMasksOf t masks) (λ i stripe. sym (touched-push names calls call reply stripe) i) are

@@ -11,8 +11,8 @@ use Rattle.history.specs.declared.locks.Mode.TheVariants.{Shared, Exclusive}
 use Rattle.history.specs.Log.{Log, save_at, floor_of, written, log_after, log_of}
 use Rattle.history.specs.Table.{Granted, has_save}
 use Rattle.history.specs.Writes.{Write, is_of, replaced, with_write}
-use Rattle.history.specs.declared.call.Call.{Call}
-use Rattle.history.specs.declared.call.Call.TheVariants.{Put, Del, Save, Back}
+use Rattle.history.specs.declared.call.TableCall.{TableCall}
+use Rattle.history.specs.declared.call.TableCall.TheVariants.{Put, Del, Save, Back}
 use Rattle.history.specs.declared.call.Reply.{Reply}
 use Rattle.history.specs.declared.call.Reply.TheVariants.{Fine}
 
@@ -84,7 +84,7 @@ module _ (names : List (List ℕ)) (key : Key) where
   back true log n spared = record { now = spared-at (n - 1) log.saved spared.saved; saved = spared-take n log.saved spared.saved }
   back false log n spared = spared
 
-  after : (log : Log) (call : Call) (reply : Reply) → touches names call (key_stripe names key) Exclusive ≡ false → IsSpared log → IsSpared (log_after log call reply)
+  after : (log : Log) (call : TableCall) (reply : Reply) → touches names call (key_stripe names key) Exclusive ≡ false → IsSpared log → IsSpared (log_after log call reply)
   after log (Put name other value) reply none spared = wrote log (of_table name other, Some value) (apart_of (of_table name other) none) spared
   after log (Del name other) Fine none spared = wrote log (of_table name other, None) (apart_of (of_table name other) none) spared
   after log Save reply none spared = record { now = spared.now; saved = spared-append log.saved log.writes spared.saved spared.now }

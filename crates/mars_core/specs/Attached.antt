@@ -40,6 +40,7 @@ is_failed (Ok value) = false
 -- The store is as it was, unless the medium failed. Whatever a loss of power might have left meanwhile opens with the data that it had.
 pub record LeftAsItWas (tells : Bool) (Opens : List ℕ → List ℕ → Type 0) (failed : Bool) (old new : StoreView) : Type 0 where
   pub shape : new.shape ≡ old.shape
+  pub depth : new.depth ≡ old.depth
   pub kept : IsFalse failed → (new.is_dead ≡ old.is_dead) × (new.faults ≡ old.faults)
   pub unwritten : IsTrue tells → IsFalse failed → new.state.bytes ≡ old.state.bytes
   pub dies : IsTrue failed → (new.is_dead ≡ true) × Rose old.faults new.faults
@@ -50,6 +51,7 @@ pub record LeftAsItWas (tells : Bool) (Opens : List ℕ → List ℕ → Type 0)
 -- have left meanwhile opens with that data, or, if the medium failed, with the same in version 2.
 pub record GivesBack (tells : Bool) (Opens : List ℕ → List ℕ → Type 0) (failed : Bool) (old new : StoreView) : Type 0 where
   pub shape : new.shape ≡ old.shape
+  pub depth : new.depth ≡ old.depth
   pub kept : IsFalse failed → (new.is_dead ≡ old.is_dead) × (new.faults ≡ old.faults)
   pub unwritten : IsTrue tells → IsFalse failed → new.state.bytes ≡ old.state.bytes
   pub dies : IsTrue failed → (new.is_dead ≡ true) × Rose old.faults new.faults

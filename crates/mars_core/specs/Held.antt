@@ -41,7 +41,7 @@ state_over index store held = state_at index store held.seats.names (table_of he
 -- a core in this state over a store
 abbrev pub core_over : (Shape → List ℕ → List ℕ → Type 0) → Index → StoreView → State → CoreView
 core_over Opens index store state = record {
-  limits = limits_of index store.shape;
+  limits = limits_of index store.shape store.depth;
   state = state;
   shows = ShowsAll index;
   faults = store.faults;

@@ -41,7 +41,7 @@ pub record IsTied (index : Index) (pages : PagesView) (state : State) : Type 0 w
   pub named : state.names ≡ names_of pages.store.state.bytes
   pub mirrors : Mirrors (state_of index pages) state
   pub sound : IsSound state
-  pub room : HasHeld (limits_of index pages.store.shape) state
+  pub room : HasHeld (limits_of index pages.store.shape pages.store.depth) state
 
 -- There is a seat for each number. The rows at the opening are those of a table. A caller without a live transaction has nothing logged, and the
 -- saves of each are counted, over any store. What the records show is tied to the state. Whatever may be left now opens with the whole history.

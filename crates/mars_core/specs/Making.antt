@@ -24,6 +24,7 @@ OpensWithName Opens index name bytes image = OpensNamed Opens index image (names
 -- version 2, byte for byte.
 pub record MakesTable (tells : Bool) (Opens : List ℕ → List ℕ → Type 0) (index : Index) (name : List ℕ) (old new : StoreView) (result : Result ℕ MakeFault) : Type 0 where
   pub shape : new.shape ≡ old.shape
+  pub depth : new.depth ≡ old.depth
   pub sound : IsTrue tells → index.sound old.state.bytes
   pub cause : MakeCause tells name old result
   pub kept : IsFalse (is_make_failed result) → (new.is_dead ≡ old.is_dead) × (new.faults ≡ old.faults)

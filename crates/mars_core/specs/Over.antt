@@ -70,14 +70,15 @@ index_of index bytes = index_with (names_of bytes) bytes (keys_of index bytes)
 abbrev pub said_in : Index → List ℕ → Said
 said_in index bytes = record { names = names_of bytes; table = table_of index bytes; index = index_of index bytes }
 
--- the limits of an array of this shape, under an index
-abbrev pub limits_of : Index → Shape → Limits
-limits_of index shape = record {
+-- the limits of an array of this shape, where so many commits may wait for their write-back, under an index
+abbrev pub limits_of : Index → Shape → ℕ → Limits
+limits_of index shape depth = record {
   callers = shape.numbers;
   slots = slots_of shape;
   index_pages = index_pages_of shape;
   loggers = shape.loggers;
   entries = shape.entries;
+  depth = depth;
   logger_of = logger_of_slot shape;
   keeps = keeps_in index;
   actions = actions_for index shape;
@@ -108,7 +109,7 @@ LeavesView index store state caller =
 -- The core shows its store. While the store is not dead, its data is a sound index with the records of the history, and what is logged over it
 -- leaves each caller's view.
 pub record IsOver (tells : Bool) (Opens : List ℕ → List ℕ → Type 0) (index : Index) (store : StoreView) (core : CoreView) : Type 0 where
-  pub limits : core.limits ≡ limits_of index store.shape
+  pub limits : core.limits ≡ limits_of index store.shape store.depth
   pub faults : core.faults ≡ store.faults
   pub moment : core.moment ≡ store.moment
   pub left : (since : ℕ) (image : List ℕ) → (store.left_since since image → core.left_since since image) × (core.left_since since image → store.left_since since image)
@@ -128,6 +129,7 @@ pub record Begins (tells : Bool) (Opens : List ℕ → List ℕ → Type 0) (ind
   pub alive : IsAlive new
   pub faults : new.faults ≡ old.faults
   pub shape : new.shape ≡ old.shape
+  pub depth : new.depth ≡ old.depth
   pub state : IsTrue tells → core.state ≡ opened (names_of old.state.bytes) (table_of index old.state.bytes) (index_of index (upgraded old.state.bytes))
   pub fresh : (core.state.history ≡ []) × ((caller : ℕ) → core.state.live caller ≡ None) × (core.state.doubt ≡ []) × ((caller : ℕ) → core.state.offers caller ≡ unoffered)
   pub sound : IsTrue tells → index.sound old.state.bytes

@@ -7,7 +7,7 @@ use Rattle.eaw_face.specs.Causes.{IsAlive}
 use Rattle.history.specs.declared.key.Key.{Key}
 use Rattle.history.specs.Locks.{Meets}
 use Rattle.history.specs.Log.{log_of}
-use Rattle.history.specs.declared.call.Call.TheVariants.{Del}
+use Rattle.history.specs.declared.call.TableCall.TheVariants.{Del}
 use Rattle.page_store.specs.Index.{Index, slots_of}
 use Rattle.page_store.specs.Shown.{PagesView}
 use Rattle.record_slots.specs.Places.{version_of, used_slots, tables_of}
@@ -101,6 +101,7 @@ ClearCause tells (Err fault) = ⊥
 -- One key of the table with this number was tried. Records, writes and saves are as they were, and so is all that a purge rests on.
 pub record Tries (tells : Bool) (Opens : List ℕ → List ℕ → Type 0) (index : Index) (seats : Seats) (table : ℕ) (key : Key) (old new : PagesView) (result : Result Bool TableFault) : Type 0 where
   pub shape : new.store.shape ≡ old.store.shape
+  pub depth : new.store.depth ≡ old.store.depth
   pub cause : ClearCause tells result
   pub faults : IsFalse (is_failed result) → (new.store.is_dead ≡ old.store.is_dead) × (new.store.faults ≡ old.store.faults)
   pub dies : IsTrue (is_failed result) → (new.store.is_dead ≡ true) × Rose old.store.faults new.store.faults
@@ -120,6 +121,7 @@ pub record Tries (tells : Bool) (Opens : List ℕ → List ℕ → Type 0) (inde
 -- were, and all that a purge rests on is so still.
 pub record Clears (tells : Bool) (Opens : List ℕ → List ℕ → Type 0) (index : Index) (seats : Seats) (t : ℕ) (Passed : Key → Type 0) (old new : PagesView) (result : Result ℕ TableFault) : Type 0 where
   pub shape : new.store.shape ≡ old.store.shape
+  pub depth : new.store.depth ≡ old.store.depth
   pub cause : ClearCause tells result
   pub faults : IsFalse (is_failed result) → (new.store.is_dead ≡ old.store.is_dead) × (new.store.faults ≡ old.store.faults)
   pub dies : IsTrue (is_failed result) → (new.store.is_dead ≡ true) × Rose old.store.faults new.store.faults

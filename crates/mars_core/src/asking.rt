@@ -7,16 +7,15 @@ ghost use Rattle.caller_steps.specs.Locked.{IsFree};
 ghost use Rattle.mars_core.specs.declared.locks.Locks.TheVariants.{Held};
 ghost use Rattle.record_table.specs.Names.{KeepsNames, names_of};
 ghost use Rattle.mars_core.specs.Seats.{bare, IsMasked};
-ghost use Rattle.mars_core.specs.TableCall.{call_of, number_for};
+ghost use Rattle.mars_core.specs.TableCall.{number_for};
 ghost use Rattle.mars_core.specs.Works.{Works, HasSaves, IsSaveRefusal, Unmade, Made};
 
 use crate::live::Live;
 use crate::locks::Locks;
 use crate::replies::{found, removed};
 use crate::seats::Seats;
-use crate::table_call::TableCall;
 use eaw_face::EawStore;
-use history::{Call, Reply};
+use history::{Reply, TableCall};
 use noted::{Keeper, LiveCalls};
 use page_store::KeyIndex;
 use record_table::{Records, TableFault};
@@ -26,18 +25,18 @@ use std::alloc::Global;
 const MOST_SAVES: u32 = 32;
 
 // The refusal of a call because of the saves of its transaction, of which there are this many.
-pub fn refused_save(saves: u32, call: &Call) -> Option<Reply>
-    ensures refused { IfSome result (IsSaveRefusal saves call.now) }
-    ensures has { IfNone result (HasSaves saves call.now) }
+pub fn refused_save(saves: u32, asked: &TableCall) -> Option<Reply>
+    ensures refused { IfSome result (IsSaveRefusal saves asked.now) }
+    ensures has { IfNone result (HasSaves saves asked.now) }
 {
-    match call {
-        Call::Save => {
+    match asked {
+        TableCall::Save => {
             if saves >= MOST_SAVES {
                 return Some(Reply::SavesFull);
             }
             None
         }
-        Call::Back { save } => {
+        TableCall::Back { save } => {
             if *save == 0 || *save > saves {
                 return Some(Reply::NoSave { save: *save });
             }
@@ -53,17 +52,17 @@ pub fn work<S: EawStore, K: KeyIndex>(
     records: &mut Records<S, K>,
     tid: u8,
     table: u8,
-    asked: TableCall<'_>,
+    asked: &TableCall,
 ) -> Result<Reply, TableFault>
     requires tid { tid < (S.view records.old.store).shape.numbers }
     requires table { table < 8 }
-    requires asked { IsTrue S.tells → IsAlive (S.view records.old.store) → number_for (names_of (S.view records.old.store).state.bytes) (call_of asked) ≡ Some table }
-    requires saves { HasSaves (length (counts_in records.old.marks tid)) (call_of asked) }
-    ensures works { Works S.tells (S.opens (S.view records.old.store).shape) K.index table tid (call_of asked.entry)
+    requires asked { IsTrue S.tells → IsAlive (S.view records.old.store) → number_for (names_of (S.view records.old.store).state.bytes) asked.now ≡ Some table }
+    requires saves { HasSaves (length (counts_in records.old.marks tid)) asked.now }
+    ensures works { Works S.tells (S.opens (S.view records.old.store).shape) K.index table tid asked.now
         (pages_of (S.view records.old.store) records.old) (pages_of (S.view records.new.store) records.new) result }
 {
     match asked {
-        TableCall::Get { table: _, key } => match records.get(tid, table, key) {
+        TableCall::Get { table: _, key } => match records.get(tid, table, *key) {
             Ok(value) => Ok(found(&value)),
             Err(fault) => Err(fault),
         },
@@ -71,11 +70,11 @@ pub fn work<S: EawStore, K: KeyIndex>(
             table: _,
             key,
             value,
-        } => match records.put(tid, table, key, *value) {
+        } => match records.put(tid, table, *key, *value) {
             Ok(()) => Ok(Reply::Fine),
             Err(fault) => Err(fault),
         },
-        TableCall::Del { table: _, key } => match records.del(tid, table, key) {
+        TableCall::Del { table: _, key } => match records.del(tid, table, *key) {
             Ok(was) => Ok(removed(was)),
             Err(fault) => Err(fault),
         },
@@ -83,7 +82,7 @@ pub fn work<S: EawStore, K: KeyIndex>(
             table: _,
             low,
             high,
-        } => match records.scan(alloc, tid, table, low, high) {
+        } => match records.scan(alloc, tid, table, *low, *high) {
             Ok(rows) => Ok(Reply::Listed(rows)),
             Err(fault) => Err(fault),
         },
@@ -91,40 +90,38 @@ pub fn work<S: EawStore, K: KeyIndex>(
             Ok(n) => Ok(Reply::Saved(n)),
             Err(fault) => Err(fault),
         },
-        TableCall::Back { save } => match records.back(tid, save) {
+        TableCall::Back { save } => match records.back(tid, *save) {
             Ok(()) => Ok(Reply::Fine),
             Err(fault) => Err(fault),
         },
     }
 }
 
-/// Answers a call of a live transaction, which comes back, with the call if it was granted. `asked` is what the call asks of the records,
-/// and `seats` has the transactions of the others, which are not asked for locks if none of them is known to stand in the way.
+/// Answers a call of a live transaction, which comes back, with the call if it was granted. `seats` has the transactions of the others,
+/// which are not asked for locks if none of them is known to stand in the way.
 pub fn answer<S: EawStore, K: KeyIndex, H: Keeper>(
     alloc: Global,
     records: &mut Records<S, K>,
     seats: &Seats<H>,
     caller: u8,
     live: Live<LiveCalls<H>>,
-    call: &Call,
-    asked: TableCall<'_>,
+    asked: &TableCall,
     locks: Locks,
 ) -> (Live<LiveCalls<H>>, Reply)
-    requires said { call_of asked ≡ call.now }
     requires inside { caller < (S.view records.old.store).shape.numbers }
     requires few { length seats.now.places ≤ 64 }
     requires named { KeepsNames S.tells (pages_of (S.view records.old.store) records.old) seats.now.names }
     requires masked { IsMasked seats.now.names live }
-    requires locked { locks ≡ Held → IsTrue (has_table seats.now.names call.now) → IsFree (bare seats.now) caller call.now }
-    ensures answered { ((records.new ≡ records.old) × (result.0.calls ≡ live.calls) × Unmade (length (counts_in records.old.marks caller)) seats.now caller call.now result.1)
-        ⊎ Made S.tells (S.opens (S.view records.old.store).shape) K.index (length (counts_in records.old.marks caller)) seats.now caller live.calls call.now
+    requires locked { locks ≡ Held → IsTrue (has_table seats.now.names asked.now) → IsFree (bare seats.now) caller asked.now }
+    ensures answered { ((records.new ≡ records.old) × (result.0.calls ≡ live.calls) × Unmade (length (counts_in records.old.marks caller)) seats.now caller asked.now result.1)
+        ⊎ Made S.tells (S.opens (S.view records.old.store).shape) K.index (length (counts_in records.old.marks caller)) seats.now caller live.calls asked.now
         (pages_of (S.view records.old.store) records.old) (pages_of (S.view records.new.store) records.new) result.0.calls result.1 }
     ensures masked { IsMasked seats.now.names result.0 }
 {
-    if let Some(refusal) = refused_save(records.saves(caller), call) {
+    if let Some(refusal) = refused_save(records.saves(caller), asked) {
         return (live, refusal);
     }
-    let Some(table) = seats.number_for(call) else {
+    let Some(table) = seats.number_for(asked) else {
         return (live, Reply::NoTable);
     };
     let Live { calls, masks } = live;
@@ -133,7 +130,7 @@ pub fn answer<S: EawStore, K: KeyIndex, H: Keeper>(
         Ok(calls) => calls,
         Err(calls) => return (Live { calls, masks }, Reply::NoMemory),
     };
-    let touches = match seats.stripes_for(locks, caller, table, call) {
+    let touches = match seats.stripes_for(locks, caller, table, asked) {
         Ok(touches) => touches,
         Err(holder) => {
             let calls = calls.into_calls();
@@ -141,7 +138,7 @@ pub fn answer<S: EawStore, K: KeyIndex, H: Keeper>(
         }
     };
     match work(alloc, records, caller, table, asked) {
-        Ok(reply) => match calls.push(call, &reply) {
+        Ok(reply) => match calls.push(asked, &reply) {
             Ok(calls) => {
                 let masks = masks.merged(touches);
                 (Live { calls, masks }, reply)

@@ -17,7 +17,6 @@ mod reading;
 mod replies;
 mod seat;
 mod seats;
-mod table_call;
 mod turns;
 
 pub use fault::CoreFault;

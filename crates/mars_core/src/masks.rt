@@ -4,7 +4,7 @@ ghost use Rattle.history.specs.Locks.{Touch, stripe_of, touches, clash};
 ghost use Rattle.mars_core.specs.Masks.{AreMasksOf};
 ghost use Rattle.mars_core.specs.TableCall.{number_for};
 
-use history::{Call, stripe_of};
+use history::{TableCall, stripe_of};
 
 /// A bit for each stripe that is touched for reading, and for each that is touched for writing.
 #[derive(Clone, Copy)]
@@ -25,30 +25,24 @@ impl Masks {
 
     /// What a call touches that asks for the table with this number. A name that no table has counts as that of one table more. A scan
     /// touches all stripes.
-    pub fn touched_by(table: u8, call: &Call) -> Masks
-        ensures { (names : List (List ℕ)) → unwrap_or (number_for names call.now) (length names) ≡ table → AreMasksOf (touches names call.now) result }
+    pub fn touched_by(table: u8, asked: &TableCall) -> Masks
+        ensures { (names : List (List ℕ)) → unwrap_or (number_for names asked.now) (length names) ≡ table → AreMasksOf (touches names asked.now) result }
     {
-        match call {
-            Call::Get { table: _, key } => Masks::reading(key_mask(table, *key)),
-            Call::Scan {
+        match asked {
+            TableCall::Get { table: _, key } => Masks::reading(key_mask(table, *key)),
+            TableCall::Scan {
                 table: _,
                 low: _,
                 high: _,
             } => Masks::reading(u64::MAX),
-            Call::Put {
+            TableCall::Put {
                 table: _,
                 key,
                 value: _,
             } => Masks::writing(key_mask(table, *key)),
-            Call::Del { table: _, key } => Masks::writing(key_mask(table, *key)),
-            Call::Begin => Masks::none(),
-            Call::Save => Masks::none(),
-            Call::Back { save: _ } => Masks::none(),
-            Call::Commit => Masks::none(),
-            Call::Abort => Masks::none(),
-            Call::Offer => Masks::none(),
-            Call::Settle => Masks::none(),
-            Call::Purge => Masks::none(),
+            TableCall::Del { table: _, key } => Masks::writing(key_mask(table, *key)),
+            TableCall::Save => Masks::none(),
+            TableCall::Back { save: _ } => Masks::none(),
         }
     }
 

@@ -11,7 +11,7 @@ ghost use Rattle.mars_core.specs.Seats.{calls_at};
 use crate::masks::Masks;
 use crate::seats::Seats;
 use eaw_face::EawStore;
-use history::Call;
+use history::TableCall;
 use noted::Keeper;
 use page_store::KeyIndex;
 use record_slots::Name;
@@ -38,9 +38,9 @@ fn try_key<S: EawStore, K: KeyIndex, H: Keeper>(
     ensures tries { Tries S.tells (S.opens (S.view records.old.store).shape) K.index seats.now table (of_table name.now key)
         (pages_of (S.view records.old.store) records.old) (pages_of (S.view records.new.store) records.new) result }
 {
-    let call = Call::Del { table: *name, key };
-    let number = seats.number_for(&call).unwrap_or(seats.names().count());
-    match seats.holder(caller, Masks::touched_by(number, &call)) {
+    let asked = TableCall::Del { table: *name, key };
+    let number = seats.number_for(&asked).unwrap_or(seats.names().count());
+    match seats.holder(caller, Masks::touched_by(number, &asked)) {
         Some(_) => Ok(false),
         None => records.remove(caller, table, key),
     }

@@ -5,7 +5,7 @@ ghost use Rattle.caller_steps.specs.Locked.{IsFree, IsBusyWith};
 ghost use Rattle.caller_steps.specs.Offers.{is_offered};
 ghost use Rattle.caller_steps.specs.State.{State, unoffered, offered, unsettled};
 ghost use Rattle.history.specs.Locks.{touched, touches};
-ghost use Rattle.history.specs.declared.call.Call.{Call};
+ghost use Rattle.history.specs.declared.call.TableCall.{TableCall};
 ghost use Rattle.mars_core.specs.Masks.{AreMasksOf};
 ghost use Rattle.mars_core.specs.declared.locks.Locks.TheVariants.{Held};
 ghost use Rattle.mars_core.specs.Seats.{live_of, live_in, offer_in, offers_in, offered_in, calls_at, calls_in, IsMasked, Seated, Given, IsOf, Ends, bare};
@@ -17,7 +17,7 @@ use crate::masks::Masks;
 use crate::offer::Offer;
 use crate::seat::{Ending, Seat};
 use array_shape::NumberSet;
-use history::Call;
+use history::TableCall;
 use mars_base::NoMemory;
 use noted::{Dones, Keeper, LiveCalls};
 use record_slots::Names;
@@ -68,16 +68,16 @@ impl<H: Keeper> Seats<H> {
     }
 
     /// The number of the table that a call asks for, or 0 if it asks for none; `None` if there is no table of the name.
-    pub fn number_for(&self, call: &Call) -> Option<u8>
-        ensures number { result ≡ number_for self.now.names call.now }
+    pub fn number_for(&self, asked: &TableCall) -> Option<u8>
+        ensures number { result ≡ number_for self.now.names asked.now }
         ensures few { IfSome result (λ table. table < 8) }
     {
-        match call {
-            Call::Get { table, .. }
-            | Call::Put { table, .. }
-            | Call::Del { table, .. }
-            | Call::Scan { table, .. } => self.names.number(table),
-            _ => Some(0),
+        match asked {
+            TableCall::Get { table, .. }
+            | TableCall::Put { table, .. }
+            | TableCall::Del { table, .. }
+            | TableCall::Scan { table, .. } => self.names.number(table),
+            TableCall::Save | TableCall::Back { .. } => Some(0),
         }
     }
 
@@ -238,8 +238,8 @@ impl<H: Keeper> Seats<H> {
     /// The lowest other caller whose live transaction has touched one of these stripes, where one of the two touches is for writing.
     pub fn holder(&self, caller: u8, masks: Masks) -> Option<u8>
         requires { length self.now.places ≤ 64 }
-        ensures busy { (call : Call) → AreMasksOf (touches self.now.names call) masks → IfSome result (IsBusyWith (bare self.now) caller call) }
-        ensures free { (call : Call) → AreMasksOf (touches self.now.names call) masks → IfNone result (IsFree (bare self.now) caller call) }
+        ensures busy { (asked : TableCall) → AreMasksOf (touches self.now.names asked) masks → IfSome result (IsBusyWith (bare self.now) caller asked) }
+        ensures free { (asked : TableCall) → AreMasksOf (touches self.now.names asked) masks → IfNone result (IsFree (bare self.now) caller asked) }
     {
         for other in 0..self.places.len() as u8 {
             if other != caller && self.is_live(other) && masks.clash(self.touched(other)) {
@@ -251,15 +251,21 @@ impl<H: Keeper> Seats<H> {
 
     /// The stripes that a call of the table with this number touches, or the caller that stands in its way. Where none is known to, none is
     /// looked for.
-    pub fn stripes_for(&self, locks: Locks, caller: u8, table: u8, call: &Call) -> Result<Masks, u8>
+    pub fn stripes_for(
+        &self,
+        locks: Locks,
+        caller: u8,
+        table: u8,
+        asked: &TableCall,
+    ) -> Result<Masks, u8>
         requires few { length self.now.places ≤ 64 }
-        requires table { number_for self.now.names call.now ≡ Some table }
-        requires locked { locks ≡ Held → IsFree (bare self.now) caller call.now }
-        ensures touches { IfOk result (AreMasksOf (touches self.now.names call.now)) }
-        ensures free { OnOk result (IsFree (bare self.now) caller call.now) }
-        ensures busy { IfErr result (IsBusyWith (bare self.now) caller call.now) }
+        requires table { number_for self.now.names asked.now ≡ Some table }
+        requires locked { locks ≡ Held → IsFree (bare self.now) caller asked.now }
+        ensures touches { IfOk result (AreMasksOf (touches self.now.names asked.now)) }
+        ensures free { OnOk result (IsFree (bare self.now) caller asked.now) }
+        ensures busy { IfErr result (IsBusyWith (bare self.now) caller asked.now) }
     {
-        let masks = Masks::touched_by(table, call);
+        let masks = Masks::touched_by(table, asked);
         match locks {
             Locks::Asked => match self.holder(caller, masks) {
                 Some(holder) => Err(holder),

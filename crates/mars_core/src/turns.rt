@@ -6,13 +6,13 @@ ghost use Rattle.eaw_face.specs.Causes.{IsAlive};
 ghost use Rattle.eaw_face.specs.Mirroring.{Mirrors, GivesUp};
 ghost use Rattle.page_store.specs.Shown.{counts_in, pages_of};
 ghost use Rattle.history.specs.Locks.{touched, has_table};
-ghost use Rattle.history.specs.declared.call.Call.TheVariants as call;
-ghost use Rattle.history.specs.declared.call.Call.TheVariants.{Begin, Commit, Abort, Settle, Purge};
+ghost use Rattle.history.specs.declared.call.Call.TheVariants.{Begin, Table as OnTable, Control as Controls};
+ghost use Rattle.history.specs.declared.call.Control.TheVariants as control;
 ghost use Rattle.history.specs.declared.locks.Mode.TheVariants.{Shared, Exclusive};
 ghost use Rattle.history.specs.declared.call.Reply.TheVariants.{Dead};
 ghost use Rattle.caller_steps.specs.Core.{IsSafe, Steps};
 ghost use Rattle.caller_steps.specs.Fate.{is_busy, is_refusal};
-ghost use Rattle.caller_steps.specs.Locked.{IsLocked};
+ghost use Rattle.caller_steps.specs.Locked.{IsLocked, finds_table};
 ghost use Rattle.caller_steps.specs.Purging.{PurgeCause};
 ghost use Rattle.caller_steps.specs.Room as steps_room;
 ghost use Rattle.caller_steps.specs.State.{unoffered, offered, unsettled, calls_of};
@@ -25,7 +25,6 @@ ghost use Rattle.mars_core.specs.Held.{core_of};
 ghost use Rattle.mars_core.specs.Masks.{IsMaskOf};
 ghost use Rattle.mars_core.specs.Over.{Begins, IsOver, LeavesView};
 ghost use Rattle.mars_core.specs.Seats.{live_in, offers_in};
-ghost use Rattle.mars_core.specs.TableCall.{call_of};
 ghost use Rattle.mars_core.specs.Works.{IsShown};
 
 mod taped;
@@ -38,10 +37,9 @@ use crate::offer::Offer;
 use crate::purging::clear;
 use crate::seat::Ending;
 use crate::seats::Seats;
-use crate::table_call::{Asked, TableCall};
 use caller_steps::Core as Steps;
 use eaw_face::EawStore;
-use history::{Call, Done, Reply, Tables};
+use history::{Call, Control, Done, Reply, TableCall, Tables};
 use mars_base::NoMemory;
 use noted::{Base, Dones, Doubt, Keeper, NotedRows};
 use page_store::{KeyIndex, Pages, SaveRoom};
@@ -202,18 +200,17 @@ impl<S: EawStore, K: KeyIndex, H: Keeper> Core<S, K, H> {
 
     // Answers a call that the one-thread table answers. Meanwhile the transaction is out of its seat.
     #[tactic(auto, using(crate::proofs::GivingUp::sends_none))]
-    fn ask(&mut self, caller: u8, call: &Call, asked: TableCall<'_>, locks: Locks) -> Reply
-        requires said { call_of asked ≡ call.now }
+    fn ask(&mut self, caller: u8, asked: &TableCall, locks: Locks) -> Reply
         requires inside { caller < (S.view self.old.records.store).shape.numbers }
         requires alive { IsAlive (S.view self.old.records.store) }
         requires unoffered { offers_in self.old.seats caller ≡ unoffered }
         requires shown { IsShown S.tells K.index (pages_of (S.view self.old.records.store) self.old.records) }
-        requires locked { locks ≡ Held → IsLocked (core_of S.opens K.index (S.view self.old.records.store) self.old).state caller call.now }
-        ensures steps { Steps S.tells caller call.now (core_of S.opens K.index (S.view self.old.records.store) self.old)
+        requires locked { locks ≡ Held → IsLocked (core_of S.opens K.index (S.view self.old.records.store) self.old).state caller (OnTable asked.now) }
+        ensures steps { Steps S.tells caller (OnTable asked.now) (core_of S.opens K.index (S.view self.old.records.store) self.old)
             (core_of S.opens K.index (S.view self.new.records.store) self.new) result }
         ensures sends { Mirrors S.tells (S.view self.old.records.store) (S.view self.new.records.store) }
         ensures not_busy { locks ≡ Held → IsFalse (is_busy result) }
-        ensures tabled { IsFalse (is_refusal result) → IsTrue (has_table self.old.seats.names call.now) }
+        ensures tabled { IsFalse (is_refusal result) → IsTrue (has_table self.old.seats.names asked.now) }
     {
         let Some(live) = self.seats.take(caller) else {
             return Reply::NoTransaction;
@@ -224,7 +221,6 @@ impl<S: EawStore, K: KeyIndex, H: Keeper> Core<S, K, H> {
             &self.seats,
             caller,
             live,
-            call,
             asked,
             locks,
         );
@@ -237,7 +233,7 @@ impl<S: EawStore, K: KeyIndex, H: Keeper> Core<S, K, H> {
         requires inside { caller < (S.view self.old.records.store).shape.numbers }
         requires alive { IsAlive (S.view self.old.records.store) }
         requires unoffered { offers_in self.old.seats caller ≡ unoffered }
-        ensures steps { Steps S.tells caller Commit (core_of S.opens K.index (S.view self.old.records.store) self.old)
+        ensures steps { Steps S.tells caller (Controls control.Commit) (core_of S.opens K.index (S.view self.old.records.store) self.old)
             (core_of S.opens K.index (S.view self.new.records.store) self.new) result }
         ensures sends { Mirrors S.tells (S.view self.old.records.store) (S.view self.new.records.store) }
         ensures not_busy { IsFalse (is_busy result) }
@@ -272,7 +268,7 @@ impl<S: EawStore, K: KeyIndex, H: Keeper> Core<S, K, H> {
         requires inside { caller < (S.view self.old.records.store).shape.numbers }
         requires alive { IsAlive (S.view self.old.records.store) }
         requires unoffered { offers_in self.old.seats caller ≡ unoffered }
-        ensures steps { Steps S.tells caller Abort (core_of S.opens K.index (S.view self.old.records.store) self.old)
+        ensures steps { Steps S.tells caller (Controls control.Abort) (core_of S.opens K.index (S.view self.old.records.store) self.old)
             (core_of S.opens K.index (S.view self.new.records.store) self.new) result }
         ensures sends { Mirrors S.tells (S.view self.old.records.store) (S.view self.new.records.store) }
         ensures not_busy { IsFalse (is_busy result) }
@@ -295,7 +291,7 @@ impl<S: EawStore, K: KeyIndex, H: Keeper> Core<S, K, H> {
         requires inside { caller < (S.view self.old.records.store).shape.numbers }
         requires alive { IsAlive (S.view self.old.records.store) }
         requires unoffered { offers_in self.old.seats caller ≡ unoffered }
-        ensures steps { Steps S.tells caller call.Offer (core_of S.opens K.index (S.view self.old.records.store) self.old)
+        ensures steps { Steps S.tells caller (Controls control.Offer) (core_of S.opens K.index (S.view self.old.records.store) self.old)
             (core_of S.opens K.index (S.view self.new.records.store) self.new) result }
         ensures sends { Mirrors S.tells (S.view self.old.records.store) (S.view self.new.records.store) }
         ensures not_busy { IsFalse (is_busy result) }
@@ -314,7 +310,7 @@ impl<S: EawStore, K: KeyIndex, H: Keeper> Core<S, K, H> {
         requires inside { caller < (S.view self.old.records.store).shape.numbers }
         requires alive { IsAlive (S.view self.old.records.store) }
         requires unoffered { offers_in self.old.seats caller ≡ unoffered }
-        ensures steps { Steps S.tells caller Purge (core_of S.opens K.index (S.view self.old.records.store) self.old)
+        ensures steps { Steps S.tells caller (Controls control.Purge) (core_of S.opens K.index (S.view self.old.records.store) self.old)
             (core_of S.opens K.index (S.view self.new.records.store) self.new) result }
         ensures cause { PurgeCause (core_of S.opens K.index (S.view self.old.records.store) self.old).state caller result }
         ensures sends { Mirrors S.tells (S.view self.old.records.store) (S.view self.new.records.store) }
@@ -340,19 +336,21 @@ impl<S: EawStore, K: KeyIndex, H: Keeper> Core<S, K, H> {
         requires locked { locks ≡ Held → IsLocked (core_of S.opens K.index (S.view self.old.records.store) self.old).state caller call.now }
         ensures steps { Steps S.tells caller call.now (core_of S.opens K.index (S.view self.old.records.store) self.old)
             (core_of S.opens K.index (S.view self.new.records.store) self.new) result }
-        ensures purge { call.now ≡ Purge → PurgeCause (core_of S.opens K.index (S.view self.old.records.store) self.old).state caller result }
+        ensures purge { call.now ≡ Controls control.Purge → PurgeCause (core_of S.opens K.index (S.view self.old.records.store) self.old).state caller result }
         ensures sends { Mirrors S.tells (S.view self.old.records.store) (S.view self.new.records.store) }
         ensures not_busy { locks ≡ Held → IsFalse (is_busy result) }
-        ensures tabled { IsFalse (is_refusal result) → IsTrue (has_table self.old.seats.names call.now) }
+        ensures tabled { IsFalse (is_refusal result) → IsTrue (finds_table self.old.seats.names call.now) }
     {
-        match Asked::of(call) {
-            Asked::Begin => self.begin(caller),
-            Asked::Commit => self.commit(caller),
-            Asked::Abort => self.abort(caller),
-            Asked::Offer => self.offer(caller),
-            Asked::Settle => Reply::NoTransaction,
-            Asked::Purge => self.purge(caller),
-            Asked::Table(asked) => self.ask(caller, call, asked, locks),
+        match call {
+            Call::Begin => self.begin(caller),
+            Call::Table(asked) => self.ask(caller, asked, locks),
+            Call::Control(control) => match control {
+                Control::Commit => self.commit(caller),
+                Control::Abort => self.abort(caller),
+                Control::Offer => self.offer(caller),
+                Control::Settle => Reply::NoTransaction,
+                Control::Purge => self.purge(caller),
+            },
         }
     }
 
@@ -362,7 +360,7 @@ impl<S: EawStore, K: KeyIndex, H: Keeper> Core<S, K, H> {
         requires inside { caller < (S.view self.old.records.store).shape.numbers }
         requires alive { IsAlive (S.view self.old.records.store) }
         requires offered { offers_in self.old.seats caller ≡ offered }
-        ensures steps { Steps S.tells caller Settle (core_of S.opens K.index (S.view self.old.records.store) self.old)
+        ensures steps { Steps S.tells caller (Controls control.Settle) (core_of S.opens K.index (S.view self.old.records.store) self.old)
             (core_of S.opens K.index (S.view self.new.records.store) self.new) result }
         ensures sends { Mirrors S.tells (S.view self.old.records.store) (S.view self.new.records.store) }
         ensures not_busy { IsFalse (is_busy result) }
@@ -403,13 +401,16 @@ impl<S: EawStore, K: KeyIndex, H: Keeper> Core<S, K, H> {
             (core_of S.opens K.index (S.view self.new.records.store) self.new) result }
         ensures sends { Mirrors S.tells (S.view self.old.records.store) (S.view self.new.records.store) }
         ensures not_busy { IsFalse (is_busy result) }
-        ensures purge { call.now ≡ Purge → PurgeCause (core_of S.opens K.index (S.view self.old.records.store) self.old).state caller result }
+        ensures purge { call.now ≡ Controls control.Purge → PurgeCause (core_of S.opens K.index (S.view self.old.records.store) self.old).state caller result }
     {
         match call {
             Call::Begin => Reply::Already,
-            Call::Purge => Reply::Already,
-            Call::Settle => self.settle(caller),
-            _ => Reply::NoTransaction,
+            Call::Table(_) => Reply::NoTransaction,
+            Call::Control(control) => match control {
+                Control::Purge => Reply::Already,
+                Control::Settle => self.settle(caller),
+                _ => Reply::NoTransaction,
+            },
         }
     }
 
@@ -424,13 +425,16 @@ impl<S: EawStore, K: KeyIndex, H: Keeper> Core<S, K, H> {
             (core_of S.opens K.index (S.view self.new.records.store) self.new) result }
         ensures sends { Mirrors S.tells (S.view self.old.records.store) (S.view self.new.records.store) }
         ensures not_busy { IsFalse (is_busy result) }
-        ensures purge { call.now ≡ Purge → PurgeCause (core_of S.opens K.index (S.view self.old.records.store) self.old).state caller result }
+        ensures purge { call.now ≡ Controls control.Purge → PurgeCause (core_of S.opens K.index (S.view self.old.records.store) self.old).state caller result }
     {
         match call {
             Call::Begin => Reply::Already,
-            Call::Purge => Reply::Already,
-            Call::Settle => Reply::Committed(self.seats.settle(caller)),
-            _ => Reply::NoTransaction,
+            Call::Table(_) => Reply::NoTransaction,
+            Call::Control(control) => match control {
+                Control::Purge => Reply::Already,
+                Control::Settle => Reply::Committed(self.seats.settle(caller)),
+                _ => Reply::NoTransaction,
+            },
         }
     }
 
@@ -442,9 +446,9 @@ impl<S: EawStore, K: KeyIndex, H: Keeper> Core<S, K, H> {
             (core_of S.opens K.index (S.view self.new.records.store) self.new) result }
         ensures sends { Mirrors S.tells (S.view self.old.records.store) (S.view self.new.records.store) }
         ensures dead { IsTrue (S.view self.old.records.store).is_dead → (result ≡ Dead) × (self.new ≡ self.old) }
-        ensures purge { call.now ≡ Purge → PurgeCause (core_of S.opens K.index (S.view self.old.records.store) self.old).state caller result }
+        ensures purge { call.now ≡ Controls control.Purge → PurgeCause (core_of S.opens K.index (S.view self.old.records.store) self.old).state caller result }
         ensures not_busy { locks ≡ Held → IsFalse (is_busy result) }
-        ensures tabled { IsFalse (is_refusal result) → IsTrue (has_table self.old.seats.names call.now) }
+        ensures tabled { IsFalse (is_refusal result) → IsTrue (finds_table self.old.seats.names call.now) }
     {
         if self.records.is_dead() {
             return Reply::Dead;

@@ -7,8 +7,9 @@ use Rattle.std.specs.Int.{bit_at}
 use mathlib.Core.List.{append-nil}
 use Rattle.std.proofs.lemmas.List.Elements.{Contains-append_left, Contains-append_right, Contains-append_cases}
 use Rattle.history.specs.Locks.{has_table, touches, key_stripe, stripe_of}
-use Rattle.history.specs.declared.call.Call.{Call}
-use Rattle.history.specs.declared.call.Call.TheVariants.{Begin, Get, Put, Del, Scan, Save, Back, Commit, Abort, Offer, Settle, Purge}
+use Rattle.history.specs.declared.call.Call.TheVariants.{Table}
+use Rattle.history.specs.declared.call.TableCall.{TableCall}
+use Rattle.history.specs.declared.call.TableCall.TheVariants.{Get, Put, Del, Scan, Save, Back}
 use Rattle.std.proofs.lemmas.Bool.{lt-ltb, eq-eqb, and_from}
 use Rattle.history.specs.declared.locks.Mode.{Mode}
 use Rattle.history.specs.declared.locks.Mode.TheVariants as mode
@@ -71,47 +72,41 @@ refused_caused mode.Exclusive found n h met step is c r = ⊎_elim
     r.it_has
 
 -- a call that asks for no table that is there locks nothing
-pub locks_none : (names : List (List ℕ)) (call : Call) (t : ℕ) (m : Mode) → number_asked names call ≡ None → locks names call t m ≡ false
-locks_none names Begin t m none = refl
+pub locks_none : (names : List (List ℕ)) (call : TableCall) (t : ℕ) (m : Mode) → number_asked names call ≡ None → locks names (Table call) t m ≡ false
 locks_none names (Get name key) t m none = ap (λ (o : Option ℕ). is_some o && touches names (Get name key) t m) none
 locks_none names (Put name key value) t m none = ap (λ (o : Option ℕ). is_some o && touches names (Put name key value) t m) none
 locks_none names (Del name key) t m none = ap (λ (o : Option ℕ). is_some o && touches names (Del name key) t m) none
 locks_none names (Scan name low high) t m none = ap (λ (o : Option ℕ). is_some o && touches names (Scan name low high) t m) none
 locks_none names Save t m none = refl
 locks_none names (Back save) t m none = refl
-locks_none names Commit t m none = refl
-locks_none names Abort t m none = refl
-locks_none names Offer t m none = refl
-locks_none names Settle t m none = refl
-locks_none names Purge t m none = refl
 
 -- one of a table that is there locks the stripe of its key
 pub locks_key : (names : List (List ℕ)) (name : List ℕ) (key table : ℕ) → number_of names name ≡ Some table → (t : ℕ) → (is_some (number_of names name) && nat_eq (key_stripe names (of_table name key)) t) ≡ nat_eq (stripe_of table key) t
 locks_key names name key table is t = ap (λ (o : Option ℕ). is_some o && nat_eq (stripe_of (unwrap_or o (length names)) key) t) is
 
 -- so what each call locks of the stripe of its key
-pub locks_get : (names : List (List ℕ)) (call : Call) (name : List ℕ) (key table t : ℕ) → call ≡ Get name key → number_asked names call ≡ Some table → t ≡ stripe_of table key → locks names call t mode.Shared ≡ true
+pub locks_get : (names : List (List ℕ)) (call : TableCall) (name : List ℕ) (key table t : ℕ) → call ≡ Get name key → number_asked names call ≡ Some table → t ≡ stripe_of table key → locks names (Table call) t mode.Shared ≡ true
 locks_get names call name key table t is there at =
-    subst (λ (c : Call). number_asked names c ≡ Some table → locks names c t mode.Shared ≡ true) (sym is) (λ n. locks_key names name key table n t ∙ eq-eqb (stripe_of table key) t (sym at)) there
+    subst (λ (c : TableCall). number_asked names c ≡ Some table → locks names (Table c) t mode.Shared ≡ true) (sym is) (λ n. locks_key names name key table n t ∙ eq-eqb (stripe_of table key) t (sym at)) there
 
-pub locks_put : (names : List (List ℕ)) (call : Call) (name : List ℕ) (key : ℕ) (value : List ℕ) (table t : ℕ) → call ≡ Put name key value → number_asked names call ≡ Some table → t ≡ stripe_of table key → locks names call t mode.Exclusive ≡ true
+pub locks_put : (names : List (List ℕ)) (call : TableCall) (name : List ℕ) (key : ℕ) (value : List ℕ) (table t : ℕ) → call ≡ Put name key value → number_asked names call ≡ Some table → t ≡ stripe_of table key → locks names (Table call) t mode.Exclusive ≡ true
 locks_put names call name key value table t is there at =
-    subst (λ (c : Call). number_asked names c ≡ Some table → locks names c t mode.Exclusive ≡ true) (sym is) (λ n. locks_key names name key table n t ∙ eq-eqb (stripe_of table key) t (sym at)) there
+    subst (λ (c : TableCall). number_asked names c ≡ Some table → locks names (Table c) t mode.Exclusive ≡ true) (sym is) (λ n. locks_key names name key table n t ∙ eq-eqb (stripe_of table key) t (sym at)) there
 
-pub locks_del : (names : List (List ℕ)) (call : Call) (name : List ℕ) (key table t : ℕ) → call ≡ Del name key → number_asked names call ≡ Some table → t ≡ stripe_of table key → locks names call t mode.Exclusive ≡ true
+pub locks_del : (names : List (List ℕ)) (call : TableCall) (name : List ℕ) (key table t : ℕ) → call ≡ Del name key → number_asked names call ≡ Some table → t ≡ stripe_of table key → locks names (Table call) t mode.Exclusive ≡ true
 locks_del names call name key table t is there at =
-    subst (λ (c : Call). number_asked names c ≡ Some table → locks names c t mode.Exclusive ≡ true) (sym is) (λ n. locks_key names name key table n t ∙ eq-eqb (stripe_of table key) t (sym at)) there
+    subst (λ (c : TableCall). number_asked names c ≡ Some table → locks names (Table c) t mode.Exclusive ≡ true) (sym is) (λ n. locks_key names name key table n t ∙ eq-eqb (stripe_of table key) t (sym at)) there
 
-pub scan_there : (names : List (List ℕ)) (call : Call) (name : List ℕ) (low high table : ℕ) → call ≡ Scan name low high → number_asked names call ≡ Some table → has_table names call ≡ true
-scan_there names call name low high table is there = subst (λ (c : Call). number_asked names c ≡ Some table → has_table names c ≡ true) (sym is) (λ n. ap is_some n) there
+pub scan_there : (names : List (List ℕ)) (call : TableCall) (name : List ℕ) (low high table : ℕ) → call ≡ Scan name low high → number_asked names call ≡ Some table → has_table names call ≡ true
+scan_there names call name low high table is there = subst (λ (c : TableCall). number_asked names c ≡ Some table → has_table names c ≡ true) (sym is) (λ n. ap is_some n) there
 
 -- a step for a stripe that a call locks in this mode
-pub step_of : (names : List (List ℕ)) (call : Call) (asked : Mode) (t : ℕ) → locks names call t asked ≡ true → (step : Met) → IsStepFor asked t step → IsStepOf names call step
-step_of names call asked t touch step (same, up) = (asked, subst (λ i. locks names call i asked ≡ true) (sym same) touch, up)
+pub step_of : (names : List (List ℕ)) (call : TableCall) (asked : Mode) (t : ℕ) → locks names (Table call) t asked ≡ true → (step : Met) → IsStepFor asked t step → IsStepOf names (Table call) step
+step_of names call asked t touch step (same, up) = (asked, subst (λ i. locks names (Table call) i asked ≡ true) (sym same) touch, up)
 
 -- a step of a scan
-pub scan_step : (names : List (List ℕ)) (call : Call) (name : List ℕ) (low high : ℕ) → call ≡ Scan name low high → has_table names call ≡ true → (step : Met) → IsReadingBelow 64 step → IsStepOf names call step
-scan_step names call name low high is there step (less, up) = subst (λ (c : Call). IsStepOf names c step) (sym is)
+pub scan_step : (names : List (List ℕ)) (call : TableCall) (name : List ℕ) (low high : ℕ) → call ≡ Scan name low high → has_table names call ≡ true → (step : Met) → IsReadingBelow 64 step → IsStepOf names (Table call) step
+scan_step names call name low high is there step (less, up) = subst (λ (c : TableCall). IsStepOf names (Table c) step) (sym is)
     (mode.Shared, and_from (has_table names (Scan name low high)) (nat_lt step.stripe 64) (ap (has_table names) (sym is) ∙ there) (lt-ltb step.stripe 64 less), up)
 
 module _ {C : Type 0} where

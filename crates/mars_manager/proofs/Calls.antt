@@ -3,7 +3,6 @@ use Rattle.std.proofs.Common.{arith, ◌≡◌, ◌≢◌, ◌+◌, ◌<◌, ◌
 use mathlib.Core.List.{append-nil}
 use Rattle.std.specs.Prelude.{IsTrue, IsFalse, MatchBool}
 use Rattle.std.proofs.lemmas.Bool.{true≢false}
-use Rattle.history.specs.Table.{Granted}
 use Rattle.history.specs.declared.call.Call.{Call}
 use Rattle.history.specs.declared.call.Reply.{Reply}
 use Rattle.history.specs.declared.call.Reply.TheVariants.{Dead}
@@ -12,24 +11,24 @@ use Rattle.caller_steps.specs.State.{State}
 use Rattle.caller_steps.specs.Offers.{takes_calls}
 use Rattle.caller_steps.specs.Room.{Limits}
 use Rattle.caller_steps.specs.Fate.{Moves, is_committed, is_refusal, is_busy}
-use Rattle.history.specs.declared.call.Call.TheVariants.{Begin, Settle, Purge}
+use Rattle.history.specs.declared.call.Call.TheVariants.{Begin, Control}
+use Rattle.history.specs.declared.call.Control.TheVariants.{Settle, Purge}
 use Rattle.caller_steps.specs.Prefix.{Grows}
 use Rattle.caller_steps.specs.Purging.{PurgeCause}
 use Rattle.caller_steps.specs.Step.{Step}
 use Rattle.caller_steps.specs.Core.{CoreView, Steps}
-use Rattle.caller_steps.specs.Run.{Turn, Goes, AreOf, turns_of}
+use Rattle.caller_steps.specs.Run.{Turn, Heard, Goes, AreOf, turns_of}
 use Rattle.caller_steps.proofs.Able.{able_takes}
 use Rattle.caller_steps.proofs.Continuing.{grows_on, after_grows}
 use Rattle.caller_steps.proofs.Running.{last_here, turn_told, turn_grows}
 use Rattle.atomic_table.specs.Table.{rest}
 use Rattle.mars_manager.specs.declared.view.Known.{Known}
-use Rattle.mars_manager.specs.declared.view.Met.{Met}
 use Rattle.mars_manager.specs.declared.setup.Setup.{Setup}
 use Rattle.mars_manager.specs.Pass.{Fits, AllFit, names_of, own_by, waits_of, takes_of, finds, tried, told_of, times}
 use Rattle.mars_manager.specs.Locks.{with_locks, IsAgain, HasAfter}
 use Rattle.mars_manager.specs.Sharing.{CanShare, Since, Called, IsLegalIn, HasCommitted, HasSettled, SeesOwn, Commits}
 use Rattle.mars_manager.specs.Seat.{SeatOf, first_of, shared_view, Makes}
-use Rattle.history.specs.Locks.{has_table}
+use Rattle.caller_steps.specs.Locked.{finds_table}
 use Rattle.mars_manager.specs.Rule.{Face, shown, Took, Told}
 use Rattle.mars_manager.proofs.Past.{since_step}
 use Rattle.mars_manager.proofs.Waiting.{takes_own}
@@ -49,14 +48,14 @@ module _ {C : Type 0} (tells : Bool) (show : C → CoreView) (was : Known C) (ca
 
   -- and after it one more
   pub told_on : told_of now ≡ told_of was ++ (call, reply) ∷ []
-  told_on = ap told_of c.after ∙ last_here was.number call reply c.turns ∙ ap (λ (l : Granted). l ++ (call, reply) ∷ []) (sym told_was)
+  told_on = ap told_of c.after ∙ last_here was.number call reply c.turns ∙ ap (λ (l : Heard). l ++ (call, reply) ∷ []) (sym told_was)
 
 -- how often a pass has tried for the turn says nothing of its caller's transactions
 pub commits_tried : {C : Type 0} (tells : Bool) (was now : Known C) (call : Call) (reply : Reply) (n : ℕ) → Commits tells was call reply now → Commits tells was call reply (tried n now)
 commits_tried tells was now call reply n made = go (is_committed reply) (waits_of was) made
   where
-    go : (b w : Bool) → MatchBool b (MatchBool w (HasSettled tells was reply now) (call ≢ Settle → HasCommitted tells was reply now)) (SeesOwn was now)
-        → MatchBool b (MatchBool w (HasSettled tells was reply (tried n now)) (call ≢ Settle → HasCommitted tells was reply (tried n now))) (SeesOwn was (tried n now))
+    go : (b w : Bool) → MatchBool b (MatchBool w (HasSettled tells was reply now) (call ≢ Control Settle → HasCommitted tells was reply now)) (SeesOwn was now)
+        → MatchBool b (MatchBool w (HasSettled tells was reply (tried n now)) (call ≢ Control Settle → HasCommitted tells was reply (tried n now))) (SeesOwn was (tried n now))
     go true true s = record { at = s.at; last = s.last; before = s.before; mine = s.mine; seen = s.seen; told = s.told }
     go true false s = λ apart. let h = s apart in record { before = h.before; seen = h.seen; mine = h.mine; told = h.told }
     go false w s = s
@@ -71,7 +70,7 @@ module _ {C : Type 0} (f : Face C) where
   }
 
   pub moved : (setup : Setup C) (n : ℕ) (call : Call) (reply : Reply) (old new : C) → Steps f.tells n call (f.show old) (f.show new) reply → (IsTrue (f.show old).state.is_dead → (reply ≡ Dead) × (new ≡ old))
-      → (IsFalse (is_refusal reply) → IsTrue (has_table (f.show old).state.names call)) → Moved f setup n call reply old new
+      → (IsFalse (is_refusal reply) → IsTrue (finds_table (f.show old).state.names call)) → Moved f setup n call reply old new
   moved setup n call reply old new s dead tabled = record {
     tabled = tabled;
     grows = subst (λ h. Grows (f.show old).state.history h) (sym s.moves.history) (after_grows (f.show old).limits.callers (f.show old).state n call reply);
@@ -81,7 +80,7 @@ module _ {C : Type 0} (f : Face C) where
 
   module _ (setup : Setup C) (turns : List Turn) (old new : C) (k : Known C) (call : Call) (reply : Reply) (fit : Fits f.tells f.show setup turns (f.show old).state k)
       (s : Steps f.tells k.number call (f.show old) (f.show new) reply) (dead : IsTrue (f.show old).state.is_dead → (reply ≡ Dead) × (new ≡ old)) where
-    pub called : (call ≡ Purge → PurgeCause (f.show old).state k.number reply) → Since f.tells (f.show setup.first) (f.show old) → AreOf setup.callers turns → CanShare f.tells setup.callers (f.show setup.first)
+    pub called : (call ≡ Control Purge → PurgeCause (f.show old).state k.number reply) → Since f.tells (f.show setup.first) (f.show old) → AreOf setup.callers turns → CanShare f.tells setup.callers (f.show setup.first)
         → Called f.tells f.show k call reply (shown f call reply turns new (finds 0 k))
     called purge since whose ready = record {
       setup = setup;
@@ -130,15 +129,15 @@ module _ {C : Type 0} (f : Face C) where
         back ∙ ap F out_is ∙ ap (λ (m : SeatOf C). F (G m)) took.now ∙ (λ i. F (G (H (core_is m0 m1 core home took taken is i) (idle i))))
 
     module _ (n : ℕ) (call : Call) (reply : Reply) (number : k.number ≡ n) (steps : Steps f.tells n call (f.show core) (f.show new) reply) (dead : IsTrue (f.show core).state.is_dead → (reply ≡ Dead) × (new ≡ core))
-        (tabled : IsFalse (is_refusal reply) → IsTrue (has_table (f.show core).state.names call)) (sure : IsFalse (is_busy reply)) where
+        (tabled : IsFalse (is_refusal reply) → IsTrue (finds_table (f.show core).state.names call)) (sure : IsFalse (is_busy reply)) where
       steps_as : Steps f.tells k.number call (f.show core) (f.show new) reply
       steps_as = subst (λ n. Steps f.tells n call (f.show core) (f.show new) reply) (sym number) steps
 
       pub moves : (setup : Setup C) → Moved f setup k.number call reply core new
       moves setup = moved setup k.number call reply core new steps_as dead tabled
 
-      tabled_at : IsFalse (is_refusal reply) → IsTrue (has_table (names_of k) call)
-      tabled_at granted = subst (λ (names : List (List ℕ)). has_table names call ≡ true)
+      tabled_at : IsFalse (is_refusal reply) → IsTrue (finds_table (names_of k) call)
+      tabled_at granted = subst (λ (names : List (List ℕ)). finds_table names call ≡ true)
           (sym ((λ i. names_of (first_of (sym idle i).0.passes)) ∙ took.named ∙ ap (λ (c : C). (f.show c).state.names) (core_is m0 m1 core home took taken is))) (tabled granted)
 
       -- its caller is one of those of the core
@@ -147,7 +146,7 @@ module _ {C : Type 0} (f : Face C) where
           let there : (m : SeatOf C) → m ≡ (shared_view (k ∷ []) None, []) → 0 < times k.number m.0.passes = (λ m e. subst (λ (m : SeatOf C). 0 < times k.number m.0.passes) (sym e) (times_first k [])) in
           subst (λ (c : C). k.number < (f.show c).limits.callers) (core_is m0 m1 core home took taken is) (took.few k.number (there m0 idle))
 
-      begun_at : (setup : Setup C) (turns : List Turn) → Fits f.tells f.show setup turns (f.show core).state k → CanShare f.tells setup.callers (f.show setup.first) → (b : Bool) → (f.show core).state.is_dead ≡ b → IsFalse (is_refusal reply) → IsTrue (takes_of k) ⊎ ((call ≡ Begin) ⊎ ((call ≡ Settle) ⊎ (call ≡ Purge)))
+      begun_at : (setup : Setup C) (turns : List Turn) → Fits f.tells f.show setup turns (f.show core).state k → CanShare f.tells setup.callers (f.show setup.first) → (b : Bool) → (f.show core).state.is_dead ≡ b → IsFalse (is_refusal reply) → IsTrue (takes_of k) ⊎ ((call ≡ Begin) ⊎ ((call ≡ Control Settle) ⊎ (call ≡ Control Purge)))
       begun_at setup turns fit can true is granted = absurd (true≢false (sym (ap is_refusal (dead is).0) ∙ granted))
       begun_at setup turns fit can false is granted = ⊎_elim
           (λ (takes : IsTrue (takes_calls (f.show core).state n)). inl (takes_own k.number (own_by k) (f.show core).state (live_at f setup turns core k can fit is) (subst (λ (i : ℕ). takes_calls (f.show core).state i ≡ true) (sym number) takes)))
@@ -163,13 +162,13 @@ module _ {C : Type 0} (f : Face C) where
         told_seat = let F : SeatOf C → SeatOf C = λ m. (shared_view (map (shown f call reply record_of.turns new) m.0.passes) (Some new), m.1) in record_of.now ∙ ap F homed
 
         -- the seat once the turn is given back
-        pub made : (call ≡ Purge → PurgeCause (f.show core).state n reply) → (m5 : SeatOf C) → m5 ≡ (shared_view m4.0.passes None, []) → Makes f.tells f.show k call reply m5
+        pub made : (call ≡ Control Purge → PurgeCause (f.show core).state n reply) → (m5 : SeatOf C) → m5 ≡ (shared_view m4.0.passes None, []) → Makes f.tells f.show k call reply m5
         made purge m5 give =
             let t = record_of in
             let all = subst (λ (ks : List (Known C)). AllFit f.tells f.show t.setup t.turns (f.show core).state ks) (ap (λ (m : SeatOf C). m.0.passes) homed) t.fit in
             let fit : Fits f.tells f.show t.setup t.turns (f.show core).state k = fit_before f t.setup t.turns core 0 k all.0 in
             let F : SeatOf C → SeatOf C = λ m. (shared_view m.0.passes None, []) in
-            let cause : call ≡ Purge → PurgeCause (f.show core).state k.number reply = λ is. subst (λ (i : ℕ). PurgeCause (f.show core).state i reply) (sym number) (purge is) in
+            let cause : call ≡ Control Purge → PurgeCause (f.show core).state k.number reply = λ is. subst (λ (i : ℕ). PurgeCause (f.show core).state i reply) (sym number) (purge is) in
             let step = called t.setup t.turns core new k call reply fit steps_as dead cause t.since t.whose t.ready in record {
               now = shown f call reply t.turns new (finds 0 k);
               is = give ∙ ap F told_seat;
@@ -214,8 +213,8 @@ module _ {C : Type 0} (tells : Bool) (show : C → CoreView) (was last now : Kno
         after = c.after;
       }
 
-  commits_if : (b waits : Bool) → MatchBool b (MatchBool waits (HasSettled tells found reply now) (call ≢ Settle → HasCommitted tells found reply now)) (SeesOwn found now)
-      → MatchBool b (MatchBool waits (HasSettled tells was reply now) (call ≢ Settle → HasCommitted tells was reply now)) (SeesOwn was now)
+  commits_if : (b waits : Bool) → MatchBool b (MatchBool waits (HasSettled tells found reply now) (call ≢ Control Settle → HasCommitted tells found reply now)) (SeesOwn found now)
+      → MatchBool b (MatchBool waits (HasSettled tells was reply now) (call ≢ Control Settle → HasCommitted tells was reply now)) (SeesOwn was now)
   commits_if true true h = record { at = h.at; last = h.last; before = h.before; mine = h.mine; seen = h.seen; told = h.told }
   commits_if true false h = λ ne. (let c = h ne in record { before = c.before; seen = c.seen; mine = c.mine; told = c.told })
   commits_if false waits h = h

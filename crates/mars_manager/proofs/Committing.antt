@@ -4,7 +4,8 @@ use Rattle.std.specs.Prelude.{IsTrue, MatchBool, if◌then◌else◌}
 use mathlib.Core.List.{append-nil}
 use Rattle.std.proofs.lemmas.Bool.{true≢false, cond-true, cond-false}
 use Rattle.history.specs.declared.call.Call.{Call}
-use Rattle.history.specs.declared.call.Call.TheVariants.{Settle}
+use Rattle.history.specs.declared.call.Call.TheVariants.{Control}
+use Rattle.history.specs.declared.call.Control.TheVariants.{Settle}
 use Rattle.history.specs.declared.call.Reply.{Reply}
 use Rattle.history.specs.declared.call.Reply.TheVariants.{Committed, Dead}
 use Rattle.history.specs.declared.transaction.Done.{Done}
@@ -28,12 +29,12 @@ use Rattle.mars_manager.proofs.Waiting.{offered_closed, calls_open, calls_offere
 use Rattle.mars_manager.proofs.Turns.{live_at}
 
 -- any call but a settle commits its caller's transaction alone
-committed_alone : (callers : ℕ) (old : State) (caller : ℕ) (call : Call) → call ≢ Settle → committed_by callers old caller call ≡ done_by old caller (calls_of old caller) ∷ []
-committed_alone callers old caller Settle ne = absurd (ne refl)
+committed_alone : (callers : ℕ) (old : State) (caller : ℕ) (call : Call) → call ≢ Control Settle → committed_by callers old caller call ≡ done_by old caller (calls_of old caller) ∷ []
+committed_alone callers old caller (Control Settle) ne = absurd (ne refl)
 committed_alone callers old caller _ ne = refl
 
 -- and a settle what was offered
-committed_offered : (callers : ℕ) (old : State) (caller : ℕ) (call : Call) (offer : Offer) → call ≡ Settle → old.offers caller ≡ offer
+committed_offered : (callers : ℕ) (old : State) (caller : ℕ) (call : Call) (offer : Offer) → call ≡ Control Settle → old.offers caller ≡ offer
     → committed_by callers old caller call ≡ (if is_offered offer then group_in old (group_end old (offerers callers old)) (offerers callers old) else [])
 committed_offered callers old caller call offer is has = ap (committed_by callers old caller) is ∙ ap (λ (o : Offer). if is_offered o then group_in old (group_end old (offerers callers old)) (offerers callers old) else []) has
 
@@ -121,7 +122,7 @@ module _ {C : Type 0} (f : Face C) (setup : Setup C) (turns : List Turn) (old ne
     number_is told offer has = number_told callers was n call reply (f.show new).state is (step_fate (f.show old).limits was n (f.show new).state call reply (s.step told)) ∙ ap (λ (o : Offer). Committed (number_by callers was n o)) has
 
     -- a pass that waits has been answered to its settle
-    settles : (offer : Offer) → was.offers n ≡ offer → waits_of k ≡ true → is_unoffered offer ≡ false → call ≡ Settle
+    settles : (offer : Offer) → was.offers n ≡ offer → waits_of k ≡ true → is_unoffered offer ≡ false → call ≡ Control Settle
     settles offer has waits closed = able_closed was n call (ap is_unoffered has ∙ closed) (s.moves.able (done_if (is_refusal reply) refl))
       where
         done_if : (b : Bool) → is_refusal reply ≡ b → is_refusal reply ≡ false
@@ -198,7 +199,7 @@ module _ {C : Type 0} (f : Face C) (setup : Setup C) (turns : List Turn) (old ne
     abbrev done : Done
     done = done_by was n (calls_of was n)
 
-    committed : waits_of k ≡ false → call ≢ Settle → HasCommitted f.tells k reply now
+    committed : waits_of k ≡ false → call ≢ Control Settle → HasCommitted f.tells k reply now
     committed idle ne = go (seen_own f.tells f.show setup turns was k fit.last can)
       where
         seen : now.seen ≡ log ++ done ∷ []
@@ -219,11 +220,11 @@ module _ {C : Type 0} (f : Face C) (setup : Setup C) (turns : List Turn) (old ne
         }
         go (one_unseen waits at last un e) = absurd (true≢false (sym waits ∙ idle))
 
-    commits_if : (waits : Bool) → waits_of k ≡ waits → MatchBool waits (HasSettled f.tells k reply now) (call ≢ Settle → HasCommitted f.tells k reply now)
+    commits_if : (waits : Bool) → waits_of k ≡ waits → MatchBool waits (HasSettled f.tells k reply now) (call ≢ Control Settle → HasCommitted f.tells k reply now)
     commits_if true waits = settled waits
     commits_if false idle = committed idle
 
-  commits_at : (b : Bool) → is_committed reply ≡ b → MatchBool b (MatchBool (waits_of k) (HasSettled f.tells k reply now) (call ≢ Settle → HasCommitted f.tells k reply now)) (SeesOwn k now)
+  commits_at : (b : Bool) → is_committed reply ≡ b → MatchBool b (MatchBool (waits_of k) (HasSettled f.tells k reply now) (call ≢ Control Settle → HasCommitted f.tells k reply now)) (SeesOwn k now)
   commits_at true is = commits_if is (waits_of k) refl
   commits_at false none = sees f.tells f.show setup turns was k fit.last can now refl (ap (commits_of n) (s.moves.history ∙ cond-false (is_committed reply) (was.history ++ committed_by callers was n call) was.history none))
 

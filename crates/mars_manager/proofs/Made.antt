@@ -1,10 +1,10 @@
 -- What a call says that was made in a turn, whatever is given back after it, and one that was refused by the word of a stripe.
-use Rattle.std.proofs.Common.{◌≡◌, ℕ, ◌+◌, Bool, true, false, List, [], ◌∷◌, ◌++◌, inl, refl, sym, ap, ◌∙◌, subst, arith}
+use Rattle.std.proofs.Common.{◌≡◌, ℕ, ◌+◌, Bool, false, List, [], ◌∷◌, ◌++◌, inl, refl, sym, ap, ◌∙◌, subst, arith}
 use Rattle.std.specs.Prelude.{IsTrue, if◌then◌else◌}
 use Rattle.std.proofs.lemmas.Bool.{true≢false}
 use mathlib.Core.List.{append-nil}
 use Rattle.history.specs.Legal.{IsLegal}
-use Rattle.history.specs.Table.{Granted}
+use Rattle.caller_steps.specs.Run.{Heard}
 use Rattle.history.specs.declared.call.Call.{Call}
 use Rattle.history.specs.declared.call.Reply.{Reply}
 use Rattle.history.specs.declared.call.Reply.TheVariants.{Busy}
@@ -50,7 +50,7 @@ module _ {C : Type 0} where
       let before : told_of k1 ≡ told_of k = ap (λ (j : Known C). told_of j) r.same in
       let tries : k1.tries ≡ k.tries = ap (λ (j : Known C). j.tries) r.same in
       record {
-        told = ap (λ (j : Known C). told_of j) e ∙ m.told ∙ ap (λ (told : Granted). told ++ (call, reply) ∷ []) before ∙ ap (λ (one : Granted). told_of k ++ one) (sym (one_step call reply m.sure));
+        told = ap (λ (j : Known C). told_of j) e ∙ m.told ∙ ap (λ (told : Heard). told ++ (call, reply) ∷ []) before ∙ ap (λ (one : Heard). told_of k ++ one) (sym (one_step call reply m.sure));
         seen = subst (λ (p : List Done × List Done). Grows p.0 p.1) (λ i. (was i, seen i)) m.seen;
         legal = λ tells setup' is. subst (λ (history : List Done). IsLegal (show setup'.first).state.base history) seen (m.legal tells setup' (setup ∙ is));
         busy = in_nobodys_way call reply k k3 m.sure;

@@ -4,10 +4,13 @@ use Rattle.std.specs.Prelude.{IsTrue, IsFalse, IfOk, is_some, MatchBool, if◌th
 use Rattle.std.proofs.lemmas.Bool.{true≢false, false≢true}
 use mathlib.Core.List.{append-nil}
 use Rattle.history.specs.Table.{Granted}
-use Rattle.history.specs.Locks.{Touch, touches, touched}
+use Rattle.history.specs.Locks.{Touch, touched}
 use Rattle.history.specs.declared.call.Call.{Call}
-use Rattle.history.specs.declared.call.Call.TheVariants.{Begin, Get, Put, Del, Scan, Save, Back, Commit, Abort, Offer, Settle, Purge}
+use Rattle.history.specs.declared.call.Call.TheVariants.{Begin, Table, Control}
+use Rattle.history.specs.declared.call.TableCall.{TableCall}
+use Rattle.history.specs.declared.call.Control.TheVariants.{Commit, Abort, Offer, Settle, Purge}
 use Rattle.history.specs.declared.call.Reply.{Reply}
+use Rattle.history.specs.declared.locks.Mode.{Mode}
 use Rattle.history.specs.declared.locks.Mode.TheVariants as mode
 use Rattle.caller_steps.specs.Core.{CoreView}
 use Rattle.caller_steps.specs.Offers.{is_offered}
@@ -23,7 +26,7 @@ use Rattle.mars_manager.specs.Sharing.{Called, Commits, HasCommitted, HasSettled
 use Rattle.mars_manager.specs.Seat.{HasMade}
 use Rattle.mars_manager.proofs.Knowns.{below_raised, below_same}
 use Rattle.mars_manager.proofs.Waiting.{fold-push}
-use Rattle.mars_manager.proofs.Locked.{covered_with, covered_none}
+use Rattle.mars_manager.proofs.Locked.{touching, covered_with, covered_none}
 
 -- what a pass locks for a call covers the call
 raised_reads : (touch : Touch) (x : Hold) → touch mode.Shared ≡ true → granted (raised_for touch x) ≡ 1
@@ -47,17 +50,12 @@ raised_writes touch x e = go (touch mode.Exclusive) (touch mode.Shared) x e
 -- whether its transaction takes calls after a call that was done
 takes_with : (calls : Granted) (call : Call) (reply : Reply) → (not (is_offered (offer_with call)) && is_some (live_with calls call reply)) ≡ not (is_last call)
 takes_with calls Begin reply = refl
-takes_with calls (Get name key) reply = refl
-takes_with calls (Put name key value) reply = refl
-takes_with calls (Del name key) reply = refl
-takes_with calls (Scan name low high) reply = refl
-takes_with calls Save reply = refl
-takes_with calls (Back save) reply = refl
-takes_with calls Commit reply = refl
-takes_with calls Abort reply = refl
-takes_with calls Offer reply = refl
-takes_with calls Settle reply = refl
-takes_with calls Purge reply = refl
+takes_with calls (Table asked) reply = refl
+takes_with calls (Control Commit) reply = refl
+takes_with calls (Control Abort) reply = refl
+takes_with calls (Control Offer) reply = refl
+takes_with calls (Control Settle) reply = refl
+takes_with calls (Control Purge) reply = refl
 
 takes : (w : Bool) (o : Option Granted) (call : Call) (reply : Reply) → (not (waits_after w call reply) && is_some (live_after o call reply)) ≡ takes_after (not w && is_some o) call reply
 takes w o call reply = go (is_media reply) (is_commit call) (is_refusal reply)
@@ -78,7 +76,7 @@ takes w o call reply = go (is_media reply) (is_commit call) (is_refusal reply)
     go false commit false = takes_with (unwrap_or o []) call reply
 
 -- what covers a transaction before a call that is refused, or what it touches too, covers it after the call
-covered_live : (names : List (List ℕ)) (o : Option Granted) (call : Call) (reply : Reply) (hs : List Hold) → IsCovered (touched names (unwrap_or o [])) hs → (is_refusal reply ≡ false → IsCovered (touches names call) hs) → (media_ commit refused : Bool) → is_refusal reply ≡ refused
+covered_live : (names : List (List ℕ)) (o : Option Granted) (call : Call) (reply : Reply) (hs : List Hold) → IsCovered (touched names (unwrap_or o [])) hs → (is_refusal reply ≡ false → IsCovered (touching names call) hs) → (media_ commit refused : Bool) → is_refusal reply ≡ refused
     → IsCovered (touched names (unwrap_or (if media_ then (if commit then None else o) else (if refused then o else live_with (unwrap_or o []) call reply)) [])) hs
 covered_live names o call reply hs a b true true refused e = covered_none names hs
 covered_live names o call reply hs a b true false refused e = a
@@ -88,6 +86,12 @@ covered_live names o call reply hs a b false commit false e = covered_with names
 pub if_ok : {A B : Type 0} (P Q : A → Type 0) (r : Result A B) → ((a : A) → P a → Q a) → IfOk r P → IfOk r Q
 if_ok P Q (Ok a) h p = h a p
 if_ok P Q (Err b) h p = tt
+
+-- a call that is none on a table or on saves locks nothing
+pub no_locks : (names : List (List ℕ)) (call : Call) → ((asked : TableCall) → call ≡ Table asked → ⊥) → (t : ℕ) (m : Mode) → locks names call t m ≡ false
+no_locks names Begin apart t m = refl
+no_locks names (Table asked) apart t m = absurd (apart asked refl)
+no_locks names (Control control) apart t m = refl
 
 module _ {C : Type 0} where
   -- what one more turn says of its caller's transactions
@@ -101,7 +105,7 @@ module _ {C : Type 0} where
   pub takes_on : (was now : Known C) (call : Call) (reply : Reply) → now.number ≡ was.number → told_of now ≡ told_of was ++ (call, reply) ∷ [] → takes_of now ≡ takes_after (takes_of was) call reply
   takes_on was now call reply number told = ap (λ (o : Own). not o.waits && is_some o.live) (own_on was now call reply number told) ∙ takes (waits_of was) (live_of was) call reply
 
-  pub covered_on : (was now : Known C) (call : Call) (reply : Reply) (hs : List Hold) → now.number ≡ was.number → now.setup ≡ was.setup → told_of now ≡ told_of was ++ (call, reply) ∷ [] → IsCovered (touched_by was) hs → (is_refusal reply ≡ false → IsCovered (touches (names_of was) call) hs) → IsCovered (touched_by now) hs
+  pub covered_on : (was now : Known C) (call : Call) (reply : Reply) (hs : List Hold) → now.number ≡ was.number → now.setup ≡ was.setup → told_of now ≡ told_of was ++ (call, reply) ∷ [] → IsCovered (touched_by was) hs → (is_refusal reply ≡ false → IsCovered (touching (names_of was) call) hs) → IsCovered (touched_by now) hs
   covered_on was now call reply hs number setup told a b = subst (λ (p : List (List ℕ) × Option Granted). IsCovered (touched p.0 (unwrap_or p.1 [])) hs) (λ j. (names_in (sym setup j), sym (live_on was now call reply number told) j))
       (covered_live (names_of was) (live_of was) call reply hs a b (is_media reply) (is_commit call) (is_refusal reply) refl)
 
@@ -118,6 +122,13 @@ module _ {C : Type 0} where
     each = λ _ t. h.each t;
     idle = λ dead. absurd (true≢false (sym live ∙ dead));
     quiet = λ dead. absurd (true≢false (sym live ∙ dead));
+  }
+
+  pub unasked : (call : Call) (was : Known C) → ((t : ℕ) (m : Mode) → locks (names_of was) call t m ≡ false) → HasLockedFor call was was
+  unasked call was none = record {
+    more = [];
+    same = λ i. with_locks was.holds (sym (append-nil was.met) i) was;
+    each = λ t. sym ((λ i. if none t mode.Exclusive i then raised mode.Exclusive (hold_of t was) else if none t mode.Shared i then raised mode.Shared (hold_of t was) else hold_of t was));
   }
 
   pub unreadied : (call : Call) (was : Known C) → ((t : ℕ) → hold_of t was ≢ Trying) → IsFalse (takes_of was) → HasReadied call was was
@@ -164,8 +175,8 @@ module _ {C : Type 0} where
         k' : Known C
         k' = with_locks k1.holds (k.met ++ r.more) k
 
-        go : (b w : Bool) → MatchBool b (MatchBool w (HasSettled tells k' reply k2) (call ≢ Settle → HasCommitted tells k' reply k2)) (SeesOwn k' k2)
-            → MatchBool b (MatchBool w (HasSettled tells k reply (with_holds hs k2)) (call ≢ Settle → HasCommitted tells k reply (with_holds hs k2))) (SeesOwn k (with_holds hs k2))
+        go : (b w : Bool) → MatchBool b (MatchBool w (HasSettled tells k' reply k2) (call ≢ Control Settle → HasCommitted tells k' reply k2)) (SeesOwn k' k2)
+            → MatchBool b (MatchBool w (HasSettled tells k reply (with_holds hs k2)) (call ≢ Control Settle → HasCommitted tells k reply (with_holds hs k2))) (SeesOwn k (with_holds hs k2))
         go true true s = record { at = s.at; last = s.last; before = s.before; mine = s.mine; seen = s.seen; told = s.told }
         go true false s = λ apart. let h = s apart in record { before = h.before; seen = h.seen; mine = h.mine; told = h.told }
         go false w s = s
@@ -188,8 +199,8 @@ module _ {C : Type 0} where
         (⊎_elim
         (λ (begin : call ≡ Begin). ap (λ (c : Call). raised_for (locks (names_of k) c t) (hold_of t k)) begin)
         (⊎_elim
-        (λ (settle : call ≡ Settle). absurd (true≢false (sym (ap is_end settle) ∙ d)))
-        (λ (purge : call ≡ Purge). absurd (true≢false (sym (ap is_end purge) ∙ d)))))
+        (λ (settle : call ≡ Control Settle). absurd (true≢false (sym (ap is_end settle) ∙ d)))
+        (λ (purge : call ≡ Control Purge). absurd (true≢false (sym (ap is_end purge) ∙ d)))))
         (m.begun e))
 
     pub after_done : is_refusal reply ≡ false → is_end call ≡ false → HasAfter call reply k k2

@@ -5,12 +5,11 @@ use mathlib.Core.Option.{Option as Home, some, none, some-injective}
 use native.Mathlib.Decide.{dec_le, ℕ_discrete}
 use lib.ListN.{get_elem?}
 use prog.Atomic.{either}
-use Rattle.history.specs.Table.{Granted}
 use Rattle.history.specs.declared.call.Call.{Call}
 use Rattle.history.specs.declared.call.Reply.{Reply}
 use Rattle.caller_steps.specs.Room.{Limits}
 use Rattle.caller_steps.specs.Prefix.{Grows}
-use Rattle.caller_steps.specs.Run.{Turn, Goes}
+use Rattle.caller_steps.specs.Run.{Turn, Heard, Goes}
 use Rattle.caller_steps.proofs.Continuing.{grows_longer}
 use Rattle.caller_steps.proofs.Running.{turns_names, all_of_append, turns_one, turn_own, turn_other, turn_grows, turn_run, turn_told}
 use Rattle.atomic_table.specs.Table.{step, Act, keeps, takes, gives, stepped, Valid, carried_after, Allows}
@@ -28,7 +27,8 @@ use Rattle.mars_manager.proofs.Locked.{locked_same, locked_step, locked_granted}
 use Rattle.stripe_words.specs.declared.hold.Hold.{Hold}
 use Rattle.stripe_words.specs.declared.hold.Hold.TheVariants.{Free}
 use Rattle.stripe_words.specs.Words.{granted, locked}
-use Rattle.history.specs.Locks.{touched, has_table}
+use Rattle.history.specs.Locks.{touched}
+use Rattle.caller_steps.specs.Locked.{finds_table}
 use Rattle.history.specs.declared.locks.Mode.TheVariants as mode
 use Rattle.caller_steps.specs.State.{calls_of}
 use Rattle.caller_steps.specs.Offers.{takes_calls}
@@ -70,7 +70,7 @@ pub record Moved {C : Type 0} (f : Face C) (setup : Setup C) (n : ℕ) (call : C
   pub grows : Grows (f.show core).state.history (f.show new).state.history
   pub since : Since f.tells (f.show setup.first) (f.show core) → Since f.tells (f.show setup.first) (f.show new)
   pub goes : Since f.tells (f.show setup.first) (f.show core) → Goes f.tells (f.show setup.first).limits (f.show core).state n call reply (f.show new).state
-  pub tabled : IsFalse (is_refusal reply) → IsTrue (has_table (f.show core).state.names call)
+  pub tabled : IsFalse (is_refusal reply) → IsTrue (finds_table (f.show core).state.names call)
 
 module _ {C : Type 0} (f : Face C) (setup : Setup C) where
   pub is_open : (s : TableOf C) (id : ℕ) (v : View C) → Rule f setup s → get_elem? s.views id ≡ some v → v.stage ≡ Shared → IsKept f setup s
@@ -187,7 +187,7 @@ module _ {C : Type 0} (f : Face C) (setup : Setup C) where
   -- what a pass was told of its transaction is so while the medium has not failed
   pub live_at : (turns : List Turn) (core : C) (k : Known C) → CanShare f.tells setup.callers (f.show setup.first) → Fits f.tells f.show setup turns (f.show core).state k → IsFalse (f.show core).state.is_dead → KnowsLive k.number (own_by k) (f.show core).state
   live_at turns core k ready fit alive =
-      subst (λ (told : Granted). KnowsLive k.number (own_of k.number told) (f.show core).state) (sym (turn_told f.tells (f.show setup.first).limits k.number k.past k.seen (f.show setup.first).state (f.show core).state turns fit.last))
+      subst (λ (told : Heard). KnowsLive k.number (own_of k.number told) (f.show core).state) (sym (turn_told f.tells (f.show setup.first).limits k.number k.past k.seen (f.show setup.first).state (f.show core).state turns fit.last))
       (turns_live f.tells (f.show setup.first).limits k.number (f.show setup.first).state (f.show core).state turns nothing_own
       (turn_run f.tells (f.show setup.first).limits k.number k.past k.seen (f.show setup.first).state (f.show core).state turns fit.last) (inr alive)
       (fresh_live k.number (f.show setup.first).state (ready.live k.number) (ready.offers k.number)))
@@ -334,7 +334,7 @@ module _ {C : Type 0} (f : Face C) (setup : Setup C) where
         locks = locked_same setup.callers setup.names (f.show new).state h.holds h.met s.words (set s.words 65 told) s.views (set s.views id w)
             (locked_step setup.callers setup.names (f.show h.core).state (f.show new).state h.holds h.met s.words s.views (f.show setup.first).limits.callers k.number call reply h.locks goes.moves
             (λ alive live. subst (λ (hs : List Hold). IsCovered (locks setup.names call) hs) (h.locks.have id v at).0.0 (subst (λ (given : Option (Setup C)). IsCovered (locks (names_in given) call) k.holds) mine.setup_is (has alive live)))
-            (λ done. subst (λ (ns : List (List ℕ)). has_table ns call ≡ true) (sym (named_at s h)) (m.tabled done)))
+            (λ done. subst (λ (ns : List (List ℕ)). finds_table ns call ≡ true) (sym (named_at s h)) (m.tabled done)))
             (λ t l. beside s.words 65 told t (omega arith) l) (each_set (λ i u. AllHave h.holds h.met u.passes) s.views id w ((h.locks.have id v at).0, tt) (λ j u _ e. h.locks.have j u e));
         wide = length-set s.words 65 told ∙ h.wide;
         one = h.one;

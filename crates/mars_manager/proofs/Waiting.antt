@@ -7,7 +7,8 @@ use native.Mathlib.Decide.{ℕ_discrete}
 use Rattle.std.proofs.lemmas.Bool.{true≢false, false≢true, cases_Bool, and_parts, or_parts, cond-true, cond-false}
 use Rattle.history.specs.Table.{Granted}
 use Rattle.history.specs.declared.call.Call.{Call}
-use Rattle.history.specs.declared.call.Call.TheVariants as call
+use Rattle.history.specs.declared.call.Call.TheVariants.{Control}
+use Rattle.history.specs.declared.call.Control.TheVariants as control
 use Rattle.history.specs.declared.call.Reply.{Reply}
 use Rattle.history.specs.declared.call.Reply.TheVariants.{Committed}
 use Rattle.history.specs.declared.transaction.Done.{Done}
@@ -36,7 +37,7 @@ is_none _ is = absurd (false≢true is)
 
 -- no call of its own leaves a caller one that a group has committed
 never_unsettled : (call : Call) (n : ℕ) → offer_with call ≡ unsettled n → ⊥
-never_unsettled call.Offer n e = offered_closed n e
+never_unsettled (Control control.Offer) n e = offered_closed n e
 never_unsettled _ n e = true≢false (ap is_unoffered e)
 
 pub fold-push : {A X : Type 0} (f : A → X → A) → (a : A) (xs : List X) (x : X) → fold f a (xs ++ x ∷ []) ≡ f (fold f a xs) x
@@ -225,7 +226,7 @@ module _ (callers : ℕ) (old : State) (caller : ℕ) (call : Call) (reply : Rep
   number_told (refused refusal sure index e) = absurd (true≢false (sym is ∙ refusal_none reply refusal))
   number_told (failed apart r index e) = absurd (true≢false (sym is ∙ ap is_committed r))
   number_told (began un l c r e) = absurd (true≢false (sym is ∙ ap is_committed r))
-  number_told (granted calls un l free answers index e) = absurd (true≢false (sym is ∙ (answer_plain _ call reply answers).uncommitted))
+  number_told (granted asked calls un c l free answers index e) = absurd (true≢false (sym is ∙ (answer_plain _ asked reply answers).uncommitted))
   number_told (committed calls un c r l index e) = r ∙ ap Committed (sym (ap (number_by callers old caller) un))
   number_told (doubted calls un c r l index e) = absurd (true≢false (sym is ∙ ap is_committed r))
   number_told (aborted calls un c r l e) = absurd (true≢false (sym is ∙ ap is_committed r))

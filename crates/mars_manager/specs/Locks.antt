@@ -2,16 +2,19 @@
 use Rattle.std.specs.Prelude.{ℕ, ◌≡◌, ◌≢◌, ◌<◌, ◌≤◌, ◌+◌, ◌/◌, ◌^◌, ◌==◌, Bool, true, false, not, ◌&&◌, IsTrue, IsFalse, MatchBool, filter, Option, None, if◌then◌else◌, List, [], ◌∷◌, ◌++◌, length, replicate, slice_index_or, slice_set, unwrap_or, Result, Ok, Err}
 use Rattle.std.specs.Int.{bit_at}
 use Rattle.record_slots.specs.Names.{number_of}
-use Rattle.history.specs.Table.{Granted}
 use Rattle.history.specs.Locks.{Touch, touches, touched, has_table}
 use Rattle.history.specs.declared.call.Call.{Call}
-use Rattle.history.specs.declared.call.Call.TheVariants.{Get, Put, Del, Scan, Commit, Abort, Offer, Settle, Purge}
+use Rattle.history.specs.declared.call.Call.TheVariants.{Table, Control}
+use Rattle.history.specs.declared.call.TableCall.{TableCall}
+use Rattle.history.specs.declared.call.TableCall.TheVariants.{Get, Put, Del, Scan}
+use Rattle.history.specs.declared.call.Control.TheVariants.{Offer}
 use Rattle.history.specs.declared.call.Reply.{Reply}
 use Rattle.history.specs.declared.call.Reply.TheVariants as says
 use Rattle.history.specs.declared.locks.Mode.{Mode}
 use Rattle.history.specs.declared.locks.Mode.TheVariants as mode
 use Rattle.caller_steps.specs.Fate.{is_refusal, is_busy, is_media}
 use Rattle.caller_steps.specs.Own.{is_commit}
+use Rattle.caller_steps.specs.Run.{Heard}
 use Rattle.stripe_words.specs.declared.hold.Hold.{Hold}
 use Rattle.stripe_words.specs.declared.hold.Hold.TheVariants.{Free, Trying, Shared, Exclusive}
 use Rattle.stripe_words.specs.Words.{granted, locked, gained, raised, IsWord, Refuses}
@@ -37,16 +40,17 @@ abbrev pub met : ℕ → Mode → ℕ → Met
 met stripe asked found = record { stripe = stripe; asked = asked; found = found }
 
 -- the number of the table that a call asks for, if it asks for one that is there
-abbrev pub number_asked : List (List ℕ) → Call → Option ℕ
+abbrev pub number_asked : List (List ℕ) → TableCall → Option ℕ
 number_asked names (Get name key) = number_of names name
 number_asked names (Put name key value) = number_of names name
 number_asked names (Del name key) = number_of names name
 number_asked names (Scan name low high) = number_of names name
 number_asked names call = None
 
--- what a call locks: what it touches, if the table that it asks for is there
+-- What a call on a table locks: what it touches, if the table is there. Other calls lock nothing.
 abbrev pub locks : List (List ℕ) → Call → ℕ → Touch
-locks names call stripe mode = has_table names call && touches names call stripe mode
+locks names (Table call) stripe mode = has_table names call && touches names call stripe mode
+locks names call stripe mode = false
 
 -- what a pass has of a stripe once it has what a call locks
 abbrev pub raised_for : Touch → Hold → Hold
@@ -54,16 +58,14 @@ raised_for touch has = if touch mode.Exclusive then raised mode.Exclusive has el
 
 -- the call ends its caller's transaction, or is a purge, which comes where there is none: its caller has none after it
 abbrev pub is_end : Call → Bool
-is_end Commit = true
-is_end Abort = true
-is_end Settle = true
-is_end Purge = true
+is_end (Control Offer) = false
+is_end (Control ends) = true
 is_end call = false
 
 -- its caller has no transaction that takes calls after it
 abbrev pub is_last : Call → Bool
-is_last Offer = true
-is_last call = is_end call
+is_last (Control control) = true
+is_last call = false
 
 -- whether a caller has a live transaction that takes calls, after a call
 abbrev pub takes_after : Bool → Call → Reply → Bool
@@ -75,7 +77,7 @@ tries_for (Ok reply) = if is_busy reply then 0 else 1
 tries_for (Err again) = 1
 
 -- the replies that came of a turn; a `Busy` comes of the word of a stripe
-abbrev pub steps_of : Granted → Granted
+abbrev pub steps_of : Heard → Heard
 steps_of told = filter (λ (entry : Call × Reply). not (is_busy entry.1)) told
 
 -- another pass has its mark in the word

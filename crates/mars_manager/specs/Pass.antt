@@ -6,7 +6,7 @@ use Rattle.history.specs.declared.call.Call.{Call}
 use Rattle.history.specs.declared.call.Reply.{Reply}
 use Rattle.caller_steps.specs.State.{State}
 use Rattle.caller_steps.specs.Core.{CoreView}
-use Rattle.caller_steps.specs.Run.{Turn, turns_of, LastTurn}
+use Rattle.caller_steps.specs.Run.{Turn, Heard, turns_of, LastTurn}
 use Rattle.caller_steps.specs.Own.{Own, own_of, live_by}
 use Rattle.stripe_words.specs.declared.hold.Hold.TheVariants.{Free}
 use Rattle.mars_manager.specs.declared.setup.Setup.{Setup}
@@ -30,7 +30,7 @@ module _ {C : Type 0} where
     pub heard : known.heard ≤ length state.history
 
   -- what a pass was told: its caller's own calls and their replies, in order
-  abbrev pub told_of : Known C → Granted
+  abbrev pub told_of : Known C → Heard
   told_of known = turns_of known.number known.past
 
   -- what these say of its caller's transactions

@@ -6,7 +6,8 @@ use Rattle.history.specs.Writes.{Table}
 use Rattle.history.specs.Legal.{IsLegal}
 use Rattle.history.specs.declared.transaction.Done.{Done}
 use Rattle.history.specs.declared.call.Call.{Call}
-use Rattle.history.specs.declared.call.Call.TheVariants.{Settle, Purge}
+use Rattle.history.specs.declared.call.Call.TheVariants.{Control}
+use Rattle.history.specs.declared.call.Control.TheVariants.{Settle, Purge}
 use Rattle.history.specs.declared.call.Reply.{Reply}
 use Rattle.history.specs.declared.call.Reply.TheVariants.{Committed, Dead}
 use Rattle.caller_steps.specs.Fate.{is_committed}
@@ -63,7 +64,7 @@ module _ {C : Type 0} where
     pub last : LastTurn tells (show setup.first).limits was.number was.past was.seen (show setup.first).state turns (show old).state
     pub steps : Steps tells was.number call (show old) (show new) reply
     pub dead : IsTrue (show old).state.is_dead → (reply ≡ Dead) × (new ≡ old)
-    pub purge : call ≡ Purge → PurgeCause (show old).state was.number reply
+    pub purge : call ≡ Control Purge → PurgeCause (show old).state was.number reply
     pub after : now ≡ tried now.tries (with_locks now.holds now.met (known_after was turns (show new).state call reply))
 
   -- A pass has read the history of a core that the shared one has come to by a run. Before, its past was this run up to its last turn, and it
@@ -129,4 +130,4 @@ module _ {C : Type 0} where
 
   -- What a reply says of the caller's own transactions. A pass that waits is told of a commit by its settle, and another by its commit.
   abbrev pub Commits : Bool → Known C → Call → Reply → Known C → Type 0
-  Commits tells was call reply now = MatchBool (is_committed reply) (MatchBool (waits_of was) (HasSettled tells was reply now) (call ≢ Settle → HasCommitted tells was reply now)) (SeesOwn was now)
+  Commits tells was call reply now = MatchBool (is_committed reply) (MatchBool (waits_of was) (HasSettled tells was reply now) (call ≢ Control Settle → HasCommitted tells was reply now)) (SeesOwn was now)

@@ -1,5 +1,6 @@
 // The locks of a pass.
 ghost use Rattle.std.specs.Prelude.{ℕ, ◌≡◌, ◌<◌, IfOk, IfErr, slice_index_or};
+ghost use Rattle.history.specs.declared.call.Call.TheVariants.{Table};
 ghost use Rattle.history.specs.declared.locks.Mode.TheVariants as mode;
 ghost use Rattle.stripe_words.specs.declared.hold.Hold.TheVariants.{Free, Shared};
 ghost use Rattle.mars_manager.specs.Pass.{names_of};
@@ -9,7 +10,7 @@ ghost use Rattle.mars_manager.specs.Locks.{number_asked, IsCovered, IsBelow, Loc
 use crate::mars::Mars;
 use crate::pass::Pass;
 use caller_steps::Core;
-use history::{Call, Mode, stripe_of};
+use history::{Mode, TableCall, stripe_of};
 use record_slots::Names;
 use stripe_words::{Hold, lowest_locked, lowest_marked, mark_bit};
 
@@ -29,15 +30,15 @@ pub struct InWay {
 }
 
 // The number of the table that a call asks for, if it asks for one that is there.
-fn table_asked(names: &Names, call: &Call) -> Option<u8>
+fn table_asked(names: &Names, call: &TableCall) -> Option<u8>
     ensures { result ≡ number_asked names.now call.now }
 {
     match call {
-        Call::Get { table, .. }
-        | Call::Put { table, .. }
-        | Call::Del { table, .. }
-        | Call::Scan { table, .. } => names.number(table),
-        _ => None,
+        TableCall::Get { table, .. }
+        | TableCall::Put { table, .. }
+        | TableCall::Del { table, .. }
+        | TableCall::Scan { table, .. } => names.number(table),
+        TableCall::Save | TableCall::Back { .. } => None,
     }
 }
 
@@ -202,13 +203,13 @@ impl<C: Core + Drop> Mars<C> {
         Ok(())
     }
 
-    // Tries to lock what a call touches, if the table that it asks for is there. At a refusal the pass has what it had.
-    pub(crate) fn lock_for(&self, pass: &mut Pass<C>, call: &Call) -> Result<(), InWay>
+    // Tries to lock what a call on a table touches, if that table is there. At a refusal the pass has what it had.
+    pub(crate) fn lock_for(&self, pass: &mut Pass<C>, call: &TableCall) -> Result<(), InWay>
         requires own { pass.old.table ≡ self.now.table }
         ensures table { pass.new.table ≡ pass.old.table }
-        ensures held { IfOk result (λ _. HasLockedFor call.now pass.old.known pass.new.known) }
-        ensures busy { IfErr result (λ b. IsRefusedFor call.now b.holder pass.old.known pass.new.known) }
-        ensures steps { Meets (IsStepOf (names_of pass.old.known) call.now) pass.old.known pass.new.known }
+        ensures held { IfOk result (λ _. HasLockedFor (Table call.now) pass.old.known pass.new.known) }
+        ensures busy { IfErr result (λ b. IsRefusedFor (Table call.now) b.holder pass.old.known pass.new.known) }
+        ensures steps { Meets (IsStepOf (names_of pass.old.known) (Table call.now)) pass.old.known pass.new.known }
         ensures rising { AsksUp pass.old.known pass.new.known }
     {
         pass.number();
@@ -216,23 +217,23 @@ impl<C: Core + Drop> Mars<C> {
             return Ok(());
         };
         match call {
-            Call::Get { table: _, key } => {
+            TableCall::Get { table: _, key } => {
                 self.try_lock(pass, stripe_of(table, *key) as u8, Mode::Shared)
             }
-            Call::Put {
+            TableCall::Put {
                 table: _,
                 key,
                 value: _,
             } => self.try_lock(pass, stripe_of(table, *key) as u8, Mode::Exclusive),
-            Call::Del { table: _, key } => {
+            TableCall::Del { table: _, key } => {
                 self.try_lock(pass, stripe_of(table, *key) as u8, Mode::Exclusive)
             }
-            Call::Scan {
+            TableCall::Scan {
                 table: _,
                 low: _,
                 high: _,
             } => self.lock_all(pass).map_err(|refused| refused.1),
-            _ => Ok(()),
+            TableCall::Save | TableCall::Back { .. } => Ok(()),
         }
     }
 

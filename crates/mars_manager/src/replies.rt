@@ -3,7 +3,7 @@ ghost use Rattle.std.specs.Prelude.{◌≡◌};
 ghost use Rattle.mars_manager.specs.Locks.{is_end, is_last, takes_after};
 
 use caller_steps::is_refusal;
-use history::{Call, Reply};
+use history::{Call, Control, Reply};
 
 // Whether its caller has no transaction after a call, if it is done.
 pub fn is_end(call: &Call) -> bool
@@ -11,7 +11,7 @@ pub fn is_end(call: &Call) -> bool
 {
     matches!(
         call,
-        Call::Commit | Call::Abort | Call::Settle | Call::Purge
+        Call::Control(Control::Commit | Control::Abort | Control::Settle | Control::Purge)
     )
 }
 
@@ -19,10 +19,7 @@ pub fn is_end(call: &Call) -> bool
 fn is_last(call: &Call) -> bool
     ensures { result ≡ is_last call.now }
 {
-    matches!(
-        call,
-        Call::Commit | Call::Abort | Call::Offer | Call::Settle | Call::Purge
-    )
+    matches!(call, Call::Control(_))
 }
 
 // Whether a caller has a live transaction that takes calls, after a call.
@@ -30,7 +27,7 @@ pub fn takes_after(takes: bool, call: &Call, reply: &Reply) -> bool
     ensures { result ≡ takes_after takes call.now reply.now }
 {
     if matches!(reply, Reply::Media) {
-        return takes && !matches!(call, Call::Commit | Call::Settle);
+        return takes && !matches!(call, Call::Control(Control::Commit | Control::Settle));
     }
     if is_refusal(reply) {
         return takes;

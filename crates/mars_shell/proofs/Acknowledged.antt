@@ -10,7 +10,10 @@ use Rattle.std.proofs.lemmas.List.{append_cancel_left, append_cancel_right, appe
 use Rattle.std.proofs.lemmas.List.Elements.{Contains-append_cases, Contains-push_cases}
 use Rattle.std.proofs.lemmas.Str.Parse.{numerals_by_value, tells_digits, digit_at}
 use Rattle.history.specs.declared.call.Call.{Call}
-use Rattle.history.specs.declared.call.Call.TheVariants.{Begin, Get, Put, Del, Scan, Save, Back, Commit, Abort, Offer, Settle, Purge}
+use Rattle.history.specs.declared.call.Call.TheVariants.{Control}
+use Rattle.history.specs.declared.call.TableCall.{TableCall}
+use Rattle.history.specs.declared.call.TableCall.TheVariants.{Get, Put, Del, Scan, Save, Back}
+use Rattle.history.specs.declared.call.Control.TheVariants.{Settle}
 use Rattle.history.specs.declared.call.Reply.{Reply}
 use Rattle.history.specs.declared.call.Reply.TheVariants.{Fine, Found, Absent, Listed, Saved, Committed, Purged, NoTransaction, NoTable, Already, NoSave, SavesFull, Busy, LogFull, SlotsFull, PagesFull, Media, Dead, NoMemory, Damaged}
 use Rattle.history.specs.Table.{Work, found, removed, Answers}
@@ -143,19 +146,13 @@ removed_is_no_commit : (o : Option (List ℕ)) (k : ℕ) → Committed k ≡ rem
 removed_is_no_commit None k is = cc
 removed_is_no_commit (Some value) k is = cc
 
-table_commits_nothing : (work : Work) (call : Call) (k : ℕ) → Answers work call (Committed k) → ⊥
+table_commits_nothing : (work : Work) (call : TableCall) (k : ℕ) → Answers work call (Committed k) → ⊥
 table_commits_nothing work (Get name key) k is = found_is_no_commit _ k is
 table_commits_nothing work (Put name key value) k is = cc
 table_commits_nothing work (Del name key) k is = removed_is_no_commit _ k is
 table_commits_nothing work (Scan name low high) k is = cc
 table_commits_nothing work Save k is = cc
 table_commits_nothing work (Back n) k is = let e = is.1 in cc
-table_commits_nothing work Begin k is = is
-table_commits_nothing work Commit k is = is
-table_commits_nothing work Abort k is = is
-table_commits_nothing work Offer k is = is
-table_commits_nothing work Settle k is = is
-table_commits_nothing work Purge k is = is
 
 -- the number of a transaction of the history is none beyond it
 number_within : (history : List Done) (caller n : ℕ) → IsCommittedAs history caller n → n ≤ length history
@@ -165,14 +162,14 @@ number_within history caller n is = let within = slice_get_within history (n - 1
 committed_long : (limits : Limits) (old : State) (caller : ℕ) (call : Call) (k : ℕ) (new : State) → IsSound old → Step limits old caller call (Committed k) new → k ≤ length new.history
 committed_long limits old caller call k new sound step = go (step_fate limits old caller new call (Committed k) step)
   where
-    settles : call ≡ Settle → k ≤ length new.history
+    settles : call ≡ Control Settle → k ≤ length new.history
     settles is = number_within new.history caller k (settle_told limits old new caller k sound (subst (λ (c : Call). Step limits old caller c (Committed k) new) is step))
 
     go : Fate limits.callers old caller call (Committed k) new → k ≤ length new.history
     go (refused is sure index e) = absurd (cc)
     go (failed apart is index e) = absurd (cc)
     go (began un none is re e) = absurd (cc)
-    go (granted calls un live free answers index e) = absurd (table_commits_nothing _ call k answers)
+    go (granted asked calls un is live free answers index e) = absurd (table_commits_nothing _ asked k answers)
     go (committed calls un is re live index e) =
         let count : k ≡ length old.history + 1 = cc in
         omega (arith, count, ap (λ (s : State). length s.history) e, length-append old.history (done_by old caller calls ∷ []))

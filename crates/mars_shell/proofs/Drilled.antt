@@ -6,7 +6,8 @@ use Rattle.std.proofs.lemmas.List.Elements.{All-push}
 use Rattle.history.specs.Key.{main_name}
 use Rattle.history.specs.Writes.{rows_of}
 use Rattle.history.specs.declared.call.Call.{Call}
-use Rattle.history.specs.declared.call.Call.TheVariants.{Begin, Scan}
+use Rattle.history.specs.declared.call.Call.TheVariants.{Begin, Table}
+use Rattle.history.specs.declared.call.TableCall.TheVariants.{Scan}
 use Rattle.history.specs.declared.call.Reply.{Reply}
 use Rattle.history.specs.declared.call.Reply.TheVariants.{Fine, Listed}
 use Rattle.page_store.specs.Index as below
@@ -60,30 +61,30 @@ goes_counted tally later caller call reply NoMemory is = is
 begin_uncounted : (tally : Tally) → counted tally Begin Fine ≡ tally
 begin_uncounted tally = refl
 
-scan_uncounted : (tally : Tally) (rows : List (ℕ × List ℕ)) → counted tally (Scan main_name 0 last_key) (Listed rows) ≡ tally
+scan_uncounted : (tally : Tally) (rows : List (ℕ × List ℕ)) → counted tally (Table (Scan main_name 0 last_key)) (Listed rows) ≡ tally
 scan_uncounted tally rows = refl
 
 -- ---- the look behind the drawn calls
 
 module _ (tells : Bool) (old mid : CoreView) (drawn : List (ℕ × Call)) (tally : Tally) (all : MadeAll tells old drawn tally mid) where
   abbrev pub calls : List (ℕ × Call)
-  calls = drawn ++ (0, Begin) ∷ (0, Scan main_name 0 last_key) ∷ []
+  calls = drawn ++ (0, Begin) ∷ (0, Table (Scan main_name 0 last_key)) ∷ []
 
   made : Made tells old calls all.0 mid
-  made = made_wider tells old mid drawn ((0, Begin) ∷ (0, Scan main_name 0 last_key) ∷ []) all.0 all.1
+  made = made_wider tells old mid drawn ((0, Begin) ∷ (0, Table (Scan main_name 0 last_key)) ∷ []) all.0 all.1
 
   long : length all.0 ≡ length drawn
   long = sym (length-map all.0 without_reply) ∙ ap length all.2
 
   longer : length calls ≡ length drawn + 2
-  longer = length-append drawn ((0, Begin) ∷ (0, Scan main_name 0 last_key) ∷ [])
+  longer = length-append drawn ((0, Begin) ∷ (0, Table (Scan main_name 0 last_key)) ∷ [])
 
   module _ (first : CoreView) (begun : Reply) (one : Steps tells 0 Begin mid first begun) where
     less : length all.0 < length calls
     less = omega (arith, long, longer)
 
     at_begin : get_or calls (length all.0) (0, Begin) ≡ (0, Begin)
-    at_begin = ap (λ (n : ℕ). get_or calls n (0, Begin)) long ∙ next_call drawn (0, Begin) ((0, Scan main_name 0 last_key) ∷ []) (0, Begin)
+    at_begin = ap (λ (n : ℕ). get_or calls n (0, Begin)) long ∙ next_call drawn (0, Begin) ((0, Table (Scan main_name 0 last_key)) ∷ []) (0, Begin)
 
     pub begin_early : (stop : Stop) → (let r : Result (Unit {0}) Stop = Err stop in Goes 0 begun r) → EndsEarly tells old calls stop first
     begin_early stop is = ends_early tells old calls all.0 mid first 0 Begin begun made one (0, Begin) less at_begin all.3 tally tally stop (goes_counted tally tally 0 Begin begun stop is)
@@ -101,43 +102,43 @@ module _ (tells : Bool) (old mid : CoreView) (drawn : List (ℕ × Call)) (tally
       pub begun_early : EndsEarly tells old calls NoMemory first
       begun_early = (turns_begun, begun_made, clean_all turns_begun begun_on)
 
-      module _ (last : CoreView) (look : Reply) (two : Steps tells 0 (Scan main_name 0 last_key) first last look) where
+      module _ (last : CoreView) (look : Reply) (two : Steps tells 0 (Table (Scan main_name 0 last_key)) first last look) where
         far : length turns_begun ≡ length (drawn ++ (0, Begin) ∷ [])
         far = length-append all.0 ((0, Begin, begun) ∷ []) ∙ ap (λ (n : ℕ). n + 1) long ∙ sym (length-append drawn ((0, Begin) ∷ []))
 
         within : length turns_begun < length calls
         within = let there : length turns_begun ≡ length drawn + 1 = far ∙ length-append drawn ((0, Begin) ∷ []) in omega (arith, there, longer)
 
-        at_scan : get_or calls (length turns_begun) (0, Begin) ≡ (0, Scan main_name 0 last_key)
+        at_scan : get_or calls (length turns_begun) (0, Begin) ≡ (0, Table (Scan main_name 0 last_key))
         at_scan = ap (λ (n : ℕ). get_or calls n (0, Begin)) far
-            ∙ ap (λ (l : List (ℕ × Call)). get_or l (length (drawn ++ (0, Begin) ∷ [])) (0, Begin)) (sym (append_assoc drawn ((0, Begin) ∷ []) ((0, Scan main_name 0 last_key) ∷ [])))
-            ∙ next_call (drawn ++ (0, Begin) ∷ []) (0, Scan main_name 0 last_key) [] (0, Begin)
+            ∙ ap (λ (l : List (ℕ × Call)). get_or l (length (drawn ++ (0, Begin) ∷ [])) (0, Begin)) (sym (append_assoc drawn ((0, Begin) ∷ []) ((0, Table (Scan main_name 0 last_key)) ∷ [])))
+            ∙ next_call (drawn ++ (0, Begin) ∷ []) (0, Table (Scan main_name 0 last_key)) [] (0, Begin)
 
         pub look_early : (stop : Stop) → (let r : Result (Unit {0}) Stop = Err stop in Goes 0 look r) → EndsEarly tells old calls stop last
-        look_early stop is = ends_early tells old calls turns_begun first last 0 (Scan main_name 0 last_key) look begun_made two (0, Begin) within at_scan begun_on tally tally stop
-            (goes_counted tally tally 0 (Scan main_name 0 last_key) look stop is)
+        look_early stop is = ends_early tells old calls turns_begun first last 0 (Table (Scan main_name 0 last_key)) look begun_made two (0, Begin) within at_scan begun_on tally tally stop
+            (goes_counted tally tally 0 (Table (Scan main_name 0 last_key)) look stop is)
 
         abbrev turns_looked : List Turn
-        turns_looked = turns_begun ++ (0, Scan main_name 0 last_key, look) ∷ []
+        turns_looked = turns_begun ++ (0, Table (Scan main_name 0 last_key), look) ∷ []
 
         looked_made : Made tells old calls turns_looked last
-        looked_made = made_more tells old calls turns_begun first last 0 (Scan main_name 0 last_key) look begun_made two (0, Begin) within at_scan
+        looked_made = made_more tells old calls turns_begun first last 0 (Table (Scan main_name 0 last_key)) look begun_made two (0, Begin) within at_scan
 
         looked_all : map without_reply turns_looked ≡ calls
-        looked_all = map-append without_reply turns_begun ((0, Scan main_name 0 last_key, look) ∷ [])
-            ∙ ap (λ (l : List (ℕ × Call)). l ++ (0, Scan main_name 0 last_key) ∷ []) (map-append without_reply all.0 ((0, Begin, begun) ∷ []) ∙ ap (λ (l : List (ℕ × Call)). l ++ (0, Begin) ∷ []) all.2)
-            ∙ append_assoc drawn ((0, Begin) ∷ []) ((0, Scan main_name 0 last_key) ∷ [])
+        looked_all = map-append without_reply turns_begun ((0, Table (Scan main_name 0 last_key), look) ∷ [])
+            ∙ ap (λ (l : List (ℕ × Call)). l ++ (0, Table (Scan main_name 0 last_key)) ∷ []) (map-append without_reply all.0 ((0, Begin, begun) ∷ []) ∙ ap (λ (l : List (ℕ × Call)). l ++ (0, Begin) ∷ []) all.2)
+            ∙ append_assoc drawn ((0, Begin) ∷ []) ((0, Table (Scan main_name 0 last_key)) ∷ [])
 
         module _ (looks_on : IsTrue (goes_on look)) where
           looked_on : GoOn turns_looked
-          looked_on = All-push (λ (turn : Turn). IsTrue (goes_on turn.2)) turns_begun (0, Scan main_name 0 last_key, look) begun_on looks_on
+          looked_on = All-push (λ (turn : Turn). IsTrue (goes_on turn.2)) turns_begun (0, Table (Scan main_name 0 last_key), look) begun_on looks_on
 
           pub looked_early : EndsEarly tells old calls NoMemory last
           looked_early = (turns_looked, looked_made, clean_all turns_looked looked_on)
 
           -- the replies are as those of the drawn calls, where the look is answered
           tally_same : begun ≡ Fine → (rows : List (ℕ × List ℕ)) → look ≡ Listed rows → tally_of turns_looked ≡ tally
-          tally_same fine rows is = tally_more turns_begun 0 (Scan main_name 0 last_key) look ∙ ap (counted (tally_of turns_begun) (Scan main_name 0 last_key)) is ∙ scan_uncounted (tally_of turns_begun) rows
+          tally_same fine rows is = tally_more turns_begun 0 (Table (Scan main_name 0 last_key)) look ∙ ap (counted (tally_of turns_begun) (Table (Scan main_name 0 last_key))) is ∙ scan_uncounted (tally_of turns_begun) rows
               ∙ tally_more all.0 0 Begin begun ∙ ap (counted (tally_of all.0) Begin) fine ∙ begin_uncounted (tally_of all.0) ∙ sym all.4
 
           module _ (index : below.Index) (laws : Laws index) (shows : IsTrue tells → ShowsAll index mid.state) (alive : IsTrue tells → mid.state.is_dead ≡ false)
@@ -147,7 +148,7 @@ module _ (tells : Bool) (old mid : CoreView) (drawn : List (ℕ × Call)) (tally
 
             look_is : IsTrue tells → look ≡ Listed (rows_of main_name (records_of last.state))
             look_is told = looks first.limits mid.state (alive told) (none told) (free told) (shown_main index laws mid.state (shows told)) (shown_within index laws mid.state (shows told)) look last.state looks_on
-                (subst (λ (s : State). Step first.limits s 0 (Scan main_name 0 last_key) look last.state) (begun_is told).1 (two.step told))
+                (subst (λ (s : State). Step first.limits s 0 (Table (Scan main_name 0 last_key)) look last.state) (begun_is told).1 (two.step told))
 
             pub summed : (numbers : DrillNumbers) (text : List ℕ) → text ≡ tally_text numbers tally look → SummedUp tells numbers old calls text last
             summed numbers text is = (

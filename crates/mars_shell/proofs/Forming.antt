@@ -34,8 +34,8 @@ module _ (tells : Bool) (told : IsTrue tells) (Opens : Shape → List ℕ → Li
   bytes_are = ap (λ (s : State). s.bytes) (says.state told)
 
   -- what holds of the first state
-  of_first : (P : Limits → face.State → Type 0) → P (limits_of index mid.shape) (begun_on index mid.state.bytes) → P (limits_of index old.shape) (begun_on index old.state.bytes)
-  of_first P holds = subst (λ (b : List ℕ). P (limits_of index old.shape) (begun_on index b)) bytes_are (subst (λ (s : Shape). P (limits_of index s) (begun_on index mid.state.bytes)) says.shape holds)
+  of_first : (P : Limits → face.State → Type 0) → P (limits_of index mid.shape mid.depth) (begun_on index mid.state.bytes) → P (limits_of index old.shape old.depth) (begun_on index old.state.bytes)
+  of_first P holds = subst (λ (b : List ℕ). P (limits_of index old.shape old.depth) (begun_on index b)) bytes_are (subst (λ (x : Shape × ℕ). P (limits_of index x.0 x.1) (begun_on index mid.state.bytes)) (λ i. (says.shape i, says.depth i)) holds)
 
   module _ (new : StoreView) where
     served_on : (Says : Limits → List Turn → face.State → Type 0) (ended : Ended) → Served Says Opens index mid ended new → Served Says Opens index old ended new
@@ -47,7 +47,7 @@ module _ (tells : Bool) (told : IsTrue tells) (Opens : Shape → List ℕ → Li
           turns = served.turns;
           final = served.final;
           runs = of_first (λ l s. Runs l s served.turns served.final) served.runs;
-          says = subst (λ (s : Shape). Says (limits_of index s) served.turns served.final) says.shape served.says;
+          says = subst (λ (x : Shape × ℕ). Says (limits_of index x.0 x.1) served.turns served.final) (λ i. (says.shape i, says.depth i)) served.says;
           names = served.names ∙ ap names_of bytes_are;
           base = served.base ∙ ap (table_of index) bytes_are;
           legal = served.legal;

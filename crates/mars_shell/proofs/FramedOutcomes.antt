@@ -22,13 +22,13 @@ use Rattle.mars_shell.proofs.Waiting.{IsHandedBack}
 -- callers took turns, or the records were not taken
 pub framed_outcome : (tells : Bool) (told : IsTrue tells) (old : View) (only_now : (image : List ℕ) → IsTrue tells → old.left_since old.moment image → MayLeave old.content image)
     (store : StoreView) (attached : Attached tells old store) (keeps : KeepsData tells old store.moment store.left_since)
-    (depth : ℕ) (later : StoreView) (new : View) (handed : IsHandedBack tells depth later new) (counts_now : (t : ℕ) (image : List ℕ) → IsTrue tells → t ≤ new.moment → MayLeave new.content image → new.left_since t image)
+    (depth : ℕ) (limit : store.depth ≡ depth) (later : StoreView) (new : View) (handed : IsHandedBack tells depth later new) (counts_now : (t : ℕ) (image : List ℕ) → IsTrue tells → t ≤ new.moment → MayLeave new.content image → new.left_since t image)
     (input : List ℕ) (cut : Bool) (text : List ℕ) (result : Result Ended CoreFault)
     → Serves (says_framed (index_at store.state.bytes) store input cut text) Opens (index_at store.state.bytes) store result cut text later
     → OverRecords false 0 (λ ended. TakesFramed depth input cut text old ended new) old (served_status result) new cut text
-framed_outcome tells told old only_now store attached keeps depth later new handed counts_now input cut text result served =
+framed_outcome tells told old only_now store attached keeps depth limit later new handed counts_now input cut text result served =
     let Does = says_framed (index_at store.state.bytes) store input cut text in
-    let outcome = records_outcome tells told old only_now store attached keeps depth later new handed counts_now 0 (omega arith) Does result cut text served in
+    let outcome = records_outcome tells told old only_now store attached keeps depth limit later new handed counts_now 0 (omega arith) Does result cut text served in
     outcome_as false (λ ended. TakesTurns depth (Does ended) old ended new) (λ ended. TakesFramed depth input cut text old ended new) (λ page. IsDamaged old page × (Exceeds 0 old → ⊥))
     (HoldsArray old × (Exceeds 0 old → ⊥)) (Exceeds 0 old) old (served_status result) new cut text
     (λ ended taken. record {

@@ -8,7 +8,8 @@ use Rattle.history.specs.Locks.{Meets, touches, has_table}
 use Rattle.history.specs.Table.{Granted, worked}
 use Rattle.history.specs.Table.{begun as work_on}
 use Rattle.history.specs.Writes.{Table, Row, is_within, rows_of, rows_within}
-use Rattle.history.specs.declared.call.Call.TheVariants.{Begin, Scan}
+use Rattle.history.specs.declared.call.Call.TheVariants.{Begin, Table}
+use Rattle.history.specs.declared.call.TableCall.TheVariants.{Scan}
 use Rattle.history.specs.declared.call.Reply.{Reply}
 use Rattle.history.specs.declared.call.Reply.TheVariants as told
 use Rattle.history.proofs.Modes.{clash_none}
@@ -109,13 +110,13 @@ module _ (limits : Limits) (old : State) (alive : old.is_dead ≡ false) (none :
 
   -- and all records of `main` are listed
   module _ (there : IsTrue (has_table old.names (Scan main_name 0 last_key))) (whole : rows_within main_name 0 last_key (records_of old) ≡ rows_of main_name (records_of old)) (reply : Reply) (new : State) (goes : IsTrue (goes_on reply))
-      (step : Step limits (with_live old 0 (Some [])) 0 (Scan main_name 0 last_key) reply new) where
-    scan_acts : StepAt limits (Some []) (with_live old 0 (Some [])) 0 (Scan main_name 0 last_key) reply new
-    scan_acts = subst (λ (o : Option Granted). StepAt limits o (with_live old 0 (Some [])) 0 (Scan main_name 0 last_key) reply new) (update_here old.live 0 (Some []))
-        (subst (λ (o : state.Offer). StepBy limits o (with_live old 0 (Some [])) 0 (Scan main_name 0 last_key) reply new) (free 0)
-        (subst (λ (b : Bool). StepIf limits b (with_live old 0 (Some [])) 0 (Scan main_name 0 last_key) reply new) alive step.acts))
+      (step : Step limits (with_live old 0 (Some [])) 0 (Table (Scan main_name 0 last_key)) reply new) where
+    scan_acts : StepAt limits (Some []) (with_live old 0 (Some [])) 0 (Table (Scan main_name 0 last_key)) reply new
+    scan_acts = subst (λ (o : Option Granted). StepAt limits o (with_live old 0 (Some [])) 0 (Table (Scan main_name 0 last_key)) reply new) (update_here old.live 0 (Some []))
+        (subst (λ (o : state.Offer). StepBy limits o (with_live old 0 (Some [])) 0 (Table (Scan main_name 0 last_key)) reply new) (free 0)
+        (subst (λ (b : Bool). StepIf limits b (with_live old 0 (Some [])) 0 (Table (Scan main_name 0 last_key)) reply new) alive step.acts))
 
-    listed : StepAt limits (Some []) (with_live old 0 (Some [])) 0 (Scan main_name 0 last_key) reply new → reply ≡ told.Listed (rows_of main_name (records_of new))
+    listed : StepAt limits (Some []) (with_live old 0 (Some [])) 0 (Table (Scan main_name 0 last_key)) reply new → reply ≡ told.Listed (rows_of main_name (records_of new))
     listed (inl (lacks, says)) = absurd (false≢true (sym lacks ∙ there))
     listed (inr (has, inl says)) = absurd (false≢true (ap goes_on (sym says.0) ∙ goes))
     listed (inr (has, inr (inl held))) = absurd (free_of held.0 held.1)

@@ -23,14 +23,14 @@ use Rattle.array_runs.proofs.Statuses.{outcome_of, outcome_as, outcome_spared}
 
 module _ (tells : Bool) (told : IsTrue tells) (old : View) (only_now : (image : List ℕ) → IsTrue tells → old.left_since old.moment image → MayLeave old.content image)
     (store : StoreView) (attached : Attached tells old store) (keeps : KeepsData tells old store.moment store.left_since)
-    (depth : ℕ) (later : StoreView) (new : View) (handed : IsHandedBack tells depth later new) (counts_now : (t : ℕ) (image : List ℕ) → IsTrue tells → t ≤ new.moment → MayLeave new.content image → new.left_since t image) where
+    (depth : ℕ) (limit : store.depth ≡ depth) (later : StoreView) (new : View) (handed : IsHandedBack tells depth later new) (counts_now : (t : ℕ) (image : List ℕ) → IsTrue tells → t ≤ new.moment → MayLeave new.content image → new.left_since t image) where
   -- callers took turns, or the records were not taken
   pub records_outcome : (callers : ℕ) → callers ≤ store.shape.numbers → (Does : Ended → Limits → List Turn → State → Type 0) (result : Result Ended CoreFault) (cut : Bool) (text : List ℕ)
       → Serves Does Opens (index_at store.state.bytes) store result cut text later
       → OverRecords false callers (λ ended. TakesTurns depth (Does ended) old ended new) old (served_status result) new cut text
   records_outcome callers enough Does (Ok ended) cut text served =
       outcome_of false (λ ended. TakesTurns depth (Does ended) old ended new) (λ page. IsDamaged old page × (Exceeds callers old → ⊥)) (HoldsArray old × (Exceeds callers old → ⊥))
-      (Exceeds callers old) old new cut text ended (takes_turns tells told old only_now store attached keeps depth later new handed counts_now (Does ended) ended served)
+      (Exceeds callers old) old new cut text ended (takes_turns tells told old only_now store attached keeps depth limit later new handed counts_now (Does ended) ended served)
   records_outcome callers enough Does (Err fault) cut text off = untaken_outcome tells told old only_now store attached keeps (nat_lt 0 depth) later new handed.behind
       false (λ ended. TakesTurns depth (Does ended) old ended new) callers enough fault cut text off
 

@@ -8,7 +8,8 @@ use Rattle.std.proofs.lemmas.Map.{update_here, update_apart}
 use Rattle.std.proofs.lemmas.List.Elements.{All-head, All-tail}
 use Rattle.history.specs.Table.{Granted}
 use Rattle.history.specs.declared.call.Call.{Call}
-use Rattle.history.specs.declared.call.Call.TheVariants.{Begin, Get, Put, Del, Scan, Save, Back, Commit, Abort, Offer, Settle, Purge}
+use Rattle.history.specs.declared.call.Call.TheVariants.{Begin, Table, Control}
+use Rattle.history.specs.declared.call.Control.TheVariants.{Commit, Abort, Offer, Settle, Purge}
 use Rattle.history.specs.declared.call.Reply.{Reply}
 use Rattle.history.specs.declared.call.Reply.TheVariants as told
 use Rattle.caller_steps.specs.State as state
@@ -29,17 +30,17 @@ use Rattle.mars_shell.proofs.Making.{no_fault}
 abbrev pub AllUnoffered : State → Type 0
 AllUnoffered s = (c : ℕ) → s.offers c ≡ unoffered
 
--- the calls of a drawn script
+-- calls such as those of a drawn script: none offers, settles or purges
 abbrev is_drawn : Call → Bool
 is_drawn Begin = true
-is_drawn (Put name key value) = true
-is_drawn Commit = true
-is_drawn Abort = true
-is_drawn call = false
+is_drawn (Table call) = true
+is_drawn (Control Commit) = true
+is_drawn (Control Abort) = true
+is_drawn (Control control) = false
 
 abbrev ends : Call → Bool
-ends Commit = true
-ends Abort = true
+ends (Control Commit) = true
+ends (Control Abort) = true
 ends call = false
 
 abbrev pub AreDrawn : List (ℕ × Call) → Type 0
@@ -62,27 +63,22 @@ module _ (limits : Limits) (old : State) (t : ℕ) (call : Call) (reply : Reply)
 
   -- a transaction ends at a commit or an abort
   ended : (o : Option Granted) → old.live t ≡ o → (what : Call) → IsTrue (ends what) → StepAt limits o old t what reply new → new.live t ≡ None
-  ended None none Commit is says = ap (λ (s : State). s.live t) says.1 ∙ none
-  ended None none Abort is says = ap (λ (s : State). s.live t) says.1 ∙ none
-  ended (Some calls) some Commit is (inl says) = absurd (false≢true (ap goes_on (sym says.0) ∙ goes))
-  ended (Some calls) some Commit is (inr (inl commits)) = ap (λ (s : State). s.live t) commits.3 ∙ update_here old.live t None
-  ended (Some calls) some Commit is (inr (inr doubts)) = absurd (false≢true (ap goes_on (sym doubts.1) ∙ goes))
-  ended (Some calls) some Abort is done = ap (λ (s : State). s.live t) done.1 ∙ update_here old.live t None
+  ended None none (Control Commit) is says = ap (λ (s : State). s.live t) says.1 ∙ none
+  ended None none (Control Abort) is says = ap (λ (s : State). s.live t) says.1 ∙ none
+  ended (Some calls) some (Control Commit) is (inl says) = absurd (false≢true (ap goes_on (sym says.0) ∙ goes))
+  ended (Some calls) some (Control Commit) is (inr (inl commits)) = ap (λ (s : State). s.live t) commits.3 ∙ update_here old.live t None
+  ended (Some calls) some (Control Commit) is (inr (inr doubts)) = absurd (false≢true (ap goes_on (sym doubts.1) ∙ goes))
+  ended (Some calls) some (Control Abort) is done = ap (λ (s : State). s.live t) done.1 ∙ update_here old.live t None
   ended o is-live Begin is says = absurd (false≢true is)
-  ended o is-live (Get name key) is says = absurd (false≢true is)
-  ended o is-live (Put name key value) is says = absurd (false≢true is)
-  ended o is-live (Del name key) is says = absurd (false≢true is)
-  ended o is-live (Scan name low high) is says = absurd (false≢true is)
-  ended o is-live Save is says = absurd (false≢true is)
-  ended o is-live (Back n) is says = absurd (false≢true is)
-  ended o is-live Offer is says = absurd (false≢true is)
-  ended o is-live Settle is says = absurd (false≢true is)
-  ended o is-live Purge is says = absurd (false≢true is)
+  ended o is-live (Table call) is says = absurd (false≢true is)
+  ended o is-live (Control Offer) is says = absurd (false≢true is)
+  ended o is-live (Control Settle) is says = absurd (false≢true is)
+  ended o is-live (Control Purge) is says = absurd (false≢true is)
 
   pub ended_now : IsTrue (ends call) → new.live t ≡ None
   ended_now is = ended (old.live t) refl call is acts
 
-  unsettled : (what : Call) → IsTrue (is_drawn what) → what ≡ Settle → ⊥
+  unsettled : (what : Call) → IsTrue (is_drawn what) → what ≡ Control Settle → ⊥
   unsettled what drawn same = false≢true (ap is_drawn (sym same) ∙ drawn)
 
   pub others_stay : IsTrue (is_drawn call) → (other : ℕ) → other ≢ t → Stays old new other
@@ -94,17 +90,12 @@ module _ (limits : Limits) (old : State) (t : ℕ) (call : Call) (reply : Reply)
   own_offer : (what : Call) → IsTrue (is_drawn what) → (b : Bool) → is_refusal reply ≡ b → Moves limits.callers old t what reply new → new.offers t ≡ unoffered
   own_offer what drawn true is m = ap (λ (f : ℕ → state.Offer). f t) (m.refused is (no_fault reply goes)).1 ∙ free t
   own_offer Begin drawn false is m = (m.own is).1
-  own_offer (Put name key value) drawn false is m = (m.own is).1
-  own_offer Commit drawn false is m = (m.own is).1
-  own_offer Abort drawn false is m = (m.own is).1
-  own_offer (Get name key) drawn false is m = absurd (false≢true drawn)
-  own_offer (Del name key) drawn false is m = absurd (false≢true drawn)
-  own_offer (Scan name low high) drawn false is m = absurd (false≢true drawn)
-  own_offer Save drawn false is m = absurd (false≢true drawn)
-  own_offer (Back n) drawn false is m = absurd (false≢true drawn)
-  own_offer Offer drawn false is m = absurd (false≢true drawn)
-  own_offer Settle drawn false is m = absurd (false≢true drawn)
-  own_offer Purge drawn false is m = absurd (false≢true drawn)
+  own_offer (Table call) drawn false is m = (m.own is).1
+  own_offer (Control Commit) drawn false is m = (m.own is).1
+  own_offer (Control Abort) drawn false is m = (m.own is).1
+  own_offer (Control Offer) drawn false is m = absurd (false≢true drawn)
+  own_offer (Control Settle) drawn false is m = absurd (false≢true drawn)
+  own_offer (Control Purge) drawn false is m = absurd (false≢true drawn)
 
   pub still_free : IsTrue (is_drawn call) → AllUnoffered new
   still_free drawn c = elim (cases_eq c t) [
@@ -147,18 +138,18 @@ drawn-append [] ys one other = other
 drawn-append (turn ∷ xs) ys one other = (one.0, drawn-append xs ys one.1 other)
 
 -- an end is an abort or a commit
-end_ends : (b : Bool) → ends (if b then Abort else Commit) ≡ true
+end_ends : (b : Bool) → ends (Control (if b then Abort else Commit)) ≡ true
 end_ends true = refl
 end_ends false = refl
 
-end_drawn : (b : Bool) → is_drawn (if b then Abort else Commit) ≡ true
+end_drawn : (b : Bool) → is_drawn (Control (if b then Abort else Commit)) ≡ true
 end_drawn true = refl
 end_drawn false = refl
 
-last_ends : (x : ℕ) → ends (drawn_from x).end ≡ true
+last_ends : (x : ℕ) → ends (Control (drawn_from x).end) ≡ true
 last_ends x = end_ends (nat_eq (draw (drawn_on x 5) % 8) 0)
 
-last_drawn : (x : ℕ) → is_drawn (drawn_from x).end ≡ true
+last_drawn : (x : ℕ) → is_drawn (Control (drawn_from x).end) ≡ true
 last_drawn x = end_drawn (nat_eq (draw (drawn_on x 5) % 8) 0)
 
 -- by whether the caller is the one, and, of two, whether it is the other
@@ -173,10 +164,10 @@ paired_by true false e f g h i j k l is also = also
 paired_by false false e f g h i j k l is also = refl
 
 alone_rests : (c x : ℕ) → rests c true (alone (drawn_from x)) ≡ true
-alone_rests c x = alone_by (nat_eq 0 c) (ends (drawn_from x).end) (ends (drawn_from x).second) (ends (drawn_from x).first) (ends Begin) (last_ends x)
+alone_rests c x = alone_by (nat_eq 0 c) (ends (Control (drawn_from x).end)) (ends (Table (drawn_from x).second)) (ends (Table (drawn_from x).first)) (ends Begin) (last_ends x)
 
 paired_rests : (c x y : ℕ) → rests c true (paired (drawn_from x) (drawn_from y)) ≡ true
-paired_rests c x y = paired_by (nat_eq 0 c) (nat_eq 1 c) (ends (drawn_from y).end) (ends (drawn_from x).end) (ends (drawn_from y).second) (ends (drawn_from x).second) (ends (drawn_from y).first) (ends (drawn_from x).first)
+paired_rests c x y = paired_by (nat_eq 0 c) (nat_eq 1 c) (ends (Control (drawn_from y).end)) (ends (Control (drawn_from x).end)) (ends (Table (drawn_from y).second)) (ends (Table (drawn_from x).second)) (ends (Table (drawn_from y).first)) (ends (Table (drawn_from x).first))
     (ends Begin) (ends Begin) (last_ends y) (last_ends x)
 
 in_turn_rests : (c : ℕ) (pairs : Bool) (x count : ℕ) → rests c true (in_turn pairs x count) ≡ true

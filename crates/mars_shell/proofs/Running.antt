@@ -31,7 +31,7 @@ use Rattle.mars_shell.proofs.Waiting.{IsHandedBack}
 
 module _ (tells : Bool) (told : IsTrue tells) (old : View) (only_now : (image : List ℕ) → IsTrue tells → old.left_since old.moment image → MayLeave old.content image)
     (store : StoreView) (attached : Attached tells old store) (keeps : KeepsData tells old store.moment store.left_since) where
-  module _ (depth : ℕ) (later : StoreView) (new : View) (handed : IsHandedBack tells depth later new) where
+  module _ (depth : ℕ) (limit : store.depth ≡ depth) (later : StoreView) (new : View) (handed : IsHandedBack tells depth later new) where
     module _ (counts_now : (t : ℕ) (image : List ℕ) → IsTrue tells → t ≤ new.moment → MayLeave new.content image → new.left_since t image) where
       left_now : (image : List ℕ) → MayLeave new.content image → later.left_since later.moment image
       left_now image left = subst (λ (t : ℕ). later.left_since t image) handed.behind.moment (handed.behind.left new.moment image (counts_now new.moment image told (omega arith) left))
@@ -64,8 +64,8 @@ module _ (tells : Bool) (told : IsTrue tells) (old : View) (only_now : (image : 
           holds = holds tells told old only_now store attached keeps served.sound;
           turns = served.turns;
           final = served.final;
-          runs = subst (λ (b : List ℕ). Runs (limits_of (index_at b) store.shape) (begun_on (index_at b) b) served.turns served.final) (attached.bytes told) served.runs;
-          says = subst (λ (b : List ℕ). Says (limits_of (index_at b) store.shape) served.turns served.final) (attached.bytes told) served.says;
+          runs = subst (λ (x : List ℕ × ℕ). Runs (limits_of (index_at x.0) store.shape x.1) (begun_on (index_at x.0) x.0) served.turns served.final) (λ i. (attached.bytes told i, limit i)) served.runs;
+          says = subst (λ (x : List ℕ × ℕ). Says (limits_of (index_at x.0) store.shape x.1) served.turns served.final) (λ i. (attached.bytes told i, limit i)) served.says;
           names = served.names ∙ ap names_of (attached.bytes told);
           base = served.base ∙ ap (λ (b : List ℕ). table_of (index_at b) b) (attached.bytes told);
           legal = served.legal;

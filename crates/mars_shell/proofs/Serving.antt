@@ -33,8 +33,8 @@ use Rattle.mars_shell.specs.Served.{opens_of, Served}
 use Rattle.array_runs.proofs.Shapes.{same_limits}
 
 module _ (tells : Bool) (Opens : Shape → List ℕ → List ℕ → Type 0) (index : Index) (old mid : StoreView) (core : CoreView) (begins : Begins tells (Opens old.shape) index old mid core) where
-  pub limits_are : core.limits ≡ limits_of index old.shape
-  limits_are = begins.over.limits ∙ ap (limits_of index) begins.shape
+  pub limits_are : core.limits ≡ limits_of index old.shape old.depth
+  limits_are = begins.over.limits ∙ (λ i. limits_of index (begins.shape i) (begins.depth i))
 
   pub begun_is : IsTrue tells → core.state ≡ begun_on index old.state.bytes
   begun_is told = begins.state told
@@ -76,7 +76,7 @@ module _ (tells : Bool) (Opens : Shape → List ℕ → List ℕ → Type 0) (in
 
   module _ (told : IsTrue tells) (new : StoreView) (later : CoreView) (over : IsOver tells (Opens new.shape) index new later) (on : Continues core later) where
     shape : new.shape ≡ old.shape
-    shape = same_limits index new.shape mid.shape (sym over.limits ∙ on.limits ∙ begins.over.limits) ∙ begins.shape
+    shape = same_limits index new.shape mid.shape new.depth mid.depth (sym over.limits ∙ on.limits ∙ begins.over.limits) ∙ begins.shape
 
     base_is : later.state.base ≡ table_of index old.state.bytes
     base_is = on.base ∙ ap (λ (s : State). s.base) (begun_is told)
@@ -130,7 +130,7 @@ module _ (tells : Bool) (Opens : Shape → List ℕ → List ℕ → Type 0) (in
     })
 
     -- what holds of the first state
-    of_first : (P : Limits → State → Type 0) → P core.limits core.state → P (limits_of index old.shape) (begun_on index old.state.bytes)
+    of_first : (P : Limits → State → Type 0) → P core.limits core.state → P (limits_of index old.shape old.depth) (begun_on index old.state.bytes)
     of_first P holds = subst (λ (l : Limits). P l (begun_on index old.state.bytes)) limits_are (subst (λ (s : State). P core.limits s) (begun_is told) holds)
 
     pub served_on : (Says : Limits → List Turn → State → Type 0) (ended : Ended) (turns : TurnsOn Says core ended later) → Served Says Opens index old ended new
@@ -151,7 +151,7 @@ module _ (tells : Bool) (Opens : Shape → List ℕ → List ℕ → Type 0) (in
           let living = sym over.dead ∙ turns.alive unfailed in
           (living, record { sound = over.sound told living; names = over.names told living; table = over.table told living; keys = over.keys told });
       unwritten = λ unfailed reads. ap (λ (x : caller.Index). x.bytes) (sym (over.keys told)
-          ∙ reads_leave (limits_of index old.shape) (begun_on index old.state.bytes) later.state turns.turns (of_first (λ l s. Runs l s turns.turns later.state) turns.runs) (λ caller. refl) reads (turns.alive unfailed));
+          ∙ reads_leave (limits_of index old.shape old.depth) (begun_on index old.state.bytes) later.state turns.turns (of_first (λ l s. Runs l s turns.turns later.state) turns.runs) (λ caller. refl) reads (turns.alive unfailed));
     }
 
   -- callers took turns

@@ -5,7 +5,9 @@ use Rattle.history.specs.Writes.{rows_of}
 use Rattle.std.specs.Fmt.{decimal}
 use Rattle.std.specs.List.{All, sum_by}
 use Rattle.history.specs.declared.call.Call.{Call}
-use Rattle.history.specs.declared.call.Call.TheVariants.{Begin, Scan, Abort}
+use Rattle.history.specs.declared.call.Call.TheVariants.{Begin, Table, Control}
+use Rattle.history.specs.declared.call.TableCall.TheVariants.{Scan}
+use Rattle.history.specs.declared.call.Control.TheVariants.{Abort}
 use Rattle.history.specs.declared.call.Reply.{Reply}
 use Rattle.history.specs.declared.call.Reply.TheVariants.{Fine, Committed, Busy, LogFull, SlotsFull, PagesFull, Media}
 use Rattle.caller_steps.specs.State.{State, records_of}
@@ -23,7 +25,7 @@ use Rattle.mars_shell.specs.Told.{TellsEnd}
 -- the word under which the summary counts a reply to a call: a commit or an abort that was done, a locked key, or an array that is full
 abbrev pub word_of : Reply → Call → List ℕ
 word_of (Committed n) call = codes "committed"
-word_of Fine Abort = codes "aborted"
+word_of Fine (Control Abort) = codes "aborted"
 word_of (Busy holder) call = codes "busy"
 word_of (LogFull logger held needed) call = codes "refused"
 word_of (SlotsFull slots) call = codes "refused"
@@ -45,7 +47,7 @@ last_key = 2 ^ 64 - 1
 -- The calls of a drill: those that are drawn, and behind them caller 0 begins and scans `main`. By then no caller has a transaction that stands
 -- in its way.
 abbrev pub drill_calls : ℕ → ℕ → ℕ → List (ℕ × Call)
-drill_calls seed count callers = drill seed count callers ++ (0, Begin) ∷ (0, Scan main_name 0 last_key) ∷ []
+drill_calls seed count callers = drill seed count callers ++ (0, Begin) ∷ (0, Table (Scan main_name 0 last_key)) ∷ []
 
 -- By how the script ended: all its calls were made, and after each reply it went on. If the medium failed, it was at the last call made.
 abbrev pub AreMade : Ended → List (ℕ × Call) → List Turn → Type 0

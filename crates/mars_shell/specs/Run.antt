@@ -36,8 +36,8 @@ pub record TakesTurns (depth : ℕ) (Says : Limits → List Turn → State → T
   pub holds : HoldsRecords shape old
   pub turns : List Turn
   pub final : State
-  pub runs : Runs (limits_of (index_in shape old) shape) (begun_on (index_in shape old) (settled_data shape old.content.bytes)) turns final
-  pub says : Says (limits_of (index_in shape old) shape) turns final
+  pub runs : Runs (limits_of (index_in shape old) shape depth) (begun_on (index_in shape old) (settled_data shape old.content.bytes)) turns final
+  pub says : Says (limits_of (index_in shape old) shape depth) turns final
   pub names : final.names ≡ names_of (settled_data shape old.content.bytes)
   pub base : final.base ≡ table_of (index_in shape old) (settled_data shape old.content.bytes)
   pub legal : IsLegal final.base (final.history ++ final.doubt)

@@ -34,8 +34,8 @@ pub record Served (Says : Limits → List Turn → State → Type 0) (Opens : Sh
   pub shape : new.shape ≡ old.shape
   pub turns : List Turn
   pub final : State
-  pub runs : Runs (limits_of index old.shape) (begun_on index old.state.bytes) turns final
-  pub says : Says (limits_of index old.shape) turns final
+  pub runs : Runs (limits_of index old.shape old.depth) (begun_on index old.state.bytes) turns final
+  pub says : Says (limits_of index old.shape old.depth) turns final
   pub names : final.names ≡ names_of old.state.bytes
   pub base : final.base ≡ table_of index old.state.bytes
   pub legal : IsLegal final.base (final.history ++ final.doubt)

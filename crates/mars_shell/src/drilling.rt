@@ -1,7 +1,8 @@
 // The work of a drawn script, which ends with a summary.
 ghost use Rattle.std.specs.Prelude.{◌≡◌, ◌<◌, ◌^◌, IsTrue, IfOk, IfErr};
 ghost use Rattle.history.specs.Key.{main_name};
-ghost use Rattle.history.specs.declared.call.Call.TheVariants.{Scan};
+ghost use Rattle.history.specs.declared.call.Call.TheVariants.{Table};
+ghost use Rattle.history.specs.declared.call.TableCall.TheVariants.{Scan};
 ghost use Rattle.mars_manager.specs.Sharing.{CanShare};
 ghost use Rattle.mars_shell.specs.Drill.{drill_calls, last_key};
 ghost use Rattle.mars_core.specs.Held.{core_of};
@@ -17,7 +18,7 @@ use caller_steps::Core as Steps;
 use command_words::DrillNumbers;
 use drill_gen::script;
 use eaw_face::EawStore;
-use history::{Call, main_table};
+use history::{Call, TableCall, main_table};
 use mars_base::NoMemory;
 use mars_core::Core;
 use noted::Keeper;
@@ -75,13 +76,13 @@ impl CoreWork for DrawnScript {
 
 // What it asks: all records of `main`.
 fn whole_scan() -> Call
-    ensures { result ≡ Scan main_name 0 last_key }
+    ensures { result ≡ Table (Scan main_name 0 last_key) }
 {
-    Call::Scan {
+    Call::Table(TableCall::Scan {
         table: main_table(),
         low: 0,
         high: u64::MAX,
-    }
+    })
 }
 
 // Makes the calls on a core and forms the summary. An error says why there is none.

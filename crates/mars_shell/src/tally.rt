@@ -3,7 +3,7 @@ ghost use Rattle.std.specs.Prelude.{◌≡◌, ◌≤◌, ◌<◌, ◌+◌, ◌-
 ghost use Rattle.history.specs.declared.call.Reply.TheVariants.{Fine};
 ghost use Rattle.mars_shell.specs.Tally.{tally_of, total, counted, Counted, Goes};
 
-use history::{Call, Reply};
+use history::{Call, Control, Reply};
 use script_run::Stop;
 
 /// How many commits and aborts were done, how many calls found their keys locked, and how many found the array full.
@@ -74,18 +74,11 @@ impl Tally {
         ensures one { total self.new ≤ total self.old + 1 }
     {
         match call {
-            Call::Abort => self.aborted += 1,
+            Call::Control(Control::Abort) => self.aborted += 1,
             Call::Begin
-            | Call::Get { .. }
-            | Call::Put { .. }
-            | Call::Del { .. }
-            | Call::Scan { .. }
-            | Call::Save
-            | Call::Back { .. }
-            | Call::Commit
-            | Call::Offer
-            | Call::Settle
-            | Call::Purge => {}
+            | Call::Table(_)
+            | Call::Control(Control::Commit | Control::Offer | Control::Settle | Control::Purge) =>
+                {}
         }
     }
 }

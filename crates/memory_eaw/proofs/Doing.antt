@@ -37,6 +37,7 @@ pub does_done : {T : Type 0} (x : T) (old new : Plain) (command : Command) → M
     → LeavesOnly (IsEither IsData old.bytes (after command (view_of old).state).bytes) (view_of old) (view_of new) → Does true IsData command (view_of old) (view_of new) (answer x)
 does_done x old new command may shape faults becomes time = record {
   shape = shape;
+  depth = refl;
   later = omega (arith, faults);
   cause = may;
   done = becomes;
@@ -44,7 +45,7 @@ does_done x old new command may shape faults becomes time = record {
   dies = λ is. absurd (cc is);
   others = λ u other. ap (λ (ranges : Logs (ℕ × ℕ)). ranges u) becomes.ranges ∙ others_after command (view_of old).ranges u other;
   time = λ told alive. time;
-  mirrors = none_sent true (view_of old) (view_of new) shape refl (λ _. may.0) (λ told mirrors alive. absurd (false≢true mirrors));
+  mirrors = none_sent true (view_of old) (view_of new) shape refl refl (λ _. may.0) (λ told mirrors alive. absurd (false≢true mirrors));
   one = omega arith;
   sends = λ mirrors. absurd (false≢true mirrors);
   refused = tt;
@@ -54,6 +55,7 @@ does_done x old new command may shape faults becomes time = record {
 pub does_refused : {T : Type 0} (store : StoreView) (command : Command) (fault : EawFault) → (let r : Result T EawFault = Err fault in Cause store command store.faults r) → (fault ≡ Media → ⊥) → (let r : Result T EawFault = Err fault in Does true IsData command store store r)
 does_refused {T} store command fault cause other = record {
   shape = refl;
+  depth = refl;
   later = omega arith;
   cause = cause;
   done = tt;
@@ -61,7 +63,7 @@ does_refused {T} store command fault cause other = record {
   dies = λ is. absurd (other (same is));
   others = λ u apart. refl;
   time = λ told alive. stays store.moment store.left_since (IsEither IsData store.state.bytes (after command store.state).bytes);
-  mirrors = none_sent true store store refl refl (λ alive. alive) (λ told mirrors alive. refl);
+  mirrors = none_sent true store store refl refl refl (λ alive. alive) (λ told mirrors alive. refl);
   one = omega arith;
   sends = tt;
   refused = refl;

@@ -3,9 +3,10 @@ use Rattle.std.specs.Prelude.{ℕ, ◌≡◌, false, List, None}
 use Rattle.array_shape.specs.declared.shape.Shape.{Shape}
 use Rattle.eaw_face.specs.StoreView.{StoreView}
 
--- It has this shape and data, no number is live, nothing has failed, and a loss of power leaves only this data.
+-- It has this shape and data, no commit may wait, no number is live, nothing has failed, and a loss of power leaves only this data.
 pub record IsFresh (shape : Shape) (bytes : List ℕ) (store : StoreView) : Type 0 where
   pub shape_is : store.shape ≡ shape
+  pub depth : store.depth ≡ 0
   pub bytes_are : store.state.bytes ≡ bytes
   pub free : (t : ℕ) → store.ranges t ≡ None
   pub alive : store.is_dead ≡ false

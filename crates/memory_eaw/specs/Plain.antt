@@ -33,6 +33,7 @@ IsData image bytes = image ≡ bytes
 abbrev pub view_of : Plain → StoreView
 view_of plain = record {
   shape = plain.shape;
+  depth = 0;
   state = record { bytes = plain.bytes; logs = logged plain.logs };
   ranges = outline (logged plain.logs);
   is_dead = plain.is_dead;
@@ -55,6 +56,7 @@ pub record IsSound (plain : Plain) : Type 0 where
 -- two stores show the same
 pub record SameStore (old new : StoreView) : Type 0 where
   pub shape : new.shape ≡ old.shape
+  pub depth : new.depth ≡ old.depth
   pub state : new.state ≡ old.state
   pub ranges : new.ranges ≡ old.ranges
   pub is_dead : new.is_dead ≡ old.is_dead

@@ -351,6 +351,7 @@ impl MemoryEaw {
 impl EawStore for MemoryEaw {
     ghost use Rattle.std.specs.Prelude.{true, refl};
     ghost use Rattle.std.proofs.Common.{sym, ◌∙◌};
+    ghost use Rattle.std.proofs.Math.Nat.{le_refl};
     ghost use Rattle.memory_eaw.specs.Plain.{IsData};
     ghost use Rattle.memory_eaw.specs.Shown.{plain_of, shown, kept_of};
     ghost use Rattle.memory_eaw.specs.Calls.{plain_calls};
@@ -365,6 +366,8 @@ impl EawStore for MemoryEaw {
     ghost calls = { λ s command. plain_calls command (shown s) };
 
     ghost shaped = { λ s. s.shape.in_range };
+
+    ghost few_wait = { λ s. le_refl 0 };
 
     ghost long = { λ s told. s.sound.long };
 

@@ -131,6 +131,7 @@ pub record GroupsOn (tells : Bool) (Opens : Shape → List ℕ → List ℕ → 
   pub members : numbers_in bits ≡ numbers gone
   pub above : (u : ℕ) → low ≤ u → has bits u ≡ false
   pub shape : now.shape ≡ old.shape
+  pub depth : now.depth ≡ old.depth
   pub alive : now.is_dead ≡ false
   pub faults : now.faults ≡ old.faults
   pub live : known now (commit_group (numbers gone)) None
@@ -230,6 +231,7 @@ module _ (tells : Bool) (Opens : Shape → List ℕ → List ℕ → Type 0) (k 
     members = none;
     above = λ u le. lacks u;
     shape = refl;
+    depth = refl;
     alive = alive;
     faults = refl;
     live = tt;
@@ -353,6 +355,7 @@ module _ (tells : Bool) (Opens : Shape → List ℕ → List ℕ → Type 0) (k 
                 ∙ ap (λ (l : List ℕ). l ++ g.number ∷ []) on.members ∙ sym more_numbers;
             above = λ u le. same_bits u (λ same. omega (arith, le, same, is_number)) ∙ on.above u (omega (arith, le, n.next.least));
             shape = wrote.shape ∙ on.shape;
+            depth = wrote.depth ∙ on.depth;
             alive = wrote.alive;
             faults = wrote.faults ∙ on.faults;
             live = subst (λ (ts : List ℕ). known new (commit_group ts) None) (sym more_numbers) (known_more new (numbers on.gone) g.number (known_there now new live_there (numbers on.gone) on.live) live_here);
@@ -417,6 +420,7 @@ module _ (tells : Bool) (Opens : Shape → List ℕ → List ℕ → Type 0) (k 
           go (Ok x) done kept = record {
             frame = on.whole;
             shape = does.shape ∙ on.shape;
+            depth = does.depth ∙ on.depth;
             alive = done.alive;
             faults = kept ∙ on.faults;
             free = λ u. ap (λ (f : Logs (ℕ × ℕ)). f u) done.ranges ∙ none_left u;

@@ -48,6 +48,7 @@ module _ (tells : Bool) (Opens : Shape → List ℕ → List ℕ → Type 0) (ol
   data_more : (f2 : List Frame) (new : StoreView) → HasFollowed tells f2 mid.store new → HasFollowed tells (one.frames ++ f2) old.store new
   data_more f2 new h = record {
     shape = h.shape ∙ one.data_is.shape;
+    depth = h.depth ∙ one.data_is.depth;
     data_is = λ told. h.data_is told ∙ ap (λ (d : List ℕ). followed f2 d) (one.data_is.data_is told) ∙ sym (followed_append one.frames f2 old.store.state.bytes);
   }
 
@@ -141,7 +142,7 @@ follows_none tells old ready = record {
   cuts = record { good = All-nil (IsFrameIn old.store.shape); sequence = tt; joined = append-nil old.rest };
   count = omega arith;
   faults = refl;
-  data_is = record { shape = refl; data_is = λ told. refl };
+  data_is = record { shape = refl; depth = refl; data_is = λ told. refl };
   ready = ready;
 }
 

@@ -128,7 +128,7 @@ module _ (tells : Bool) (Opens : Shape → List ℕ → List ℕ → Type 0) (nu
     room = parts.room;
     said = refl;
     said_left = parts.is;
-    wrote = record { shape = refl; alive = alive; faults = refl; ranges = refl; bytes = λ told. refl; logs = λ told. refl };
+    wrote = record { shape = refl; depth = refl; alive = alive; faults = refl; ranges = refl; bytes = λ told. refl; logs = λ told. refl };
     moments = λ told. stays old.moment old.left_since (λ image. Opens old.shape image old.state.bytes);
   }
 
@@ -248,6 +248,7 @@ module _ (tells : Bool) (Opens : Shape → List ℕ → List ℕ → Type 0) (nu
             said_left = behind;
             wrote = record {
               shape = does.shape ∙ on.wrote.shape;
+              depth = does.depth ∙ on.wrote.depth;
               alive = does.done.alive;
               faults = does.kept ∙ on.wrote.faults;
               ranges = ranges_now;

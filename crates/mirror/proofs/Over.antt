@@ -68,6 +68,7 @@ pub does_over : {T : Type 0} (tells : Bool) (Opens : List ℕ → List ℕ → T
     → OnOk r (before.mirrors ≡ true → SendsDue tells command m.added (over old before) (over new after)) → OnErr r (after ≡ before) → Does tells Opens command (over old before) (over new after) r
 does_over tells Opens command old new before after r does mirrors one sends refused = record {
   shape = does.shape;
+  depth = does.depth;
   later = does.later;
   cause = cause_over old before command new.faults r does.cause;
   done = on_ok_weaker r (λ becomes. record { alive = becomes.alive; ranges = becomes.ranges; state = becomes.state }) does.done;

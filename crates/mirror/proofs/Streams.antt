@@ -27,7 +27,7 @@ sequence_said shape bytes f =
 -- a frame was applied whose sequence was read
 pub applied_next : (tells : Bool) (count : ℕ) (read bytes : List ℕ) (old new : StoreView) → read ≡ bytes → little_number 8 (drop 4 bytes) ≡ count + 1 → Applied tells read old new → AppliesNext tells count bytes old new
 applied_next tells count read bytes old new same next a = record {
-  applied = record { frame = record { frame = a.frame.frame; good = a.frame.good; is = a.frame.is ∙ same }; shape = a.shape; alive = a.alive; faults = a.faults; free = a.free; data_is = a.data_is };
+  applied = record { frame = record { frame = a.frame.frame; good = a.frame.good; is = a.frame.is ∙ same }; shape = a.shape; depth = a.depth; alive = a.alive; faults = a.faults; free = a.free; data_is = a.data_is };
   next = sym (sequence_said old.shape read a.frame) ∙ ap (λ (l : List ℕ). little_number 8 (drop 4 l)) same ∙ next;
 }
 
@@ -72,7 +72,7 @@ module _ (tells : Bool) (Opens : Shape → List ℕ → List ℕ → Type 0) (ol
   }
 
   same_data : HasFollowed tells [] old.store old.store
-  same_data = record { shape = refl; data_is = λ told. refl }
+  same_data = record { shape = refl; depth = refl; data_is = λ told. refl }
 
   -- the frame is not whole
   pub byte_kept : (new : List ℕ) → new ≡ rest → (AreFrame old.store.shape rest → ⊥) → CanGoOn old.store.shape new → Follows tells old (record { store = old.store; applied = old.applied; rest = new }) (byte ∷ [])
@@ -107,13 +107,13 @@ module _ (tells : Bool) (Opens : Shape → List ℕ → List ℕ → Type 0) (ol
     later = [];
     stops = record {
       cuts = record { good = All-nil (IsFrameIn old.store.shape); sequence = tt; joined = sym f.is ∙ sym (append-nil (frame_bytes f.frame)) };
-      data_is = record { shape = cause.0; data_is = λ told. cause.1 };
-      faults = cause.2;
-      alive = cause.3 ∙ ready.alive;
+      data_is = record { shape = cause.0; depth = cause.1; data_is = λ told. cause.2 };
+      faults = cause.3;
+      alive = cause.4 ∙ ready.alive;
     };
     good = f.good;
-    got_is = sym (cause.4 (subst (AreFrame old.store.shape) (sym is) f));
-    gap = subst (λ (n : ℕ). IsGap n expected got) (let same : old.applied ≡ old.applied + 0 = omega arith in same) cause.5;
+    got_is = sym (cause.5 (subst (AreFrame old.store.shape) (sym is) f));
+    gap = subst (λ (n : ℕ). IsGap n expected got) (let same : old.applied ≡ old.applied + 0 = omega arith in same) cause.6;
   }
   frame_refused bytes is f new Media cause = cause
   frame_refused bytes is f new BadFrame cause = absurd cause
@@ -142,6 +142,6 @@ module _ (tells : Bool) (Opens : Shape → List ℕ → List ℕ → Type 0) (ol
         cuts = subst (λ (l : List ℕ). Cuts old (byte ∷ []) (a.frame.frame ∷ []) l) (sym none) (one_cut (record { frame = a.frame.frame; good = a.frame.good; is = a.frame.is ∙ is }) next.next);
         count = omega (arith, count_is);
         faults = a.faults;
-        data_is = record { shape = a.shape; data_is = a.data_is };
+        data_is = record { shape = a.shape; depth = a.depth; data_is = a.data_is };
         ready = record { alive = a.alive; free = a.free; none = subst (HasNoFrame new.shape) (sym none) (none_at_first new.shape); goes_on = subst (λ (s : Shape). CanGoOn s left) (sym a.shape) goes_on };
       }

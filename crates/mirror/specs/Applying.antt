@@ -28,6 +28,7 @@ logged_more logs t (x ∷ xs) = with_log logs t (Some (listed (logs t) ++ x ∷ 
 -- from one view of a store to a later one, these parts were logged under a number
 pub record Wrote (tells : Bool) (number : ℕ) (parts : List Part) (old new : StoreView) : Type 0 where
   pub shape : new.shape ≡ old.shape
+  pub depth : new.depth ≡ old.depth
   pub alive : new.is_dead ≡ false
   pub faults : new.faults ≡ old.faults
   pub ranges : new.ranges ≡ logged_more old.ranges number (ranges_of parts)
@@ -52,6 +53,7 @@ IsFree store = (t : ℕ) → store.ranges t ≡ None
 pub record Applied (tells : Bool) (bytes : List ℕ) (old new : StoreView) : Type 0 where
   pub frame : AreFrame old.shape bytes
   pub shape : new.shape ≡ old.shape
+  pub depth : new.depth ≡ old.depth
   pub alive : new.is_dead ≡ false
   pub faults : new.faults ≡ old.faults
   pub free : IsFree new

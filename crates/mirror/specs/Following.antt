@@ -54,6 +54,7 @@ pub record Cuts (old : Stand) (piece : List ℕ) (frames : List Frame) (left : L
 -- the data is that before with these frames applied
 pub record HasFollowed (tells : Bool) (frames : List Frame) (old new : StoreView) : Type 0 where
   pub shape : new.shape ≡ old.shape
+  pub depth : new.depth ≡ old.depth
   pub data_is : IsTrue tells → new.state.bytes ≡ followed frames old.state.bytes
 
 -- A piece was fed: its whole frames are applied, and the follower keeps the bytes behind them, which begin with no whole frame.
@@ -130,7 +131,7 @@ pub record AppliesNext (tells : Bool) (count : ℕ) (bytes : List ℕ) (old new 
 -- why a whole frame was not applied: it is not the next one, and nothing changed, or the medium failed
 abbrev pub NotApplied : ℕ → List ℕ → StoreView → StoreView → FollowFault → Type 0
 NotApplied count bytes old new (Gap expected got) =
-    (new.shape ≡ old.shape) × (new.state.bytes ≡ old.state.bytes) × (new.faults ≡ old.faults) × (new.is_dead ≡ old.is_dead) × ((f : AreFrame old.shape bytes) → f.frame.sequence ≡ got) × IsGap count expected got
+    (new.shape ≡ old.shape) × (new.depth ≡ old.depth) × (new.state.bytes ≡ old.state.bytes) × (new.faults ≡ old.faults) × (new.is_dead ≡ old.is_dead) × ((f : AreFrame old.shape bytes) → f.frame.sequence ≡ got) × IsGap count expected got
 NotApplied count bytes old new Media = Rose old.faults new.faults
 NotApplied count bytes old new _ = ⊥
 

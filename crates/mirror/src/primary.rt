@@ -110,6 +110,8 @@ impl<S: EawStore, L: Link> EawStore for Primary<S, L> {
 
     ghost shaped = { λ p. S.shaped p.store };
 
+    ghost few_wait = { λ p. S.few_wait p.store };
+
     ghost long = { λ p. S.long p.store };
 
     ghost outlines = { λ p. S.outlines p.store };

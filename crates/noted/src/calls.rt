@@ -4,7 +4,7 @@ ghost use Rattle.history.specs.Writes.{Row};
 
 use crate::keeper::Keeper;
 use crate::notes::CallNotes;
-use history::{Call, Calls, CallsWithRoom, Reply};
+use history::{Calls, CallsWithRoom, Reply, TableCall};
 use std::alloc::Global;
 use std::marker::{Model, PhantomData};
 
@@ -18,10 +18,10 @@ pub struct LiveCalls<H: Keeper> {
 
 impl<H: Keeper> Model for LiveCalls<H> {
     ghost use Rattle.std.specs.Prelude.{List, ◌≡◌, IsTrue, IsSome, IfSome};
-    ghost use Rattle.history.specs.declared.call.Call.{Call};
+    ghost use Rattle.history.specs.declared.call.TableCall.{TableCall};
     ghost use Rattle.history.specs.declared.call.Reply.{Reply};
 
-    ghost Value = { List (Call × Reply) };
+    ghost Value = { List (TableCall × Reply) };
 
     ghost view = { λ c. c.notes.entries };
 
@@ -100,10 +100,10 @@ pub struct LiveCallsWithRoom<H: Keeper> {
 
 impl<H: Keeper> Model for LiveCallsWithRoom<H> {
     ghost use Rattle.std.specs.Prelude.{List, ◌≡◌, IsTrue, IsSome, IfSome};
-    ghost use Rattle.history.specs.declared.call.Call.{Call};
+    ghost use Rattle.history.specs.declared.call.TableCall.{TableCall};
     ghost use Rattle.history.specs.declared.call.Reply.{Reply};
 
-    ghost Value = { List (Call × Reply) };
+    ghost Value = { List (TableCall × Reply) };
 
     ghost view = { λ c. c.notes.entries };
 
@@ -112,7 +112,7 @@ impl<H: Keeper> Model for LiveCallsWithRoom<H> {
 
 impl<H: Keeper> LiveCallsWithRoom<H> {
     /// The calls with this one, in the room that there is, or as they are. Only the rows of a scan can lack memory.
-    pub fn push(self, call: &Call, reply: &Reply) -> Result<LiveCalls<H>, LiveCalls<H>>
+    pub fn push(self, call: &TableCall, reply: &Reply) -> Result<LiveCalls<H>, LiveCalls<H>>
         ensures ok { IfOk result (λ calls. calls ≡ self ++ (call.now, reply.now) ∷ []) }
         ensures err { IfErr result (λ calls. calls ≡ self) }
         ensures listed { OnErr result ((rows : List Row) × (reply.now ≡ Reply.Listed rows)) }

@@ -2,18 +2,18 @@
 ghost use Rattle.std.specs.Prelude.{◌≡◌, [], ◌∷◌, ◌++◌, List, ℕ};
 ghost use base.Fml.{ftrue};
 ghost use Rattle.history.specs.Rows.{NamedRows};
-ghost use Rattle.history.specs.declared.call.Call.{Call};
+ghost use Rattle.history.specs.declared.call.TableCall.{TableCall};
 ghost use Rattle.history.specs.declared.call.Reply.{Reply};
 ghost use Rattle.history.specs.declared.transaction.Done.{Done};
 
-use history::{Call, Reply};
+use history::{Reply, TableCall};
 use record_slots::{Name, Value};
 use std::marker::Model;
 
 /// The granted calls of a transaction, each with its reply.
 #[derive(Drop)]
 pub struct CallNotes {
-    pub ghost entries: { List (Call × Reply) },
+    pub ghost entries: { List (TableCall × Reply) },
 }
 
 impl Model for CallNotes {
@@ -32,7 +32,7 @@ impl CallNotes {
 
     /// The same with one more call behind them.
     #[inline(always)]
-    pub fn then(&self, _call: &Call, _reply: &Reply) -> CallNotes
+    pub fn then(&self, _call: &TableCall, _reply: &Reply) -> CallNotes
         ensures { result.entries ≡ self.now.entries ++ (_call.now, _reply.now) ∷ [] }
     {
         CallNotes {}

@@ -21,17 +21,17 @@ use Rattle.open_records.specs.declared.opening.OpenFault.{OpenFault}
 use Rattle.open_records.specs.declared.opening.OpenFault.TheVariants.{Array, Records, Callers, NoMemory}
 
 -- the core begins with the tables and the records of the data that the image opens with, over that data in version 2, and has the limits of
--- its array
-pub record Begins (index : Index) (shape : Shape) (bytes : List ℕ) (core : CoreView) : Type 0 where
-  pub limits : core.limits ≡ limits_of index shape
+-- its array, where so many commits may wait for their write-back
+pub record Begins (index : Index) (depth : ℕ) (shape : Shape) (bytes : List ℕ) (core : CoreView) : Type 0 where
+  pub limits : core.limits ≡ limits_of index shape depth
   pub state : core.state ≡ opened (names_of bytes) (table_of index bytes) (index_of index (upgraded bytes))
   pub sound : index.sound bytes
 
 -- it does so with the data of an array that the medium holds
-pub record BeginsOn (index : Index) (media : View) (core : CoreView) : Type 0 where
+pub record BeginsOn (index : Index) (depth : ℕ) (media : View) (core : CoreView) : Type 0 where
   pub shape : Shape
   pub array : IsArray shape media
-  pub begins : Begins index shape (settled_data shape media.content.bytes) core
+  pub begins : Begins index depth shape (settled_data shape media.content.bytes) core
 
 -- an image opens with the data of one that could be left at first, as that was or in version 2
 abbrev pub OpensAsLeft : Shape → Content → List ℕ → Type 0

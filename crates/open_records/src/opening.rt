@@ -44,8 +44,8 @@ pub fn open<M: Media, K: KeyIndex, H: Keeper, D: Depth>(
 ) -> Result<Core<Eaw<M, D>, K, H>, (OpenFault, M)>
     requires { IsOfDepth D.least D.most depth }
     // The medium holds an array, and the core begins with the records of its data, which are those of the data with which the image opens.
-    ensures array { IfOk result (λ core. IsTrue M.tells → BeginsOn K.index (M.view media) (⟦<Core<Eaw<M, D>, K, H> as Steps>⟧.view core)) }
-    ensures opened { IfOk result (λ core. OfData M.tells (M.view media) (λ shape bytes. Begins K.index shape bytes (⟦<Core<Eaw<M, D>, K, H> as Steps>⟧.view core))) }
+    ensures array { IfOk result (λ core. IsTrue M.tells → BeginsOn K.index depth (M.view media) (⟦<Core<Eaw<M, D>, K, H> as Steps>⟧.view core)) }
+    ensures opened { IfOk result (λ core. OfData M.tells (M.view media) (λ shape bytes. Begins K.index depth shape bytes (⟦<Core<Eaw<M, D>, K, H> as Steps>⟧.view core))) }
     ensures sound { IfOk result (λ core. IsTrue M.tells → IsSound (⟦<Core<Eaw<M, D>, K, H> as Steps>⟧.view core).state) }
     // The data of the array shows the first state, and so each state of a run that is not dead.
     ensures shown { IfOk result (λ core. IsTrue M.tells → IsShown (⟦<Core<Eaw<M, D>, K, H> as Steps>⟧.view core).limits (⟦<Core<Eaw<M, D>, K, H> as Steps>⟧.view core).state) }
@@ -53,6 +53,8 @@ pub fn open<M: Media, K: KeyIndex, H: Keeper, D: Depth>(
     ensures fresh { IfOk result (λ core. ((⟦<Core<Eaw<M, D>, K, H> as Steps>⟧.view core).state.history ≡ []) × ((caller : ℕ) → (⟦<Core<Eaw<M, D>, K, H> as Steps>⟧.view core).state.live caller ≡ None)
         × ((⟦<Core<Eaw<M, D>, K, H> as Steps>⟧.view core).state.doubt ≡ []) × ((caller : ℕ) → (⟦<Core<Eaw<M, D>, K, H> as Steps>⟧.view core).state.offers caller ≡ unoffered)) }
     ensures enough { IfOk result (λ core. callers ≤ (⟦<Core<Eaw<M, D>, K, H> as Steps>⟧.view core).limits.callers) }
+    // As many commits may wait for their write-back as were asked for.
+    ensures depth { IfOk result (λ core. (⟦<Core<Eaw<M, D>, K, H> as Steps>⟧.view core).limits.depth ≡ depth) }
     ensures whole { IfOk result (λ core. (⟦<Core<Eaw<M, D>, K, H> as Steps>⟧.view core).faults ≡ (M.view media).faults) }
     // At each moment of it, what a loss of power leaves opens with data that was left before, or with the same in version 2.
     ensures time { IfOk result (λ core. KeepsRecords M.tells (M.view media) (⟦<Core<Eaw<M, D>, K, H> as Steps>⟧.view core).moment (⟦<Core<Eaw<M, D>, K, H> as Steps>⟧.view core).left_since) }

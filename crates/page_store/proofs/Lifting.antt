@@ -128,6 +128,7 @@ module _ (tells : Bool) (Opens : List ℕ → List ℕ → Type 0) (c : PageComm
       → OnErr s ((new.counts ≡ old.counts) × (new.top ≡ old.top)) → Does tells Opens c old new s
   lifted r s same does marks left = record {
     shape = does.shape;
+    depth = does.depth;
     cause = lifted_cause r s same does.cause;
     kept = lifted_kept r s same does.kept;
     done = lifted_done r s same does marks;
@@ -191,7 +192,7 @@ module _ (tells : Bool) (Opens : List ℕ → List ℕ → Type 0) (c : PageComm
   }
 
   abbrev still_mirrors : Mirrors tells old.store new.store
-  still_mirrors = subst (λ (st : StoreView). Mirrors tells old.store st) (sym same) (none_sent tells old.store old.store refl refl (λ fine. fine) (λ told mirrors fine. refl))
+  still_mirrors = subst (λ (st : StoreView). Mirrors tells old.store st) (sym same) (none_sent tells old.store old.store refl refl refl (λ fine. fine) (λ told mirrors fine. refl))
 
   still_sends : SendsAs tells (device c (outline_of old)) still_mirrors.added old.store new.store
   still_sends = subst (λ (o : Option Command). SendsAs tells o still_mirrors.added old.store new.store) (sym device_is) (ap (λ (st : StoreView). st.sending) same)
@@ -199,6 +200,7 @@ module _ (tells : Bool) (Opens : List ℕ → List ℕ → Type 0) (c : PageComm
   pub still : {U : Type 0} (y : U) → HasRoom old c → (let s : Result U PageFault = Ok y in Does tells Opens c old new s)
   still y room = record {
     shape = ap (λ (st : StoreView). st.shape) same;
+    depth = ap (λ (st : StoreView). st.depth) same;
     cause = (alive, room);
     kept = ap (λ (st : StoreView). st.faults) same;
     done = still_becomes;
@@ -217,6 +219,7 @@ pub unchanged : {U : Type 0} (tells : Bool) (Opens : List ℕ → List ℕ → T
     → (let s : Result U PageFault = Err p in Cause old c old.store.faults s) → (let s : Result U PageFault = Err p in Does tells Opens c old old s)
 unchanged tells Opens c old p other cause = record {
   shape = refl;
+  depth = refl;
   cause = cause;
   kept = tt;
   done = tt;
@@ -224,7 +227,7 @@ unchanged tells Opens c old p other cause = record {
   dies = λ is. absurd (other (IfErr-at_err (λ q. p ≡ q) is refl));
   others = λ u ne. refl;
   time = λ tell living. stays old.store.moment old.store.left_since _;
-  mirrors = none_sent tells old.store old.store refl refl (λ fine. fine) (λ told mirrors fine. refl);
+  mirrors = none_sent tells old.store old.store refl refl refl (λ fine. fine) (λ told mirrors fine. refl);
   sends = λ mirrors. tt;
   refused = λ mirrors. refl;
 }

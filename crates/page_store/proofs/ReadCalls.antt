@@ -61,6 +61,7 @@ module _ (tells : Bool) (Opens : List ℕ → List ℕ → Type 0) (t : ℕ) (d 
   pub reads_of : {T : Type 0} → ((u : ℕ) → (u ≡ t → ⊥) → new.ranges u ≡ old.ranges u) → (r : Result T EawFault) → store.Does tells Opens d old new r → Reads tells Opens t old new r
   reads_of others r does = record {
     shape = does.shape;
+    depth = does.depth;
     cause = cause_of r does.cause;
     kept = does.kept;
     done = done_of r does.done;
@@ -107,6 +108,7 @@ module _ {T : Type 0} (tells : Bool) (Opens : List ℕ → List ℕ → Type 0) 
   pub reads_on : {U : Type 0} (s : Result U EawFault) → Reads tells Opens t mid new s → Reads tells Opens t old new s
   reads_on s more = record {
     shape = more.shape ∙ first.shape;
+    depth = more.depth ∙ first.depth;
     cause = cause_on s more.cause;
     kept = kept_on s more.kept;
     done = done_on s more.done;
@@ -123,6 +125,7 @@ pub reads_err : {T U : Type 0} (tells : Bool) (Opens : List ℕ → List ℕ →
     → (let r : Result T EawFault = Err f in Reads tells Opens t old new r) → (let s : Result U EawFault = Err f in Reads tells Opens t old new s)
 reads_err {T} {U} tells Opens t old new f reads = record {
   shape = reads.shape;
+  depth = reads.depth;
   cause = cause f reads.cause;
   kept = tt;
   done = tt;
@@ -144,6 +147,7 @@ pub reads_ok : {T U : Type 0} {x : T} (tells : Bool) (Opens : List ℕ → List 
     → (let r : Result T EawFault = Ok x in Reads tells Opens t old new r) → (let s : Result U EawFault = Ok y in Reads tells Opens t old new s)
 reads_ok tells Opens t old new y reads = record {
   shape = reads.shape;
+  depth = reads.depth;
   cause = reads.cause;
   kept = reads.kept;
   done = reads.done;
@@ -158,13 +162,14 @@ reads_ok tells Opens t old new y reads = record {
 pub reads_none : {T : Type 0} (tells : Bool) (Opens : List ℕ → List ℕ → Type 0) (t : ℕ) (old : StoreView) (x : T) → old.is_dead ≡ false → (let r : Result T EawFault = Ok x in Reads tells Opens t old old r)
 reads_none tells Opens t old x alive = record {
   shape = refl;
+  depth = refl;
   cause = alive;
   kept = refl;
   done = record { alive = alive; ranges = refl; state = λ tell. refl };
   dies = λ is. absurd (IfErr-at_err (λ q. ⊥) is tt);
   others = λ u ne. refl;
   time = λ tell living. record { later = omega arith; keeps = λ t image le left. left; only = λ t image le left. inl left };
-  mirrors = none_sent tells old old refl refl (λ fine. fine) (λ told mirrors fine. refl);
+  mirrors = none_sent tells old old refl refl refl (λ fine. fine) (λ told mirrors fine. refl);
   silent = λ mirrors. refl;
 }
 
@@ -230,6 +235,7 @@ module _ (tells : Bool) (Opens : List ℕ → List ℕ → Type 0) (t : ℕ) (c 
   pub page_read : {T U : Type 0} (r : Result T EawFault) (s : Result U PageFault) → TellsAs r s → Reads tells Opens t old.store new.store r → Does tells Opens c old new s
   page_read r s as_told reads = record {
     shape = reads.shape;
+    depth = reads.depth;
     cause = page_cause r s as_told reads.cause;
     kept = page_kept r s as_told reads.kept;
     done = page_done r s as_told reads.done;

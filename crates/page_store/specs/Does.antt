@@ -73,6 +73,7 @@ SendsAs tells (Some command) added old new = SendsDue tells command added old ne
 -- store below sends of the command that it makes of it, and else nothing.
 pub record Does {T : Type 0} (tells : Bool) (Opens : List ℕ → List ℕ → Type 0) (command : PageCommand) (old new : PagesView) (result : Result T PageFault) : Type 0 where
   pub shape : new.store.shape ≡ old.store.shape
+  pub depth : new.store.depth ≡ old.store.depth
   pub cause : Cause old command new.store.faults result
   pub kept : OnOk result (new.store.faults ≡ old.store.faults)
   pub done : OnOk result (Becomes tells command old new)

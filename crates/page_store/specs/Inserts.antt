@@ -95,6 +95,7 @@ pub record KeepsLogs (tells : Bool) (old new : PagesView) : Type 0 where
 -- What the store sends is added at the end of what it has sent, and gives its data.
 pub record Inserts (tells : Bool) (Opens : List ℕ → List ℕ → Type 0) (index : Index) (t root table key : ℕ) (old new : PagesView) (result : Result ℕ IndexFault) : Type 0 where
   pub shape : new.store.shape ≡ old.store.shape
+  pub depth : new.store.depth ≡ old.store.depth
   pub cause : InsertCause tells index t root key old.store result
   pub saves : new.counts ≡ old.counts
   pub others : (u : ℕ) → u ≢ t → new.store.ranges u ≡ old.store.ranges u

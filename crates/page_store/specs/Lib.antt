@@ -18,6 +18,7 @@ pub mod Pairs
 pub mod Course
 pub mod Index
 pub mod Looks
+pub mod Faults
 pub mod Follows
 pub mod Records
 pub mod Inserts

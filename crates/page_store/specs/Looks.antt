@@ -22,6 +22,7 @@ pub record IsStill (tells : Bool) (old new : StoreView) : Type 0 where
 -- the store sends is added at the end of what it has sent, and gives its data.
 pub record Looks (tells : Bool) (Opens : List ℕ → List ℕ → Type 0) (failed : Bool) (old new : PagesView) : Type 0 where
   pub shape : new.store.shape ≡ old.store.shape
+  pub depth : new.store.depth ≡ old.store.depth
   pub ranges : new.store.ranges ≡ old.store.ranges
   pub saves : new.counts ≡ old.counts
   pub tops : new.top ≡ old.top

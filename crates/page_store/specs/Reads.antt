@@ -24,6 +24,7 @@ ReadCause old faults _ = ⊥
 -- and nothing is sent.
 pub record Reads {T : Type 0} (tells : Bool) (Opens : List ℕ → List ℕ → Type 0) (t : ℕ) (old new : StoreView) (result : Result T EawFault) : Type 0 where
   pub shape : new.shape ≡ old.shape
+  pub depth : new.depth ≡ old.depth
   pub cause : ReadCause old new.faults result
   pub kept : OnOk result (new.faults ≡ old.faults)
   pub done : OnOk result (IsRead tells old new)

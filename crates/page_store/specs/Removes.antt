@@ -93,6 +93,7 @@ Removed index root key old new _ = new ≡ old
 -- store sends is added at the end of what it has sent, and gives its data.
 pub record Removes (tells : Bool) (Opens : List ℕ → List ℕ → Type 0) (index : Index) (t root key : ℕ) (old new : PagesView) (result : Result Bool PageFault) : Type 0 where
   pub shape : new.store.shape ≡ old.store.shape
+  pub depth : new.store.depth ≡ old.store.depth
   pub cause : RemoveCause tells index t root key old.store result
   pub saves : new.counts ≡ old.counts
   pub others : (u : ℕ) → u ≢ t → new.store.ranges u ≡ old.store.ranges u

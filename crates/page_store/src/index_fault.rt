@@ -1,3 +1,5 @@
+use crate::fault::PageFault;
+use mars_base::NoMemory;
 use thiserror::Error;
 
 /// Why an insertion was refused. After `Dead` the kinds are in order: a later one comes only if no earlier one does.
@@ -23,6 +25,31 @@ pub enum IndexFault {
     Damaged { page: u32 },
 }
 
+// An insertion makes no save.
+impl From<PageFault> for IndexFault {
+    ghost use Rattle.std.specs.Prelude.{◌≡◌};
+    ghost use Rattle.page_store.specs.Faults.{as_index};
+
+    ghost from_gives = { λ fault told. told ≡ as_index fault };
+
+    fn from(fault: PageFault) -> Self {
+        match fault {
+            PageFault::LogFull {
+                logger,
+                held,
+                needed,
+            } => IndexFault::LogFull {
+                logger,
+                held,
+                needed,
+            },
+            PageFault::Media => IndexFault::Media,
+            PageFault::Dead | PageFault::SavesFull => IndexFault::Dead,
+            PageFault::Damaged { page } => IndexFault::Damaged { page },
+        }
+    }
+}
+
 /// Why a check of an index did not find it sound.
 #[derive(Clone, Copy, Debug, PartialEq, Eq, Error)]
 pub enum CheckFault {
@@ -38,4 +65,31 @@ pub enum CheckFault {
     /// There was no memory for the records.
     #[error("no memory")]
     NoMemory,
+}
+
+// A check only reads.
+impl From<PageFault> for CheckFault {
+    ghost use Rattle.std.specs.Prelude.{◌≡◌};
+    ghost use Rattle.page_store.specs.Faults.{as_check};
+
+    ghost from_gives = { λ fault told. told ≡ as_check fault };
+
+    fn from(fault: PageFault) -> Self {
+        match fault {
+            PageFault::Damaged { page } => CheckFault::Damaged { page },
+            PageFault::Media => CheckFault::Media,
+            PageFault::Dead | PageFault::LogFull { .. } | PageFault::SavesFull => CheckFault::Dead,
+        }
+    }
+}
+
+impl From<NoMemory> for CheckFault {
+    ghost use Rattle.std.specs.Prelude.{◌≡◌};
+    ghost use Rattle.page_store.specs.declared.index_fault.CheckFault.TheVariants as check;
+
+    ghost from_gives = { λ _ told. told ≡ check.NoMemory };
+
+    fn from(_: NoMemory) -> Self {
+        CheckFault::NoMemory
+    }
 }

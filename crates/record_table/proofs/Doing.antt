@@ -14,7 +14,8 @@ use Rattle.history.specs.Table as history
 use Rattle.history.specs.declared.key.Key.{Key}
 use Rattle.history.specs.Key.{of_table}
 use Rattle.history.specs.declared.call.Call.{Call}
-use Rattle.history.specs.declared.call.Call.TheVariants.{Get, Put, Del, Scan}
+use Rattle.history.specs.declared.call.Call.TheVariants.{Table as OnTable}
+use Rattle.history.specs.declared.call.TableCall.TheVariants.{Get, Put, Del, Scan}
 use Rattle.history.specs.declared.call.Reply.{Reply}
 use Rattle.history.specs.declared.call.Reply.TheVariants.{Absent, Listed}
 use Rattle.record_slots.specs.Places.{version_of, tables_of}
@@ -69,6 +70,7 @@ module _ (tells : Bool) (Opens : List ℕ → List ℕ → Type 0) (index : Inde
       → (IsTrue tells → IsQuiet index old t c → new.store.state.bytes ≡ old.store.state.bytes) → OnOk r (length (old.counts t) ≡ saves_after c (length (old.counts t))) → Does tells Opens index table t c old new r
   does_moved r alive well moved cause stays indexed quiet saves = record {
     shape = moved.shape;
+    depth = moved.depth;
     mirrors = moved.mirrors;
     cause = cause;
     faults = λ _. (moved.dead, moved.faults);
@@ -91,6 +93,7 @@ module _ (tells : Bool) (Opens : List ℕ → List ℕ → Type 0) (index : Inde
   pub does_failed : IsAlive old.store → Failed tells Opens index t old new → Does tells Opens index table t c old new (Err Media)
   does_failed alive failed = record {
     shape = failed.shape;
+    depth = failed.depth;
     mirrors = failed.mirrors;
     cause = alive;
     faults = λ well. absurd (false≢true (sym well));
@@ -113,7 +116,8 @@ module _ (tells : Bool) (Opens : List ℕ → List ℕ → Type 0) (index : Inde
   does_dead_same : old.store.is_dead ≡ true → Does tells Opens index table t c old old (Err Dead)
   does_dead_same dead = record {
     shape = refl;
-    mirrors = none_sent tells old.store old.store refl refl (λ fine. fine) (λ told mirrors fine. refl);
+    depth = refl;
+    mirrors = none_sent tells old.store old.store refl refl refl (λ fine. fine) (λ told mirrors fine. refl);
     cause = dead;
     faults = λ _. (refl, refl);
     dies = λ failed. absurd (false≢true failed);
@@ -144,6 +148,7 @@ module _ (tells : Bool) (Opens : List ℕ → List ℕ → Type 0) (index : Inde
       → (IsTrue tells → IsQuiet index old t c → mid.store.state.bytes ≡ old.store.state.bytes) → length (old.counts t) ≡ saves_after c (length (old.counts t)) → Does tells Opens index table t c old new (Ok reply)
   does_wrote reply mid key slot value moved wrote cause replies one indexed quiet saves = record {
     shape = wrote.shape ∙ moved.shape;
+    depth = wrote.depth ∙ moved.depth;
     mirrors = sent_then tells old.store mid.store new.store moved.mirrors wrote.mirrors;
     cause = cause;
     faults = λ _. (wrote.dead ∙ moved.dead, wrote.faults ∙ moved.faults);
@@ -209,7 +214,7 @@ indexed_at T table key None old new f has same = inserted_same T table key old n
 indexed_at T table key (Some slot) old new f has same = same
 
 pub indexed_same : (T : Type 0) (table : ℕ) (c : Call) (old new : Keys) (f : TableFault) → HasPages f → new ≡ old → (let r : Result T TableFault = Err f in Indexed table c old new r)
-indexed_same T table (Put name key value) old new f has same = indexed_at T table (of_table name key) (old.slot_of (of_table name key)) old new f has same
+indexed_same T table (OnTable (Put name key value)) old new f has same = indexed_at T table (of_table name key) (old.slot_of (of_table name key)) old new f has same
 indexed_same T table _ old new f has same = same
 
 -- a state with a number's own log
@@ -255,13 +260,13 @@ module _ (tells : Bool) (Opens : List ℕ → List ℕ → Type 0) (index : Inde
       )
 
 module _ (tells : Bool) (Opens : List ℕ → List ℕ → Type 0) (index : Index) (table t key : ℕ) (name : List ℕ) (old new : PagesView) (holds : Holds tells index old) (alive : IsAlive old.store) (looks : LooksAs tells Opens t false old new) where
-  pub got : (value : Option (List ℕ)) → (IsTrue tells → get (seen_by (state_of index old) t) (of_table name key) ≡ value) → Does tells Opens index table t (Get name key) old new (Ok (history.found value)) × Holds tells index new
-  got value is = looked tells Opens index table t (Get name key) old new holds (history.found value) alive looks tt (λ told. tt)
+  pub got : (value : Option (List ℕ)) → (IsTrue tells → get (seen_by (state_of index old) t) (of_table name key) ≡ value) → Does tells Opens index table t (OnTable (Get name key)) old new (Ok (history.found value)) × Holds tells index new
+  got value is = looked tells Opens index table t (OnTable (Get name key)) old new holds (history.found value) alive looks tt (λ told. tt)
       (λ told. record { replies = ap history.found (sym (is told)); same = unlogged (state_of index old) t }) (λ a b same. same) refl
 
   -- a record that is not seen needs no removal
-  pub not_removed : (IsTrue tells → get (seen_by (state_of index old) t) (of_table name key) ≡ None) → Does tells Opens index table t (Del name key) old new (Ok Absent) × Holds tells index new
-  not_removed unseen = looked tells Opens index table t (Del name key) old new holds Absent alive looks tt (λ told seen. absurd (false≢true (sym (ap is_some (unseen told)) ∙ seen)))
+  pub not_removed : (IsTrue tells → get (seen_by (state_of index old) t) (of_table name key) ≡ None) → Does tells Opens index table t (OnTable (Del name key)) old new (Ok Absent) × Holds tells index new
+  not_removed unseen = looked tells Opens index table t (OnTable (Del name key)) old new holds Absent alive looks tt (λ told seen. absurd (false≢true (sym (ap is_some (unseen told)) ∙ seen)))
       (λ told. record { replies = ap history.removed (sym (unseen told)); same = unlogged (state_of index old) t }) (λ a b same. same) refl
 
 -- the answer to a scan, given what was gathered
@@ -271,21 +276,21 @@ scanned_as rows (Err f) = Err f
 
 module _ (tells : Bool) (Opens : List ℕ → List ℕ → Type 0) (index : Index) (table t low high : ℕ) (name : List ℕ) (old new : PagesView) (holds : Holds tells index old) (alive : IsAlive old.store) (rows : List (ℕ × List ℕ)) where
   -- the scan was refused, but not by the medium
-  unscanned : (f : TableFault) → (let r : Result Reply TableFault = Err f in IsFalse (answers.is_failed r)) → (let r : Result Reply TableFault = Err f in Cause tells index table t (Scan name low high) old r) → LooksAs tells Opens t false old new
-      → Does tells Opens index table t (Scan name low high) old new (Err f) × Holds tells index new
+  unscanned : (f : TableFault) → (let r : Result Reply TableFault = Err f in IsFalse (answers.is_failed r)) → (let r : Result Reply TableFault = Err f in Cause tells index table t (OnTable (Scan name low high)) old r) → LooksAs tells Opens t false old new
+      → Does tells Opens index table t (OnTable (Scan name low high)) old new (Err f) × Holds tells index new
   unscanned f well cause looks =
       let moved = moved_by_look tells Opens index t old new alive (holds alive) looks in (
-        does_moved tells Opens index table t (Scan name low high) old new (Err f) alive well moved cause (λ told. tt) (λ told. look_keys tells Opens index table t (Scan name low high) old new holds looks told)
-            (λ told _. look_bytes tells Opens index table t (Scan name low high) old new holds looks told) tt,
-        holds_moved tells Opens index table t (Scan name low high) old new holds alive moved,
+        does_moved tells Opens index table t (OnTable (Scan name low high)) old new (Err f) alive well moved cause (λ told. tt) (λ told. look_keys tells Opens index table t (OnTable (Scan name low high)) old new holds looks told)
+            (λ told _. look_bytes tells Opens index table t (OnTable (Scan name low high)) old new holds looks told) tt,
+        holds_moved tells Opens index table t (OnTable (Scan name low high)) old new holds alive moved,
       )
 
   pub scanned : (r : Result (Unit {0}) TableFault) → LooksAs tells Opens t (answers.is_failed r) old new → ScanCause tells r → (IsTrue tells → OnOk r (rows ≡ rows_seen index t name old low high))
-      → Does tells Opens index table t (Scan name low high) old new (replied Listed (scanned_as rows r)) × Holds tells index new
-  scanned (Ok done) looks cause seen = looked tells Opens index table t (Scan name low high) old new holds (Listed rows) alive looks tt (λ told. tt)
+      → Does tells Opens index table t (OnTable (Scan name low high)) old new (replied Listed (scanned_as rows r)) × Holds tells index new
+  scanned (Ok done) looks cause seen = looked tells Opens index table t (OnTable (Scan name low high)) old new holds (Listed rows) alive looks tt (λ told. tt)
       (λ told. record { replies = ap Listed (seen told); same = unlogged (state_of index old) t }) (λ a b same. same) refl
   scanned (Err Media) looks cause seen =
-      (does_failed tells Opens index table t (Scan name low high) old new alive (failed_by_look tells Opens index t old new alive (holds alive) looks), holds_dead tells Opens index table t (Scan name low high) old new (looks.dies refl).0)
+      (does_failed tells Opens index table t (OnTable (Scan name low high)) old new alive (failed_by_look tells Opens index t old new alive (holds alive) looks), holds_dead tells Opens index table t (OnTable (Scan name low high)) old new (looks.dies refl).0)
   scanned (Err NoMemory) looks cause seen = unscanned NoMemory refl (alive, tt) looks
   scanned (Err (Damaged bad)) looks cause seen = unscanned (Damaged bad) refl (alive, tt, cause) looks
   scanned (Err Dead) looks cause seen = absurd cause

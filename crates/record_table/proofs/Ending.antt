@@ -12,7 +12,9 @@ use Rattle.eaw_face.specs.Causes.{IsAlive}
 use Rattle.history.specs.Writes.{all_written}
 use Rattle.history.specs.Table.{has_save}
 use Rattle.history.specs.declared.call.Call.{Call}
-use Rattle.history.specs.declared.call.Call.TheVariants.{Save, Back, Commit, Abort}
+use Rattle.history.specs.declared.call.Call.TheVariants.{Table as OnTable, Control}
+use Rattle.history.specs.declared.call.TableCall.TheVariants.{Save, Back}
+use Rattle.history.specs.declared.call.Control.TheVariants.{Commit, Abort}
 use Rattle.history.specs.declared.call.Reply.{Reply}
 use Rattle.history.specs.declared.call.Reply.TheVariants.{Fine, Saved}
 use Rattle.page_store.specs.Command.{PageCommand}
@@ -113,6 +115,7 @@ module _ (tells : Bool) (Opens : List ℕ → List ℕ → Type 0) (index : Inde
       let now = λ (told : IsTrue tells). does.done.state told in (
         record {
           shape = does.shape;
+          depth = does.depth;
           mirrors = does.mirrors;
           cause = (alive, is.may_save does.cause.1, λ told. is.fits);
           faults = λ _. (does.done.alive ∙ sym alive, does.kept);
@@ -143,6 +146,7 @@ module _ (tells : Bool) (Opens : List ℕ → List ℕ → Type 0) (index : Inde
       let is = call alive in (
         record {
           shape = does.shape;
+          depth = does.depth;
           mirrors = does.mirrors;
           cause = alive;
           faults = λ well. absurd (false≢true (sym well));
@@ -168,7 +172,8 @@ module _ (tells : Bool) (Opens : List ℕ → List ℕ → Type 0) (index : Inde
       let alive = does.cause.0 in (
         subst (λ (v : PagesView). Does tells Opens index table t c old v (Err SavesFull)) (sym e) (record {
           shape = refl;
-          mirrors = none_sent tells old.store old.store refl refl (λ fine. fine) (λ told mirrors fine. refl);
+          depth = refl;
+          mirrors = none_sent tells old.store old.store refl refl refl (λ fine. fine) (λ told mirrors fine. refl);
           cause = (alive, (call alive).saved_out does.cause.1);
           faults = λ _. (refl, refl);
           dies = λ failed. absurd (false≢true failed);
@@ -212,7 +217,7 @@ length-saves index old t = length-map (pages.saved_of (listed (old.store.state.l
 
 -- what a save replies
 pub saved_right : (tells : Bool) (Opens : List ℕ → List ℕ → Type 0) (index : Index) (old new : PagesView) (t : ℕ) (r : Result ℕ PageFault) → page_does.Does tells Opens (page.save t) old new r
-    → IfOk r (λ n. n ≡ length (new.counts t)) → IfOk r (λ n. Replies (state_of index old) t Save (Saved n))
+    → IfOk r (λ n. n ≡ length (new.counts t)) → IfOk r (λ n. Replies (state_of index old) t (OnTable Save) (Saved n))
 saved_right tells Opens index old new t (Err fault) does is = tt
 saved_right tells Opens index old new t (Ok n) does is =
     let more = ap length (with_here old.counts t (old.counts t ++ length (listed (old.store.ranges t)) ∷ [])) ∙ length-append (old.counts t) (length (listed (old.store.ranges t)) ∷ []) in
@@ -220,7 +225,7 @@ saved_right tells Opens index old new t (Ok n) does is =
     ∙ ap (λ (k : ℕ). k + 1) (sym (length-map ((state_of index old).logs t).saved (all_written (state_of index old).table) ∙ length-saves index old t)))
 
 -- a way back finds its save
-pub back_right : (index : Index) (old : PagesView) (t n : ℕ) → 0 < n → n ≤ length (old.counts t) → Replies (state_of index old) t (Back n) Fine
+pub back_right : (index : Index) (old : PagesView) (t n : ℕ) → 0 < n → n ≤ length (old.counts t) → Replies (state_of index old) t (OnTable (Back n)) Fine
 back_right index old t n some there = (
   has_save_is (map (all_written (state_of index old).table) ((state_of index old).logs t).saved) n some
       (subst (λ (k : ℕ). n ≤ k) (sym (length-map ((state_of index old).logs t).saved (all_written (state_of index old).table) ∙ length-saves index old t)) there),
@@ -228,7 +233,7 @@ back_right index old t n some there = (
 )
 
 module _ (tells : Bool) (index : Index) (laws : Laws index) (old : PagesView) (rests : Rests tells index old) (table t : ℕ) where
-  pub save_is : IsCall tells index (page.save t) table t Save old
+  pub save_is : IsCall tells index (page.save t) table t (OnTable Save) old
   save_is = record {
     named = λ u is. is;
     sound = λ told. (rests.tied told).sound;
@@ -248,7 +253,7 @@ module _ (tells : Bool) (index : Index) (laws : Laws index) (old : PagesView) (r
     fits = tt;
   }
 
-  pub back_is : (n : ℕ) → 0 < n → n ≤ length (old.counts t) → IsOrdered (outline_of old) → (IsTrue tells → IsTold old.store) → IsCall tells index (page.back t n) table t (Back n) old
+  pub back_is : (n : ℕ) → 0 < n → n ≤ length (old.counts t) → IsOrdered (outline_of old) → (IsTrue tells → IsTold old.store) → IsCall tells index (page.back t n) table t (OnTable (Back n)) old
   back_is n some there ordered told_by =
       let front = λ (told : IsTrue tells). ((kept old (told_by told) ordered).each t).fronts (n - 1) (omega (arith, length-map (old.counts t) (λ count. take count (listed (old.store.state.logs t))))) in
       record {
@@ -270,7 +275,7 @@ module _ (tells : Bool) (index : Index) (laws : Laws index) (old : PagesView) (r
         fits = tt;
       }
 
-  pub abort_is : IsCall tells index (page.end t false) table t Abort old
+  pub abort_is : IsCall tells index (page.end t false) table t (Control Abort) old
   abort_is = record {
     named = λ u is. is;
     sound = λ told. (rests.tied told).sound;
@@ -290,7 +295,7 @@ module _ (tells : Bool) (index : Index) (laws : Laws index) (old : PagesView) (r
     fits = tt;
   }
 
-  pub commit_is : IsCall tells index (page.end t true) table t Commit old
+  pub commit_is : IsCall tells index (page.end t true) table t (Control Commit) old
   commit_is =
       let w = λ (told : IsTrue tells). applied_parts index laws (listed (old.store.state.logs t)) old.store.state.bytes (rests.tied told).sound ((rests.tied told).parts t) in
       record {

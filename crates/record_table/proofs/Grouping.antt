@@ -157,6 +157,7 @@ module _ (tells : Bool) (Opens : List ℕ → List ℕ → Type 0) (index : Inde
       let now = λ (told : IsTrue tells). does.done.state told in (
         record {
           shape = does.shape;
+          depth = does.depth;
           mirrors = does.mirrors;
           cause = alive;
           faults = λ _. (does.done.alive ∙ sym alive, does.kept);
@@ -189,6 +190,7 @@ module _ (tells : Bool) (Opens : List ℕ → List ℕ → Type 0) (index : Inde
       let alive = does.cause.0 in (
         record {
           shape = does.shape;
+          depth = does.depth;
           mirrors = does.mirrors;
           cause = alive;
           faults = λ well. absurd (false≢true (sym well));
@@ -211,7 +213,8 @@ module _ (tells : Bool) (Opens : List ℕ → List ℕ → Type 0) (index : Inde
   group_ends (Err fault.Dead) does same = let e = same fault.Dead refl (λ x. cc) in (
     subst (λ (v : PagesView). CommitsGroup tells Opens index ts old v (let r : Result (Unit {0}) TableFault = Err Dead in r)) (sym e) (record {
       shape = refl;
-      mirrors = none_sent tells old.store old.store refl refl (λ fine. fine) (λ told mirrors fine. refl);
+      depth = refl;
+      mirrors = none_sent tells old.store old.store refl refl refl (λ fine. fine) (λ told mirrors fine. refl);
       cause = does.cause;
       faults = λ _. (refl, refl);
       dies = λ failed. absurd (false≢true failed);

@@ -24,6 +24,7 @@ module _ (tells : Bool) (Opens : List ℕ → List ℕ → Type 0) (t : ℕ) whe
   pub looks_as : (failed : Bool) (old new : PagesView) → Looks tells Opens failed old new → LooksAs tells Opens t failed old new
   looks_as failed old new looks = record {
     shape = looks.shape;
+    depth = looks.depth;
     mirrors = looks.mirrors;
     saves = looks.saves;
     tops = looks.tops;
@@ -36,7 +37,8 @@ module _ (tells : Bool) (Opens : List ℕ → List ℕ → Type 0) (t : ℕ) whe
   pub looks_none : (old : PagesView) → LooksAs tells Opens t false old old
   looks_none old = record {
     shape = refl;
-    mirrors = none_sent tells old.store old.store refl refl (λ fine. fine) (λ told mirrors fine. refl);
+    depth = refl;
+    mirrors = none_sent tells old.store old.store refl refl refl (λ fine. fine) (λ told mirrors fine. refl);
     saves = refl;
     tops = refl;
     others = λ u ne. refl;
@@ -53,6 +55,7 @@ module _ (tells : Bool) (Opens : List ℕ → List ℕ → Type 0) (t : ℕ) whe
       let was = first.same refl in
       record {
         shape = second.shape ∙ first.shape;
+        depth = second.depth ∙ first.depth;
         mirrors = sent_then tells old.store mid.store new.store first.mirrors second.mirrors;
         saves = second.saves ∙ first.saves;
         tops = second.tops ∙ first.tops;
@@ -74,6 +77,7 @@ module _ (tells : Bool) (Opens : List ℕ → List ℕ → Type 0) (t : ℕ) whe
         let out = does.done.outline in (
           record {
             shape = does.shape;
+            depth = does.depth;
             mirrors = does.mirrors;
             saves = ap (λ (o : Outline). o.counts) out;
             tops = ap (λ (o : Outline). o.top) out;
@@ -90,6 +94,7 @@ module _ (tells : Bool) (Opens : List ℕ → List ℕ → Type 0) (t : ℕ) whe
     looks_read (Err Media) does same = (
       record {
         shape = does.shape;
+        depth = does.depth;
         mirrors = does.mirrors;
         saves = does.marks.0;
         tops = does.marks.1;

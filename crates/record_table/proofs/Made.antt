@@ -11,7 +11,8 @@ use Rattle.array_shape.specs.Places.{data_len}
 use Rattle.eaw_face.specs.State.{State, listed, count_on}
 use Rattle.eaw_face.specs.StoreView.{LeavesOnly}
 use Rattle.eaw_face.specs.Causes.{IsAlive}
-use Rattle.history.specs.declared.call.Call.TheVariants.{Abort}
+use Rattle.history.specs.declared.call.Call.TheVariants.{Control}
+use Rattle.history.specs.declared.call.Control.TheVariants.{Abort}
 use Rattle.history.specs.declared.call.Reply.TheVariants.{Fine}
 use Rattle.record_slots.specs.Fresh.{fresh_page}
 use Rattle.record_slots.specs.Names.{names_in, with_last, with_entries}
@@ -100,6 +101,7 @@ module _ (tells : Bool) (Opens : List ℕ → List ℕ → Type 0) (index : Inde
   pub record Ready (old now : PagesView) : Type 0 where
     pub alive : IsAlive old.store
     pub shape : now.store.shape ≡ old.store.shape
+    pub depth : now.store.depth ≡ old.store.depth
     pub dead : now.store.is_dead ≡ old.store.is_dead
     pub faults : now.store.faults ≡ old.store.faults
     pub counts : now.counts ≡ old.counts
@@ -124,6 +126,7 @@ module _ (tells : Bool) (Opens : List ℕ → List ℕ → Type 0) (index : Inde
       → ((u : ℕ) → u ≢ 0 → (new.store.ranges u ≡ old.store.ranges u) × (new.counts u ≡ old.counts u)) → (IsTrue tells → Either old new) → Makes tells Opens index name old new (Err unmade.Media)
   failed old new alive shape mirrors dies others time = record {
     shape = shape;
+    depth = mirrors.depth;
     mirrors = mirrors;
     cause = alive;
     faults = λ well. absurd (false≢true (sym well));
@@ -149,7 +152,8 @@ module _ (tells : Bool) (Opens : List ℕ → List ℕ → Type 0) (index : Inde
   was_dead : (old : PagesView) → old.store.is_dead ≡ true → Makes tells Opens index name old old (Err unmade.Dead)
   was_dead old dead = record {
     shape = refl;
-    mirrors = none_sent tells old.store old.store refl refl (λ fine. fine) (λ told mirrors fine. refl);
+    depth = refl;
+    mirrors = none_sent tells old.store old.store refl refl refl (λ fine. fine) (λ told mirrors fine. refl);
     cause = dead;
     faults = λ _. (refl, refl);
     dies = λ failed. absurd (false≢true failed);
@@ -178,6 +182,7 @@ module _ (tells : Bool) (Opens : List ℕ → List ℕ → Type 0) (index : Inde
       → (IsTrue tells → OnlyUpgrades old.store.state.bytes now.store.state.bytes (Err f)) → Makes tells Opens index name old now (Err f)
   refused_by old now f well shape mirrors dead faults counts ranges others tables keys state quiet time only = record {
     shape = shape;
+    depth = mirrors.depth;
     mirrors = mirrors;
     cause = well.1;
     faults = λ _. (dead, faults);
@@ -244,6 +249,7 @@ module _ (tells : Bool) (Opens : List ℕ → List ℕ → Type 0) (index : Inde
         record {
           alive = up.cause;
           shape = looks.shape ∙ up.shape;
+          depth = looks.depth ∙ up.depth;
           mirrors = sent_then tells old.store mid.store now.store up.mirrors looks.mirrors;
           dead = still.dead ∙ (up.faults refl).0;
           faults = still.faults ∙ (up.faults refl).1;
@@ -409,12 +415,13 @@ module _ (tells : Bool) (Opens : List ℕ → List ℕ → Type 0) (index : Inde
         written new does =
             let r : Result (Unit {0}) PageFault = Ok tt in
             let out = does.done.outline in
-            let both = ends tells Opens index (page.end 0 false) 0 0 Abort far new far_holds (λ alive. abort_is tells index laws far (far_holds alive) 0 0) (Unit {0}) (λ done. Fine) r does (λ f e ne. absurd (cc)) (λ told. refl) in
+            let both = ends tells Opens index (page.end 0 false) 0 0 (Control Abort) far new far_holds (λ alive. abort_is tells index laws far (far_holds alive) 0 0) (Unit {0}) (λ done. Fine) r does (λ f e ne. absurd (cc)) (λ told. refl) in
             let done = both.0 in
             let next : IsTrue tells → next_page now.store.state.bytes ≡ next_page old.store.state.bytes = λ told. ap (λ (k : Keys). k.next_page) (ready.keys told) in
             let bytes_are : IsTrue tells → new.store.state.bytes ≡ applied parts now.store.state.bytes = λ told. both.0.quiet told refl tt ∙ far_is told in (
               record {
                 shape = does.shape ∙ acts.shape ∙ ready.shape;
+                depth = does.depth ∙ acts.depth ∙ ready.depth;
                 mirrors = sent_then tells old.store far.store new.store (sent_then tells old.store now.store far.store ready.mirrors acts.mirrors) does.mirrors;
                 cause = (
                   ready.alive,
@@ -435,7 +442,7 @@ module _ (tells : Bool) (Opens : List ℕ → List ℕ → Type 0) (index : Inde
                     ∙ (facts told).indexes table root (subst (λ (ts : List TableEntry). option_map (λ entry. entry.root) (slice_get ts table) ≡ Some root) (sym (ready.tables told)) is)
                     ∙ ready.indexes told table root is;
                 keys = λ told. ap (keys_of index) (bytes_are told) ∙ (facts told).keys ∙ ap with_page (ready.keys told);
-                state = λ told. done.done told ∙ ap (calls.after 0 Abort Fine) (far_state told ∙ ready.state told);
+                state = λ told. done.done told ∙ ap (calls.after 0 (Control Abort) Fine) (far_state told ∙ ready.state told);
                 free = (ap (λ (o : Outline). o.ranges 0) out ∙ with_here far.store.ranges 0 None, ap (λ (o : Outline). o.counts 0) out ∙ with_here far.counts 0 []);
                 same_tables = λ told _. tt;
                 same_keys = λ told _. tt;

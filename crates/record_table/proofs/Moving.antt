@@ -40,6 +40,7 @@ use Rattle.eaw_face.proofs.Mirroring.{none_sent, sent_then}
 -- records, writes and saves are as they were, and the invariant holds
 pub record Moved (tells : Bool) (Opens : List ℕ → List ℕ → Type 0) (index : Index) (t : ℕ) (old new : PagesView) : Type 0 where
   pub shape : new.store.shape ≡ old.store.shape
+  pub depth : new.store.depth ≡ old.store.depth
   pub dead : new.store.is_dead ≡ old.store.is_dead
   pub faults : new.store.faults ≡ old.store.faults
   pub counts : new.counts ≡ old.counts
@@ -56,6 +57,7 @@ pub record Moved (tells : Bool) (Opens : List ℕ → List ℕ → Type 0) (inde
 -- the medium failed
 pub record Failed (tells : Bool) (Opens : List ℕ → List ℕ → Type 0) (index : Index) (t : ℕ) (old new : PagesView) : Type 0 where
   pub shape : new.store.shape ≡ old.store.shape
+  pub depth : new.store.depth ≡ old.store.depth
   pub dies : (new.store.is_dead ≡ true) × Rose old.store.faults new.store.faults
   pub counts : new.counts ≡ old.counts
   pub others : (u : ℕ) → u ≢ t → new.store.ranges u ≡ old.store.ranges u
@@ -89,7 +91,8 @@ module _ (tells : Bool) (Opens : List ℕ → List ℕ → Type 0) (index : Inde
   pub moved_none : (old : PagesView) → IsAlive old.store → Rests tells index old → Moved tells Opens index t old old
   moved_none old alive rests = record {
     shape = refl;
-    mirrors = none_sent tells old.store old.store refl refl (λ fine. fine) (λ told mirrors fine. refl);
+    depth = refl;
+    mirrors = none_sent tells old.store old.store refl refl refl (λ fine. fine) (λ told mirrors fine. refl);
     dead = refl;
     faults = refl;
     counts = refl;
@@ -109,6 +112,7 @@ module _ (tells : Bool) (Opens : List ℕ → List ℕ → Type 0) (index : Inde
   pub moved_then : (old mid new : PagesView) → Moved tells Opens index t old mid → Moved tells Opens index t mid new → Moved tells Opens index t old new
   moved_then old mid new a b = record {
     shape = b.shape ∙ a.shape;
+    depth = b.depth ∙ a.depth;
     mirrors = sent_then tells old.store mid.store new.store a.mirrors b.mirrors;
     dead = b.dead ∙ a.dead;
     faults = b.faults ∙ a.faults;
@@ -126,6 +130,7 @@ module _ (tells : Bool) (Opens : List ℕ → List ℕ → Type 0) (index : Inde
   pub failed_then : (old mid new : PagesView) → Moved tells Opens index t old mid → Failed tells Opens index t mid new → Failed tells Opens index t old new
   failed_then old mid new a b = record {
     shape = b.shape ∙ a.shape;
+    depth = b.depth ∙ a.depth;
     mirrors = sent_then tells old.store mid.store new.store a.mirrors b.mirrors;
     dies = (b.dies.0, subst (λ (n : ℕ). Rose n new.store.faults) a.faults b.dies.1);
     counts = b.counts ∙ a.counts;
@@ -142,6 +147,7 @@ module _ (tells : Bool) (Opens : List ℕ → List ℕ → Type 0) (index : Inde
         let same = looks.same refl in
         record {
           shape = looks.shape;
+          depth = looks.depth;
           mirrors = looks.mirrors;
           dead = same.still.dead;
           faults = same.still.faults;
@@ -160,7 +166,7 @@ module _ (tells : Bool) (Opens : List ℕ → List ℕ → Type 0) (index : Inde
         }
 
     pub failed_by_look : LooksAs tells Opens t true old new → Failed tells Opens index t old new
-    failed_by_look looks = record { shape = looks.shape; mirrors = looks.mirrors; dies = looks.dies refl; counts = looks.saves; others = looks.others; time = looks_time true looks }
+    failed_by_look looks = record { shape = looks.shape; depth = looks.depth; mirrors = looks.mirrors; dies = looks.dies refl; counts = looks.saves; others = looks.others; time = looks_time true looks }
 
 module _ (index : Index) (laws : Laws index) (table root key : ℕ) (name : List ℕ) (d e : List ℕ) (called : IsCalled d table name) (sound : index.sound d) (named : IsTable d table root) (absent : found (index.pairs d root) key ≡ None)
     (grows : Grows index root d e) where
@@ -277,6 +283,7 @@ module _ (tells : Bool) (Opens : List ℕ → List ℕ → Type 0) (index : Inde
       let keeps = λ (told : IsTrue tells). insertion_keeps index laws table root key name old.store.state.bytes new.store.state.bytes (called told) (rests.tied told).sound (named told) (absent told) (made told).0 reads (made told).1 in
       record {
         shape = does.shape;
+        depth = does.depth;
         mirrors = does.mirrors;
         dead = kept.dead;
         faults = kept.faults;
@@ -298,4 +305,4 @@ module _ (tells : Bool) (Opens : List ℕ → List ℕ → Type 0) (index : Inde
       }
 
   pub failed_by_insert : IsTrue (is_insert_failed r) → Failed tells Opens index t old new
-  failed_by_insert failed = record { shape = does.shape; mirrors = does.mirrors; dies = does.dies failed; counts = does.saves; others = does.others; time = insert_time }
+  failed_by_insert failed = record { shape = does.shape; depth = does.depth; mirrors = does.mirrors; dies = does.dies failed; counts = does.saves; others = does.others; time = insert_time }

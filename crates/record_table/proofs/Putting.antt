@@ -20,7 +20,8 @@ use Rattle.page_store.specs.Inserts.{AllFit, LackPages, LackRoom, Inserts, pages
 use Rattle.page_store.specs.Inserts as face_inserts
 use Rattle.history.specs.Table as history
 use Rattle.history.specs.declared.call.Call.{Call}
-use Rattle.history.specs.declared.call.Call.TheVariants.{Put, Del}
+use Rattle.history.specs.declared.call.Call.TheVariants.{Table as OnTable}
+use Rattle.history.specs.declared.call.TableCall.TheVariants.{Put, Del}
 use Rattle.history.specs.declared.call.Reply.{Reply}
 use Rattle.history.specs.declared.call.Reply.TheVariants.{Fine}
 use Rattle.page_store.specs.Kept.{IsOrdered}
@@ -169,14 +170,14 @@ module _ (tells : Bool) (Opens : List ℕ → List ℕ → Type 0) (index : Inde
   found_fine (Some value) some = refl
 
   pub removed : (r : Result (Unit {0}) PageFault) → page_does.Does tells Opens (write_as t (64 * (slots_of mid.store.shape + slot)) (slot_bytes (Absent table key))) mid new r
-      → ((f : PageFault) → r ≡ Err f → f ≢ fault.Media → new ≡ mid) → Does tells Opens index table t (Del name key) old new (answered Fine r) × Holds tells index new
+      → ((f : PageFault) → r ≡ Err f → f ≢ fault.Media → new ≡ mid) → Does tells Opens index table t (OnTable (Del name key)) old new (answered Fine r) × Holds tells index new
   removed =
-      let keys = look_keys tells Opens index table t (Del name key) old mid holds looks in
-      slot_written tells Opens index laws table t key name (Del name key) (Absent table key) (refl, refl) old alive holds called mid (moved_by_look tells Opens index t old mid alive (holds alive) looks) new slot
+      let keys = look_keys tells Opens index table t (OnTable (Del name key)) old mid holds looks in
+      slot_written tells Opens index laws table t key name (OnTable (Del name key)) (Absent table key) (refl, refl) old alive holds called mid (moved_by_look tells Opens index t old mid alive (holds alive) looks) new slot
       (λ told. ap (λ (k : Keys). k.slot_of (of_table name key)) (keys told) ∙ named told) told_by ordered reads whole Fine tt (λ g h n short. short)
       (λ told room was. (slot, named told, room)) (λ told g h n full. (seen told, slot, named told, full))
       (λ told. found_fine (get (seen_by (state_of index old) t) (of_table name key)) (seen told)) (λ told. refl) keys (λ told g h n. keys told)
-      (λ told _. look_bytes tells Opens index table t (Del name key) old mid holds looks told) refl
+      (λ told _. look_bytes tells Opens index table t (OnTable (Del name key)) old mid holds looks told) refl
 
 pub filter_short : (f : ℕ → Bool) (xs : List ℕ) → length (filter f xs) ≤ length xs
 filter_short f [] = omega arith
@@ -190,10 +191,10 @@ module _ (tells : Bool) (Opens : List ℕ → List ℕ → Type 0) (index : Inde
     (called : IsTrue tells → IsCalled old.store.state.bytes table name)
     (there : IsTrue tells → IsTable old.store.state.bytes table root) (mid : PagesView) (looks : LooksAs tells Opens t false old mid) where
   keys : IsTrue tells → keys_of index mid.store.state.bytes ≡ keys_of index old.store.state.bytes
-  keys = look_keys tells Opens index table t (Put name key value) old mid holds looks
+  keys = look_keys tells Opens index table t (OnTable (Put name key value)) old mid holds looks
 
   same_data : IsTrue tells → mid.store.state.bytes ≡ old.store.state.bytes
-  same_data = look_bytes tells Opens index table t (Put name key value) old mid holds looks
+  same_data = look_bytes tells Opens index table t (OnTable (Put name key value)) old mid holds looks
 
   first : Moved tells Opens index t old mid
   first = moved_by_look tells Opens index t old mid alive (holds alive) looks
@@ -202,8 +203,8 @@ module _ (tells : Bool) (Opens : List ℕ → List ℕ → Type 0) (index : Inde
   module _ (new : PagesView) (slot : ℕ) (named : IsTrue tells → slot_in index old (of_table name key) ≡ Some slot) (told_by : IsTrue tells → IsTold mid.store) (ordered : IsOrdered (outline_of mid))
       (reads : slot_said (slot_bytes (Present table key value)) ≡ Some (Present table key value)) (whole : length (slot_bytes (Present table key value)) ≡ 64) where
     pub put_known : (r : Result (Unit {0}) PageFault) → page_does.Does tells Opens (write_as t (64 * (slots_of mid.store.shape + slot)) (slot_bytes (Present table key value))) mid new r
-        → ((f : PageFault) → r ≡ Err f → f ≢ fault.Media → new ≡ mid) → Does tells Opens index table t (Put name key value) old new (answered Fine r) × Holds tells index new
-    put_known = slot_written tells Opens index laws table t key name (Put name key value) (Present table key value) (refl, refl) old alive holds called mid first new slot (λ told. ap (λ (k : Keys). k.slot_of (of_table name key)) (keys told) ∙ named told) told_by ordered reads whole
+        → ((f : PageFault) → r ≡ Err f → f ≢ fault.Media → new ≡ mid) → Does tells Opens index table t (OnTable (Put name key value)) old new (answered Fine r) × Holds tells index new
+    put_known = slot_written tells Opens index laws table t key name (OnTable (Put name key value)) (Present table key value) (refl, refl) old alive holds called mid first new slot (λ told. ap (λ (k : Keys). k.slot_of (of_table name key)) (keys told) ∙ named told) told_by ordered reads whole
         Fine tt
         (λ g h n short. short) (λ told room. subst (PutFits index table t (of_table name key) old) (sym (named told)) room) (λ told g h n full. subst (PutLacks index table t (of_table name key) old g h n) (sym (named told)) full) (λ told. refl) (λ told. refl)
         (λ told. subst (λ (o : Option ℕ). (let r : Result Reply TableFault = Ok Fine in IndexedAt table (of_table name key) o (keys_of index old.store.state.bytes) (keys_of index mid.store.state.bytes) r)) (sym (named told)) (keys told))
@@ -233,7 +234,7 @@ module _ (tells : Bool) (Opens : List ℕ → List ℕ → Type 0) (index : Inde
     mid_sound told = (mid_holds.tied told).sound
 
     -- the call writes into the data
-    loud : IsTrue tells → IsQuiet index old t (Put name key value) → far.store.state.bytes ≡ old.store.state.bytes
+    loud : IsTrue tells → IsQuiet index old t (OnTable (Put name key value)) → far.store.state.bytes ≡ old.store.state.bytes
     loud told some = absurd (false≢true (sym (ap is_some (absent_all told)) ∙ some))
 
     same_ranges : listed (mid.store.ranges t) ≡ listed (old.store.ranges t)
@@ -252,8 +253,8 @@ module _ (tells : Bool) (Opens : List ℕ → List ℕ → Type 0) (index : Inde
       slot_is told = (inserts.made told mid_lives).0 ∙ ap (λ (d : List ℕ). slot_due d) (same_data told)
 
       pub put_new : (r : Result (Unit {0}) PageFault) → page_does.Does tells Opens (write_as t (64 * (slots_of far.store.shape + slot)) (slot_bytes (Present table key value))) far new r
-          → ((f : PageFault) → r ≡ Err f → f ≢ fault.Media → new ≡ far) → Does tells Opens index table t (Put name key value) old new (answered Fine r) × Holds tells index new
-      put_new = slot_written tells Opens index laws table t key name (Put name key value) (Present table key value) (refl, refl) old alive holds called far (moved_then tells Opens index t old mid far first second) new slot
+          → ((f : PageFault) → r ≡ Err f → f ≢ fault.Media → new ≡ far) → Does tells Opens index table t (OnTable (Put name key value)) old new (answered Fine r) × Holds tells index new
+      put_new = slot_written tells Opens index laws table t key name (OnTable (Put name key value)) (Present table key value) (refl, refl) old alive holds called far (moved_then tells Opens index t old mid far first second) new slot
           (λ told. let made = inserts.made told mid_lives in found_due index laws table root key name mid.store.state.bytes far.store.state.bytes (called_there told) (mid_sound told) (there_still told) (absent_there told) made.1 made.2 ∙ ap Some (sym made.0))
           told_by ordered reads whole Fine tt (λ g h n short. short)
           (λ told room. subst (PutFits index table t (of_table name key) old) (sym (absent_all told)) (fit told, subst (HasRoom index t old (of_table name key)) (slot_is told) room))
@@ -297,35 +298,35 @@ module _ (tells : Bool) (Opens : List ℕ → List ℕ → Type 0) (index : Inde
     level_is told grows = ap (level_under index far.store.state.bytes) (named_there index laws mid.store.state.bytes far.store.state.bytes table root (mid_sound told) (there_still told) grows table root (there_still told))
 
     pub put_refused : (f : IndexFault) → (let r : Result ℕ IndexFault = Err f in Inserts tells Opens index t root table key mid far r)
-        → (let r : Result Reply TableFault = Err (inserted_as f) in Does tells Opens index table t (Put name key value) old far r) × Holds tells index far
+        → (let r : Result Reply TableFault = Err (inserted_as f) in Does tells Opens index table t (OnTable (Put name key value)) old far r) × Holds tells index far
     put_refused insert.Media inserts =
         let failed = failed_then tells Opens index t old mid far first
         (failed_by_insert tells Opens index laws t table root key name reads_absent mid far mid_lives mid_holds called_there there_still absent_there (let r : Result ℕ IndexFault = Err insert.Media in r) inserts refl) in
-        (does_failed tells Opens index table t (Put name key value) old far alive failed, holds_dead tells Opens index table t (Put name key value) old far failed.dies.0)
+        (does_failed tells Opens index table t (OnTable (Put name key value)) old far alive failed, holds_dead tells Opens index table t (OnTable (Put name key value)) old far failed.dies.0)
     put_refused insert.Dead inserts = absurd (false≢true (sym mid_lives ∙ inserts.cause))
     put_refused (insert.Damaged bad) inserts =
         let moved = refused (insert.Damaged bad) refl inserts in
         let r : Result Reply TableFault = Err (Damaged bad) in (
-          does_moved tells Opens index table t (Put name key value) old far r alive refl moved (alive, tt, inserts.cause.1) (λ told. tt) (λ told. absurd (inserts.cause.1 told)) loud tt,
-          holds_moved tells Opens index table t (Put name key value) old far holds alive moved,
+          does_moved tells Opens index table t (OnTable (Put name key value)) old far r alive refl moved (alive, tt, inserts.cause.1) (λ told. tt) (λ told. absurd (inserts.cause.1 told)) loud tt,
+          holds_moved tells Opens index table t (OnTable (Put name key value)) old far holds alive moved,
         )
     put_refused (insert.SlotsFull n) inserts =
         let moved = refused (insert.SlotsFull n) refl inserts in
         let r : Result Reply TableFault = Err (SlotsFull n) in (
-          does_moved tells Opens index table t (Put name key value) old far r alive refl moved
+          does_moved tells Opens index table t (OnTable (Put name key value)) old far r alive refl moved
               (alive, tt, inserts.cause.1 ∙ ap slots_of first.shape, λ told. (absent_all told, ap (λ (d : List ℕ). used_slots d) (sym (same_data told)) ∙ inserts.cause.2 told)) (λ told. tt)
               (λ told. let made = inserts.made told mid_lives in at_none (SlotsFull n) told (kept_keys told made.0 made.1)) loud tt,
-          holds_moved tells Opens index table t (Put name key value) old far holds alive moved,
+          holds_moved tells Opens index table t (OnTable (Put name key value)) old far holds alive moved,
         )
     put_refused (insert.PagesFull n) inserts =
         let moved = refused (insert.PagesFull n) refl inserts in
         let r : Result Reply TableFault = Err (PagesFull n) in (
-          does_moved tells Opens index table t (Put name key value) old far r alive refl moved
+          does_moved tells Opens index table t (OnTable (Put name key value)) old far r alive refl moved
               (alive, tt, inserts.cause.1 ∙ ap (λ (s : Shape). index_pages_of s - 1) first.shape, λ told. (absent_all told, comes_pages old.store mid.store t first.shape same_ranges index table root key (same_data told) (there told) (inserts.cause.2 told)))
               (λ told. tt)
               (λ told. let made = inserts.made told mid_lives in let k = kept_keys told made.0 made.1 in
               at_none (PagesFull n) told (k.0, k.1, elim made.2 [ inl out ↦ inl out | inr high ↦ inr (subst (λ (l : ℕ). 7 ≤ l) (sym (level_is told made.0)) high) ])) loud tt,
-          holds_moved tells Opens index table t (Put name key value) old far holds alive moved,
+          holds_moved tells Opens index table t (OnTable (Put name key value)) old far holds alive moved,
         )
     put_refused (insert.LogFull g h n) inserts =
         let moved = refused (insert.LogFull g h n) refl inserts in
@@ -333,12 +334,12 @@ module _ (tells : Bool) (Opens : List ℕ → List ℕ → Type 0) (index : Inde
         let lacks = lacking_same old.store mid.store t first.shape same_ranges full.0 g h n full.2 in
         let few = filter_short (is_page_on old.store.shape.loggers g) full.0 in
         let r : Result Reply TableFault = Err (LogFull g h n) in (
-          does_moved tells Opens index table t (Put name key value) old far r alive refl moved (
+          does_moved tells Opens index table t (OnTable (Put name key value)) old far r alive refl moved (
             alive,
             (omega (arith, lacks.needed_is, few, full.1), (λ k. length (filter (is_page_on old.store.shape.loggers k) full.0)), record { logger = lacks.logger; held_is = lacks.held_is; needed_is = lacks.needed_is; full = lacks.full; before = lacks.before }),
             λ told. subst (PutLacks index table t (of_table name key) old g h n) (sym (absent_all told))
                 (inl (comes_room old.store mid.store t first.shape same_ranges index table root key (same_data told) (there told) g h n (inserts.cause.2 told))),
           ) (λ told. tt)
               (λ told. let made = inserts.made told mid_lives in let k = kept_keys told made.0 made.1 in at_none (LogFull g h n) told (k.0, inl k.1)) loud tt,
-          holds_moved tells Opens index table t (Put name key value) old far holds alive moved,
+          holds_moved tells Opens index table t (OnTable (Put name key value)) old far holds alive moved,
         )

@@ -98,6 +98,7 @@ module _ (tells : Bool) (Opens : List ℕ → List ℕ → Type 0) (index : Inde
           let same = λ (told : IsTrue tells). alike told r well (does.made told alive) in
           record {
             shape = does.shape;
+            depth = does.depth;
             mirrors = does.mirrors;
             dead = kept.dead;
             faults = kept.faults;
@@ -120,7 +121,7 @@ module _ (tells : Bool) (Opens : List ℕ → List ℕ → Type 0) (index : Inde
           }
 
       failed_by_remove : IsTrue (is_failed r) → Failed tells Opens index t old new
-      failed_by_remove failed = record { shape = does.shape; mirrors = does.mirrors; dies = does.dies failed; counts = does.saves; others = does.others; time = remove_time }
+      failed_by_remove failed = record { shape = does.shape; depth = does.depth; mirrors = does.mirrors; dies = does.dies failed; counts = does.saves; others = does.others; time = remove_time }
 
   -- what it takes, in terms of the table
   takes_so : (Ends : List ℕ → Type 0) → IsTable old.store.state.bytes table root → face.Takes index root key old.store Ends → Takes index table key old Ends
@@ -156,7 +157,8 @@ module _ (tells : Bool) (Opens : List ℕ → List ℕ → Type 0) (index : Inde
   dead_same : old.store.is_dead ≡ true → Removes tells Opens index table t key old old (Err refusal.Dead)
   dead_same dead = record {
     shape = refl;
-    mirrors = none_sent tells old.store old.store refl refl (λ fine. fine) (λ told mirrors fine. refl);
+    depth = refl;
+    mirrors = none_sent tells old.store old.store refl refl refl (λ fine. fine) (λ told mirrors fine. refl);
     cause = dead;
     faults = λ _. (refl, refl);
     dies = λ failed. absurd (false≢true failed);
@@ -182,6 +184,7 @@ module _ (tells : Bool) (Opens : List ℕ → List ℕ → Type 0) (index : Inde
         let same = λ (told : IsTrue tells). alike new alive told r well (does.made told alive) in (
           record {
             shape = moved.shape;
+            depth = moved.depth;
             mirrors = moved.mirrors;
             cause = cause_so r does.cause;
             faults = λ _. (moved.dead, moved.faults);
@@ -206,6 +209,7 @@ module _ (tells : Bool) (Opens : List ℕ → List ℕ → Type 0) (index : Inde
         let failed = failed_by_remove new does.cause (Err fault.Media) does refl in (
           record {
             shape = failed.shape;
+            depth = failed.depth;
             mirrors = failed.mirrors;
             cause = does.cause;
             faults = λ well. absurd (false≢true (sym well));

@@ -18,7 +18,9 @@ use Rattle.history.specs.Writes.{Write}
 use Rattle.history.specs.Table.{has_save}
 use Rattle.history.specs.Log.{Log, save_at, floor_of, log_after}
 use Rattle.history.specs.Log as log
-use Rattle.history.specs.declared.call.Call.TheVariants.{Save, Back, Commit, Abort}
+use Rattle.history.specs.declared.call.Call.TheVariants.{Table as OnTable, Control}
+use Rattle.history.specs.declared.call.TableCall.TheVariants.{Save, Back}
+use Rattle.history.specs.declared.call.Control.TheVariants.{Commit, Abort}
 use Rattle.history.specs.declared.call.Reply.{Reply}
 use Rattle.record_table.specs.State.{TableState}
 use Rattle.record_table.specs.Calls.{after}
@@ -97,13 +99,13 @@ module _ (index : Index) (laws : Laws index) (s : PagesState) (t : ℕ) where
       (ap (λ (n : ℕ). writes_of s.store.bytes (with_write n new.0 new.1 (log_of s t))) (floors index s t closed)
       ∙ writes_after index laws s.store.bytes sound new is (floor_of ((shown_by index s).logs t)) (log_of s t) parts)))
 
-  pub shown_save : (reply : Reply) → shown_by index (page.after (page.save t) s) ≡ after t Save reply (shown_by index s)
+  pub shown_save : (reply : Reply) → shown_by index (page.after (page.save t) s) ≡ after t (OnTable Save) reply (shown_by index s)
   shown_save reply =
       ap (λ (logs : Logs Part). shown (λ (u : ℕ). log_in s.store.bytes (logs u) (with_one s.saved t (s.saved t ++ log_of s t ∷ []) u))) (sym (with_same s.store.logs t))
       ∙ ap shown (logs_with s.store.bytes s.store.logs s.saved t (s.store.logs t) (s.saved t ++ log_of s t ∷ []) (log_after ((shown_by index s).logs t) Save reply)
       (ap (λ (saves : List (List Write)). (let l : Log = record { writes = writes_of s.store.bytes (log_of s t); saved = saves } in l)) (map-append (writes_of s.store.bytes) (s.saved t) (log_of s t ∷ []))))
 
-  pub shown_back : (n : ℕ) (reply : Reply) → has_save ((shown_by index s).logs t).saved n ≡ true → IsFront (pages.save_at (s.saved t) n) (log_of s t) → shown_by index (page.after (page.back t n) s) ≡ after t (Back n) reply (shown_by index s)
+  pub shown_back : (n : ℕ) (reply : Reply) → has_save ((shown_by index s).logs t).saved n ≡ true → IsFront (pages.save_at (s.saved t) n) (log_of s t) → shown_by index (page.after (page.back t n) s) ≡ after t (OnTable (Back n)) reply (shown_by index s)
   shown_back n reply there front = ap shown (logs_with s.store.bytes s.store.logs s.saved t (option_map (λ log. pages.save_at (s.saved t) n) (s.store.logs t)) (take n (s.saved t)) (log_after ((shown_by index s).logs t) (Back n) reply)
       ((λ i. record {
         writes = (ap (writes_of s.store.bytes) (saved_or_none (pages.save_at (s.saved t) n) (s.store.logs t) front) ∙ sym (saves_at s.store.bytes (s.saved t) n)) i;
@@ -111,14 +113,14 @@ module _ (index : Index) (laws : Laws index) (s : PagesState) (t : ℕ) where
       })
       ∙ sym (ap (λ (b : Bool). cond b (let l : Log = record { writes = save_at (map (writes_of s.store.bytes) (s.saved t)) n; saved = take n (map (writes_of s.store.bytes) (s.saved t)) } in l) ((shown_by index s).logs t)) there)))
 
-  pub shown_commit : (reply : Reply) → index.sound s.store.bytes → AreSlotParts index s.store.bytes (log_of s t) → shown_by index (page.after (page.end t true) s) ≡ after t Commit reply (shown_by index s)
+  pub shown_commit : (reply : Reply) → index.sound s.store.bytes → AreSlotParts index s.store.bytes (log_of s t) → shown_by index (page.after (page.end t true) s) ≡ after t (Control Commit) reply (shown_by index s)
   shown_commit reply sound parts = λ i. record {
     table = IsWritten.table (applied_parts index laws (log_of s t) s.store.bytes sound parts) i;
     logs = (logs_same s.store.bytes (applied (log_of s t) s.store.bytes) (IsWritten.tables (applied_parts index laws (log_of s t) s.store.bytes sound parts)) (with_log s.store.logs t None) (with_one s.saved t [])
         ∙ logs_with s.store.bytes s.store.logs s.saved t None [] (record { writes = []; saved = [] }) refl) i;
   }
 
-  pub shown_abort : (reply : Reply) → shown_by index (page.after (page.end t false) s) ≡ after t Abort reply (shown_by index s)
+  pub shown_abort : (reply : Reply) → shown_by index (page.after (page.end t false) s) ≡ after t (Control Abort) reply (shown_by index s)
   shown_abort reply = λ i. record {
     table = table_of index s.store.bytes;
     logs = logs_with s.store.bytes s.store.logs s.saved t None [] (record { writes = []; saved = [] }) refl i;

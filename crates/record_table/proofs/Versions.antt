@@ -89,6 +89,7 @@ module _ (tells : Bool) (Opens : List ℕ → List ℕ → Type 0) (index : Inde
       → (IsTrue tells → (table root : ℕ) → IsTable old.store.state.bytes table root → index.pairs new.store.state.bytes root ≡ index.pairs old.store.state.bytes root) → Upgrades tells Opens index old new r
   moved_upgrades old new r well cause moved bytes_are version tables keys quiet exact ranges named indexes = record {
     shape = moved.shape;
+    depth = moved.depth;
     mirrors = moved.mirrors;
     cause = cause;
     faults = λ _. (moved.dead, moved.faults);
@@ -113,6 +114,7 @@ module _ (tells : Bool) (Opens : List ℕ → List ℕ → Type 0) (index : Inde
       → (IsTrue tells → LeavesOnly (OpensUpgraded Opens old.store.state.bytes) old.store new.store) → (IsTrue tells → IsNamedTime old new) → Upgrades tells Opens index old new (Err refusal.Media)
   failed_upgrades old new alive failed exact named = record {
     shape = failed.shape;
+    depth = failed.depth;
     mirrors = failed.mirrors;
     cause = alive;
     faults = λ well. absurd (false≢true (sym well));
@@ -136,7 +138,8 @@ module _ (tells : Bool) (Opens : List ℕ → List ℕ → Type 0) (index : Inde
   dead_upgrades : (old : PagesView) → old.store.is_dead ≡ true → Upgrades tells Opens index old old (Err refusal.Dead)
   dead_upgrades old dead = record {
     shape = refl;
-    mirrors = none_sent tells old.store old.store refl refl (λ fine. fine) (λ told mirrors fine. refl);
+    depth = refl;
+    mirrors = none_sent tells old.store old.store refl refl refl (λ fine. fine) (λ told mirrors fine. refl);
     cause = dead;
     faults = λ _. (refl, refl);
     dies = λ failed. absurd (false≢true failed);
@@ -271,6 +274,7 @@ module _ (tells : Bool) (Opens : List ℕ → List ℕ → Type 0) (index : Inde
         let now = λ (told : IsTrue tells). does.done.state told in
         record {
           shape = does.shape;
+          depth = does.depth;
           mirrors = does.mirrors;
           dead = does.done.alive ∙ sym living;
           faults = does.kept;
@@ -292,6 +296,7 @@ module _ (tells : Bool) (Opens : List ℕ → List ℕ → Type 0) (index : Inde
     broken : page_does.Does {T = Unit {0}} tells Opens (page.atomic_write 0 0 bytes) mid new (Err fault.Media) → Failed tells Opens index 0 mid new
     broken does = record {
       shape = does.shape;
+      depth = does.depth;
       mirrors = does.mirrors;
       dies = (does.dies refl, does.cause.2);
       counts = does.marks.0;

@@ -44,6 +44,7 @@ use Rattle.eaw_face.specs.Mirroring.{Mirrors}
 -- a write was logged
 pub record Wrote (tells : Bool) (Opens : List ℕ → List ℕ → Type 0) (index : Index) (t : ℕ) (key : Key) (value : Option (List ℕ)) (slot : ℕ) (old new : PagesView) : Type 0 where
   pub shape : new.store.shape ≡ old.store.shape
+  pub depth : new.store.depth ≡ old.store.depth
   pub dead : new.store.is_dead ≡ old.store.is_dead
   pub faults : new.store.faults ≡ old.store.faults
   pub counts : new.counts ≡ old.counts
@@ -123,6 +124,7 @@ module _ (tells : Bool) (Opens : List ℕ → List ℕ → Type 0) (index : Inde
       let now = λ (told : IsTrue tells). does.done.state told in
       record {
         shape = does.shape;
+        depth = does.depth;
         mirrors = does.mirrors;
         dead = does.done.alive ∙ sym alive;
         faults = does.kept;
@@ -147,6 +149,7 @@ module _ (tells : Bool) (Opens : List ℕ → List ℕ → Type 0) (index : Inde
   pub write_failed : {T : Type 0} → (let r : Result T PageFault = Err Media in Does tells Opens (write_as t (64 * (slots_of old.store.shape + slot)) (slot_bytes said)) old new r) → Failed tells Opens index t old new
   write_failed {T} does = record {
     shape = does.shape;
+    depth = does.depth;
     mirrors = does.mirrors;
     dies = (does.dies refl, does.cause.2);
     counts = does.marks.0;

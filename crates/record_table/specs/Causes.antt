@@ -9,7 +9,8 @@ use Rattle.history.specs.declared.key.Key.{Key}
 use Rattle.history.specs.Key.{of_table}
 use Rattle.history.specs.Log.{is_rewritten}
 use Rattle.history.specs.declared.call.Call.{Call}
-use Rattle.history.specs.declared.call.Call.TheVariants.{Get, Put, Del, Scan, Save}
+use Rattle.history.specs.declared.call.Call.TheVariants.{Table as OnTable}
+use Rattle.history.specs.declared.call.TableCall.TheVariants.{Get, Put, Del, Scan, Save}
 use Rattle.page_store.specs.Index.{Action, Index, slots_of, index_pages_of}
 use Rattle.page_store.specs.Inserts.{AllFit, LackPages, LackRoom, pages_left}
 use Rattle.page_store.specs.Shown.{PagesView}
@@ -64,14 +65,14 @@ PutLacks index table t key old g h n (Some slot) = IsFull index t old key slot g
 
 -- a call that writes finds room
 abbrev pub Fits : Index → ℕ → PagesView → ℕ → Call → Type 0
-Fits index table old t (Put name key value) = PutFits index table t (of_table name key) old (slot_in index old (of_table name key))
-Fits index table old t (Del name key) = IsSeen index old t (of_table name key) → (slot : ℕ) × (slot_in index old (of_table name key) ≡ Some slot) × HasRoom index t old (of_table name key) slot
+Fits index table old t (OnTable (Put name key value)) = PutFits index table t (of_table name key) old (slot_in index old (of_table name key))
+Fits index table old t (OnTable (Del name key)) = IsSeen index old t (of_table name key) → (slot : ℕ) × (slot_in index old (of_table name key) ≡ Some slot) × HasRoom index t old (of_table name key) slot
 Fits index table old t call = Unit {0}
 
 -- a call that writes finds no room at logger g
 abbrev pub Lacks : Index → ℕ → PagesView → ℕ → ℕ → ℕ → ℕ → Call → Type 0
-Lacks index table old g h n t (Put name key value) = PutLacks index table t (of_table name key) old g h n (slot_in index old (of_table name key))
-Lacks index table old g h n t (Del name key) = IsSeen index old t (of_table name key) × (slot : ℕ) × (slot_in index old (of_table name key) ≡ Some slot) × IsFull index t old (of_table name key) slot g h n
+Lacks index table old g h n t (OnTable (Put name key value)) = PutLacks index table t (of_table name key) old g h n (slot_in index old (of_table name key))
+Lacks index table old g h n t (OnTable (Del name key)) = IsSeen index old t (of_table name key) × (slot : ℕ) × (slot_in index old (of_table name key) ≡ Some slot) × IsFull index t old (of_table name key) slot g h n
 Lacks index table old g h n t call = ⊥
 
 -- logger g is the first without room for what some write needs, at most four
@@ -80,43 +81,43 @@ IsShort old t g h n = (n ≤ 4) × (needed : ℕ → ℕ) × IsFirstFull old.sto
 
 -- a write that finds no room, on any store
 abbrev pub MayLack : PagesView → ℕ → ℕ → ℕ → ℕ → Call → Type 0
-MayLack old g h n t (Put name key value) = IsShort old t g h n
-MayLack old g h n t (Del name key) = IsShort old t g h n
+MayLack old g h n t (OnTable (Put name key value)) = IsShort old t g h n
+MayLack old g h n t (OnTable (Del name key)) = IsShort old t g h n
 MayLack old g h n t call = ⊥
 
 -- an insertion is due, and all n slots are in use
 abbrev pub LacksSlot : Index → PagesView → ℕ → Call → Type 0
-LacksSlot index old n (Put name key value) = (slot_in index old (of_table name key) ≡ None) × (used_slots old.store.state.bytes ≡ n)
+LacksSlot index old n (OnTable (Put name key value)) = (slot_in index old (of_table name key) ≡ None) × (used_slots old.store.state.bytes ≡ n)
 LacksSlot index old n call = ⊥
 
 -- an insertion is due that splits a page for which no pages are left
 abbrev pub LacksPage : Index → ℕ → PagesView → ℕ → Call → Type 0
-LacksPage index table old t (Put name key value) = (slot_in index old (of_table name key) ≡ None) × ComesTo index table key old.store (LackPages old.store t)
+LacksPage index table old t (OnTable (Put name key value)) = (slot_in index old (of_table name key) ≡ None) × ComesTo index table key old.store (LackPages old.store t)
 LacksPage index table old t call = ⊥
 
 abbrev pub IsPut : Call → Type 0
-IsPut (Put name key value) = Unit {0}
+IsPut (OnTable (Put name key value)) = Unit {0}
 IsPut call = ⊥
 
 -- if the call is a save, the number has fewer than 32
 abbrev pub MaySave : PagesView → ℕ → Call → Type 0
-MaySave old t Save = length (old.counts t) < 32
+MaySave old t (OnTable Save) = length (old.counts t) < 32
 MaySave old t call = Unit {0}
 
 abbrev pub IsSavedOut : PagesView → ℕ → Call → Type 0
-IsSavedOut old t Save = length (old.counts t) ≡ 32
+IsSavedOut old t (OnTable Save) = length (old.counts t) ≡ 32
 IsSavedOut old t call = ⊥
 
 -- a call that uses the index
 abbrev pub IsSought : Call → Type 0
-IsSought (Get name key) = Unit {0}
-IsSought (Put name key value) = Unit {0}
-IsSought (Del name key) = Unit {0}
-IsSought (Scan name low high) = Unit {0}
+IsSought (OnTable (Get name key)) = Unit {0}
+IsSought (OnTable (Put name key value)) = Unit {0}
+IsSought (OnTable (Del name key)) = Unit {0}
+IsSought (OnTable (Scan name low high)) = Unit {0}
 IsSought call = ⊥
 
 abbrev pub IsScan : Call → Type 0
-IsScan (Scan name low high) = Unit {0}
+IsScan (OnTable (Scan name low high)) = Unit {0}
 IsScan call = ⊥
 
 -- The cause of each answer. If the store tells its data, each comes exactly then, except for faults of the medium and a lack of memory.

@@ -7,7 +7,9 @@ use Rattle.history.specs.declared.key.Key.{Key}
 use Rattle.history.specs.Key.{of_table}
 use Rattle.history.specs.Writes.{Table}
 use Rattle.history.specs.declared.call.Call.{Call}
-use Rattle.history.specs.declared.call.Call.TheVariants.{Put, Commit}
+use Rattle.history.specs.declared.call.Call.TheVariants.{Table as OnTable, Control}
+use Rattle.history.specs.declared.call.TableCall.TheVariants.{Put}
+use Rattle.history.specs.declared.call.Control.TheVariants.{Commit}
 use Rattle.history.specs.declared.call.Reply.{Reply}
 use Rattle.index_keys.specs.Keys.{GainsKey, KeepsKeys, TakesPages}
 use Rattle.record_slots.specs.Places.{version_of, tables_of}
@@ -70,13 +72,13 @@ IndexedAt table key (Some slot) old new result = new ≡ old
 
 -- what a call makes of the indexes: a put of a key that they lack inserts the key into that of its table
 abbrev pub Indexed : {T : Type 0} → ℕ → Call → Keys → Keys → Result T TableFault → Type 0
-Indexed table (Put name key value) old new result = IndexedAt table (of_table name key) (old.slot_of (of_table name key)) old new result
+Indexed table (OnTable (Put name key value)) old new result = IndexedAt table (of_table name key) (old.slot_of (of_table name key)) old new result
 Indexed table call old new result = new ≡ old
 
 -- the call writes nothing into the data: a put does where the index lacks the key, and a commit what the number has written
 abbrev pub IsQuiet : Index → PagesView → ℕ → Call → Type 0
-IsQuiet index old t (Put name key value) = IsSome (slot_in index old (of_table name key))
-IsQuiet index old t Commit = ((state_of index old).logs t).writes ≡ []
+IsQuiet index old t (OnTable (Put name key value)) = IsSome (slot_in index old (of_table name key))
+IsQuiet index old t (Control Commit) = ((state_of index old).logs t).writes ≡ []
 IsQuiet index old t call = Unit {0}
 
 -- A caller's call as number t on a table, which it names, on records over a store whose images open as Opens says. Each answer has its cause. An
@@ -87,6 +89,7 @@ IsQuiet index old t call = Unit {0}
 -- the names that the tables have, and in version 2 if the data is.
 pub record Does (tells : Bool) (Opens : List ℕ → List ℕ → Type 0) (index : Index) (table t : ℕ) (call : Call) (old new : PagesView) (result : Result Reply TableFault) : Type 0 where
   pub shape : new.store.shape ≡ old.store.shape
+  pub depth : new.store.depth ≡ old.store.depth
   pub cause : Cause tells index table t call old result
   pub faults : IsFalse (is_failed result) → (new.store.is_dead ≡ old.store.is_dead) × (new.store.faults ≡ old.store.faults)
   pub dies : IsTrue (is_failed result) → (new.store.is_dead ≡ true) × Rose old.store.faults new.store.faults

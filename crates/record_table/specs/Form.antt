@@ -33,6 +33,7 @@ FormCause tells old (Err NoMemory) = ⊥
 -- dead, a loss of power leaves what it might have left before, or an image that opens with the data. What the store sends gives its data.
 pub record LooksAt (tells : Bool) (Opens : List ℕ → List ℕ → Type 0) (failed : Bool) (old new : StoreView) : Type 0 where
   pub shape : new.shape ≡ old.shape
+  pub depth : new.depth ≡ old.depth
   pub ranges : (t : ℕ) → new.ranges t ≡ old.ranges t
   pub still : IsFalse failed → IsStill tells old new
   pub dies : IsTrue failed → (new.is_dead ≡ true) × Rose old.faults new.faults

@@ -38,6 +38,7 @@ GroupCause old (Err fault) = ⊥
 -- that the numbers have written, or nothing of it.
 pub record CommitsGroup (tells : Bool) (Opens : List ℕ → List ℕ → Type 0) (index : Index) (ts : List ℕ) (old new : PagesView) (result : Result (Unit {0}) TableFault) : Type 0 where
   pub shape : new.store.shape ≡ old.store.shape
+  pub depth : new.store.depth ≡ old.store.depth
   pub cause : GroupCause old result
   pub faults : IsFalse (is_failed result) → (new.store.is_dead ≡ old.store.is_dead) × (new.store.faults ≡ old.store.faults)
   pub dies : IsTrue (is_failed result) → (new.store.is_dead ≡ true) × Rose old.store.faults new.store.faults

@@ -3,7 +3,8 @@ use Rattle.std.specs.Prelude.{ℕ, suc, ◌≡◌, ◌≢◌, ◌-◌, ◌<◌, 
 use Rattle.mars_base.specs.Causes.{Rose}
 use Rattle.eaw_face.specs.StoreView.{StoreView, LeavesOnly}
 use Rattle.eaw_face.specs.Causes.{IsAlive}
-use Rattle.history.specs.declared.call.Call.TheVariants.{Abort}
+use Rattle.history.specs.declared.call.Call.TheVariants.{Control}
+use Rattle.history.specs.declared.call.Control.TheVariants.{Abort}
 use Rattle.history.specs.declared.call.Reply.TheVariants.{Fine}
 use Rattle.record_slots.specs.Names.{names_in, with_last}
 use Rattle.record_slots.specs.Places.{next_page, version_of, tables_of}
@@ -89,6 +90,7 @@ OnlyUpgrades old new result = Unit {0}
 -- that opens with the records that there were, under the names that there were, or under those and the new one.
 pub record Makes (tells : Bool) (Opens : List ℕ → List ℕ → Type 0) (index : Index) (name : List ℕ) (old new : PagesView) (result : Result ℕ MakeFault) : Type 0 where
   pub shape : new.store.shape ≡ old.store.shape
+  pub depth : new.store.depth ≡ old.store.depth
   pub cause : MakeCause tells name old.store result
   pub faults : IsFalse (is_make_failed result) → (new.store.is_dead ≡ old.store.is_dead) × (new.store.faults ≡ old.store.faults)
   pub dies : IsTrue (is_make_failed result) → (new.store.is_dead ≡ true) × Rose old.store.faults new.store.faults
@@ -97,7 +99,7 @@ pub record Makes (tells : Bool) (Opens : List ℕ → List ℕ → Type 0) (inde
   pub empty : IsTrue tells → OnOk result (index.pairs new.store.state.bytes (next_page old.store.state.bytes) ≡ [])
   pub indexes : IsTrue tells → OnOk result ((table root : ℕ) → IsTable old.store.state.bytes table root → index.pairs new.store.state.bytes root ≡ index.pairs old.store.state.bytes root)
   pub keys : IsTrue tells → OnOk result (keys_of index new.store.state.bytes ≡ with_page (keys_of index old.store.state.bytes))
-  pub state : IsTrue tells → OnOk result (state_of index new ≡ after 0 Abort Fine (state_of index old))
+  pub state : IsTrue tells → OnOk result (state_of index new ≡ after 0 (Control Abort) Fine (state_of index old))
   pub free : OnOk result ((new.store.ranges 0 ≡ None) × (new.counts 0 ≡ []))
   pub same_tables : IsTrue tells → IsFalse (is_make_failed result) → OnErr result (tables_of new.store.state.bytes ≡ tables_of old.store.state.bytes)
   pub same_keys : IsTrue tells → IsFalse (is_make_failed result) → OnErr result (keys_of index new.store.state.bytes ≡ keys_of index old.store.state.bytes)

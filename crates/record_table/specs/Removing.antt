@@ -99,6 +99,7 @@ Lost index table key old new result = new ≡ old
 -- power leaves what it might have left before, or an image that opens with the records.
 pub record Removes (tells : Bool) (Opens : List ℕ → List ℕ → Type 0) (index : Index) (table t key : ℕ) (old new : PagesView) (result : Result Bool TableFault) : Type 0 where
   pub shape : new.store.shape ≡ old.store.shape
+  pub depth : new.store.depth ≡ old.store.depth
   pub cause : RemoveCause tells index table t key old result
   pub faults : IsFalse (is_failed result) → (new.store.is_dead ≡ old.store.is_dead) × (new.store.faults ≡ old.store.faults)
   pub dies : IsTrue (is_failed result) → (new.store.is_dead ≡ true) × Rose old.store.faults new.store.faults

@@ -23,6 +23,7 @@ pub record IsAsBefore (tells : Bool) (old new : PagesView) : Type 0 where
 -- At each moment of a store that was not dead, a loss of power leaves what it might have left before, or an image that opens with the data.
 pub record LooksAs (tells : Bool) (Opens : List ℕ → List ℕ → Type 0) (t : ℕ) (failed : Bool) (old new : PagesView) : Type 0 where
   pub shape : new.store.shape ≡ old.store.shape
+  pub depth : new.store.depth ≡ old.store.depth
   pub saves : new.counts ≡ old.counts
   pub tops : new.top ≡ old.top
   pub others : (u : ℕ) → u ≢ t → new.store.ranges u ≡ old.store.ranges u

@@ -10,7 +10,9 @@ ghost use Rattle.page_store.specs.Looks.{Looks};
 ghost use Rattle.page_store.specs.Shown.{counts_in, top_in, pages_of};
 ghost use Rattle.history.specs.Rows.{records_in};
 ghost use Rattle.history.specs.Table.{found};
-ghost use Rattle.history.specs.declared.call.Call.TheVariants.{Get, Put, Del, Scan, Save, Back, Commit, Abort};
+ghost use Rattle.history.specs.declared.call.Call.TheVariants.{Table as OnTable, Control};
+ghost use Rattle.history.specs.declared.call.TableCall.TheVariants.{Get, Put, Del, Scan, Save, Back};
+ghost use Rattle.history.specs.declared.call.Control.TheVariants.{Commit, Abort};
 ghost use Rattle.history.specs.declared.call.Reply.TheVariants.{Fine, Absent, Listed, Saved, Committed};
 ghost use Rattle.record_table.specs.Attached.{Attached, AttachCause, BlamesTested, is_refused_by_media};
 ghost use Rattle.record_slots.specs.Places.{version_of};
@@ -240,7 +242,7 @@ impl<S: EawStore, K: KeyIndex> Records<S, K> {
         requires table { table < 8 }
         requires there { IsTrue S.tells → IsAlive (S.view self.old.store) → table < length (names_of (S.view self.old.store).state.bytes) }
         ensures does { (name : List ℕ) → (IsTrue S.tells → IsAlive (S.view self.old.store) → IsCalled (S.view self.old.store).state.bytes table name)
-            → Does S.tells (S.opens (S.view self.old.store).shape) K.index table tid (Get name key)
+            → Does S.tells (S.opens (S.view self.old.store).shape) K.index table tid (OnTable (Get name key))
             (pages_of (S.view self.old.store) self.old) (pages_of (S.view self.new.store) self.new) (replied found result) }
         ensures gets { (root : ℕ) × Gets (K.index.finding root key) key tid (S.calls self.old.store) (S.view self.old.store) (S.view self.new.store) result × (IsTrue S.tells → IsAlive (S.view self.old.store) → IsTable (S.view self.old.store).state.bytes table root) }
         ensures dead { IsErrOf result TableFault.Dead → self.new ≡ self.old }
@@ -260,7 +262,7 @@ impl<S: EawStore, K: KeyIndex> Records<S, K> {
         requires table { table < 8 }
         requires there { IsTrue S.tells → IsAlive (S.view self.old.store) → table < length (names_of (S.view self.old.store).state.bytes) }
         ensures does { (name : List ℕ) → (IsTrue S.tells → IsAlive (S.view self.old.store) → IsCalled (S.view self.old.store).state.bytes table name)
-            → Does S.tells (S.opens (S.view self.old.store).shape) K.index table tid (Put name key value)
+            → Does S.tells (S.opens (S.view self.old.store).shape) K.index table tid (OnTable (Put name key value))
             (pages_of (S.view self.old.store) self.old) (pages_of (S.view self.new.store) self.new) (replied (λ done. Fine) result) }
         ensures blames { BlamesOne (S.view self.old.store).shape result }
         ensures dead { IsErrOf result TableFault.Dead → self.new ≡ self.old }
@@ -287,7 +289,7 @@ impl<S: EawStore, K: KeyIndex> Records<S, K> {
         requires table { table < 8 }
         requires there { IsTrue S.tells → IsAlive (S.view self.old.store) → table < length (names_of (S.view self.old.store).state.bytes) }
         ensures does { (name : List ℕ) → (IsTrue S.tells → IsAlive (S.view self.old.store) → IsCalled (S.view self.old.store).state.bytes table name)
-            → Does S.tells (S.opens (S.view self.old.store).shape) K.index table tid (Del name key)
+            → Does S.tells (S.opens (S.view self.old.store).shape) K.index table tid (OnTable (Del name key))
             (pages_of (S.view self.old.store) self.old) (pages_of (S.view self.new.store) self.new) (replied (λ was. if was then Fine else Absent) result) }
         ensures erases { (root : ℕ) × Erases (K.index.finding root key) key tid (S.calls self.old.store) (S.view self.old.store) result × (IsTrue S.tells → IsAlive (S.view self.old.store) → IsTable (S.view self.old.store).state.bytes table root) }
         ensures dead { IsErrOf result TableFault.Dead → self.new ≡ self.old }
@@ -327,7 +329,7 @@ impl<S: EawStore, K: KeyIndex> Records<S, K> {
         requires table { table < 8 }
         requires there { IsTrue S.tells → IsAlive (S.view self.old.store) → table < length (names_of (S.view self.old.store).state.bytes) }
         ensures does { (name : List ℕ) → (IsTrue S.tells → IsAlive (S.view self.old.store) → IsCalled (S.view self.old.store).state.bytes table name)
-            → Does S.tells (S.opens (S.view self.old.store).shape) K.index table tid (Scan name low high)
+            → Does S.tells (S.opens (S.view self.old.store).shape) K.index table tid (OnTable (Scan name low high))
             (pages_of (S.view self.old.store) self.old) (pages_of (S.view self.new.store) self.new) (replied Listed result) }
         ensures hears { (hearings : List Hearing) × HearsRows (S.view self.old.store).shape hearings (λ rows. rows) result × (root : ℕ)
             × Walked K.index root (S.calls self.old.store) (row_cost (S.calls self.old.store) tid (S.view self.old.store)) (S.view self.old.store).shape
@@ -360,7 +362,7 @@ impl<S: EawStore, K: KeyIndex> Records<S, K> {
     /// Saves what the number has written, and returns how many saves it has now.
     pub fn save(&mut self, tid: u8) -> Result<u32, TableFault>
         requires { tid < (S.view self.old.store).shape.numbers }
-        ensures does { Does S.tells (S.opens (S.view self.old.store).shape) K.index 0 tid Save
+        ensures does { Does S.tells (S.opens (S.view self.old.store).shape) K.index 0 tid (OnTable Save)
             (pages_of (S.view self.old.store) self.old) (pages_of (S.view self.new.store) self.new) (replied Saved result) }
         ensures count { IfOk result (λ n. n ≡ length (counts_in self.new.marks tid)) }
         ensures refused { OnErr result (self.new ≡ self.old) }
@@ -375,7 +377,7 @@ impl<S: EawStore, K: KeyIndex> Records<S, K> {
         requires tid { tid < (S.view self.old.store).shape.numbers }
         requires some { 0 < n }
         requires there { n ≤ length (counts_in self.old.marks tid) }
-        ensures does { Does S.tells (S.opens (S.view self.old.store).shape) K.index 0 tid (Back n)
+        ensures does { Does S.tells (S.opens (S.view self.old.store).shape) K.index 0 tid (OnTable (Back n))
             (pages_of (S.view self.old.store) self.old) (pages_of (S.view self.new.store) self.new) (replied (λ done. Fine) result) }
         ensures refused { OnErr result (self.new ≡ self.old) }
         ensures due { IsErrOf result TableFault.Media → ⊥ }
@@ -390,7 +392,7 @@ impl<S: EawStore, K: KeyIndex> Records<S, K> {
     pub fn commit(&mut self, tid: u8) -> Result<(), TableFault>
         requires { tid < (S.view self.old.store).shape.numbers }
         // Whatever number its caller tells it with.
-        ensures does { (n : ℕ) → Does S.tells (S.opens (S.view self.old.store).shape) K.index 0 tid Commit
+        ensures does { (n : ℕ) → Does S.tells (S.opens (S.view self.old.store).shape) K.index 0 tid (Control Commit)
             (pages_of (S.view self.old.store) self.old) (pages_of (S.view self.new.store) self.new) (replied (λ done. Committed n) result) }
         // A commit of nothing uses no medium.
         ensures due { IsTrue S.tells → IsAlive (S.view self.old.store) → IsErrOf result TableFault.Media
@@ -460,7 +462,7 @@ impl<S: EawStore, K: KeyIndex> Records<S, K> {
     /// Discards what the number has written, and its saves. The number is then free.
     pub fn abort(&mut self, tid: u8) -> Result<(), TableFault>
         requires { tid < (S.view self.old.store).shape.numbers }
-        ensures does { Does S.tells (S.opens (S.view self.old.store).shape) K.index 0 tid Abort
+        ensures does { Does S.tells (S.opens (S.view self.old.store).shape) K.index 0 tid (Control Abort)
             (pages_of (S.view self.old.store) self.old) (pages_of (S.view self.new.store) self.new) (replied (λ done. Fine) result) }
         ensures free { OnOk result ((S.view self.new.store).ranges tid ≡ None) }
         ensures dead { IsErrOf result TableFault.Dead → self.new ≡ self.old }

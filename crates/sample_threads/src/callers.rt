@@ -2,7 +2,7 @@
 ghost use Rattle.std.specs.Prelude.{◌≡◌};
 
 use caller_steps::Core;
-use history::{Call, Reply, main_table};
+use history::{Call, Control, Reply, TableCall, main_table};
 use mars_manager::{Mars, Pass};
 use record_slots::Value;
 use std::sync::Wait;
@@ -19,15 +19,15 @@ pub fn put_one<R: Wait, C: Core + Drop>(
     ensures { pass.new.table ≡ pass.old.table }
 {
     let _ = mars.call_wait(rt, pass, &Call::Begin);
-    let put = Call::Put {
+    let put = Call::Table(TableCall::Put {
         table: main_table(),
         key,
         value,
-    };
+    });
     match mars.call_wait(rt, pass, &put) {
-        Reply::Fine => mars.call_wait(rt, pass, &Call::Commit),
+        Reply::Fine => mars.call_wait(rt, pass, &Call::Control(Control::Commit)),
         refused => {
-            let _ = mars.call_wait(rt, pass, &Call::Abort);
+            let _ = mars.call_wait(rt, pass, &Call::Control(Control::Abort));
             refused
         }
     }

@@ -5,8 +5,10 @@ use Rattle.std.proofs.lemmas.Bool.{eqb-false}
 use Rattle.std.specs.Fmt.{decimal}
 use Rattle.record_slots.specs.Text.{IsValue}
 use Rattle.history.specs.declared.call.Call.{Call}
-use Rattle.history.specs.declared.call.Call.TheVariants.{Begin, Get, Put, Del, Scan, Save, Back, Commit, Abort, Offer, Settle, Purge}
-use Rattle.script_text.specs.Line.{IsCallText, IsPassedOver}
+use Rattle.history.specs.declared.call.Call.TheVariants.{Begin, Table, Control}
+use Rattle.history.specs.declared.call.TableCall.TheVariants.{Get, Put, Del, Scan, Save, Back}
+use Rattle.history.specs.declared.call.Control as history
+use Rattle.script_text.specs.Line.{IsCallText, IsPassedOver, control_text}
 use Rattle.script_text.specs.Named.{IsAsking}
 
 -- bytes are passed over exactly if the first is a #
@@ -22,11 +24,7 @@ passed_or_not (byte ∷ bytes) some = tested (nat_eq byte 35) refl
 pub record IsUnread (bytes : List ℕ) : Type 0 where
   pub begin : bytes ≡ codes "begin" → ⊥
   pub save : bytes ≡ codes "save" → ⊥
-  pub commit : bytes ≡ codes "commit" → ⊥
-  pub abort : bytes ≡ codes "abort" → ⊥
-  pub offer : bytes ≡ codes "offer" → ⊥
-  pub settle : bytes ≡ codes "settle" → ⊥
-  pub purge : bytes ≡ codes "purge" → ⊥
+  pub control : (control : history.Control) → bytes ≡ control_text control → ⊥
   pub back : (save : ℕ) → save < 2 ^ 32 → bytes ≡ codes "back " ++ decimal save → ⊥
 
 -- and of a verb with one
@@ -45,31 +43,23 @@ some_none name e = absurd (cc)
 -- such bytes are the words of no such call
 pub no_plain : (bytes : List ℕ) → IsUnread bytes → (call : Call) → IsAsking None call bytes → ⊥
 no_plain bytes none Begin is = none.begin is.1
-no_plain bytes none (Get name key) is = some_none name is.0
-no_plain bytes none (Put name key value) is = some_none name is.0
-no_plain bytes none (Del name key) is = some_none name is.0
-no_plain bytes none (Scan name low high) is = some_none name is.0
-no_plain bytes none Save is = none.save is.1
-no_plain bytes none (Back save) is = none.back save is.1.0 is.1.1
-no_plain bytes none Commit is = none.commit is.1
-no_plain bytes none Abort is = none.abort is.1
-no_plain bytes none Offer is = none.offer is.1
-no_plain bytes none Settle is = none.settle is.1
-no_plain bytes none Purge is = none.purge is.1
+no_plain bytes none (Table (Get name key)) is = some_none name is.0
+no_plain bytes none (Table (Put name key value)) is = some_none name is.0
+no_plain bytes none (Table (Del name key)) is = some_none name is.0
+no_plain bytes none (Table (Scan name low high)) is = some_none name is.0
+no_plain bytes none (Table Save) is = none.save is.1
+no_plain bytes none (Table (Back save)) is = none.back save is.1.0 is.1.1
+no_plain bytes none (Control control) is = none.control control is.1
 
 pub no_call_of : (bytes : List ℕ) → IsUnreadOf bytes → (table : List ℕ) (call : Call) → IsAsking (Some table) call bytes → ⊥
-no_call_of bytes none table (Get name key) is = none.get key is.1.0 is.1.1
-no_call_of bytes none table (Put name key value) is = none.put (key, value) (is.1.0, is.1.1) is.1.2
-no_call_of bytes none table (Del name key) is = none.del key is.1.0 is.1.1
-no_call_of bytes none table (Scan name low high) is = none.scan (low, high) (is.1.0, is.1.1) is.1.2
+no_call_of bytes none table (Table (Get name key)) is = none.get key is.1.0 is.1.1
+no_call_of bytes none table (Table (Put name key value)) is = none.put (key, value) (is.1.0, is.1.1) is.1.2
+no_call_of bytes none table (Table (Del name key)) is = none.del key is.1.0 is.1.1
+no_call_of bytes none table (Table (Scan name low high)) is = none.scan (low, high) (is.1.0, is.1.1) is.1.2
+no_call_of bytes none table (Table Save) is = none_some table is.0
+no_call_of bytes none table (Table (Back save)) is = none_some table is.0
 no_call_of bytes none table Begin is = none_some table is.0
-no_call_of bytes none table Save is = none_some table is.0
-no_call_of bytes none table (Back save) is = none_some table is.0
-no_call_of bytes none table Commit is = none_some table is.0
-no_call_of bytes none table Abort is = none_some table is.0
-no_call_of bytes none table Offer is = none_some table is.0
-no_call_of bytes none table Settle is = none_some table is.0
-no_call_of bytes none table Purge is = none_some table is.0
+no_call_of bytes none table (Control control) is = none_some table is.0
 
 -- a text that equals another
 pub text_behind : (call : Call) (rest text : List ℕ) → rest ≡ text → IsCallText call text → IsCallText call rest

@@ -6,26 +6,32 @@ use Rattle.std.proofs.lemmas.Bool.{and_parts, leb-true}
 use Rattle.record_slots.specs.Text.{IsName, is_letter}
 use Rattle.history.specs.Key.{main_name}
 use Rattle.history.specs.declared.call.Call.{Call}
-use Rattle.history.specs.declared.call.Call.TheVariants.{Begin, Get, Put, Del, Scan, Save, Back, Commit, Abort, Offer, Settle, Purge}
-use Rattle.script_text.specs.Line.{IsCallText}
+use Rattle.history.specs.declared.call.Call.TheVariants.{Begin, Table, Control}
+use Rattle.history.specs.declared.call.TableCall.TheVariants.{Get, Put, Del, Scan, Save, Back}
+use Rattle.history.specs.declared.call.Control as history
+use Rattle.history.specs.declared.call.Control.TheVariants.{Commit, Abort, Offer, Settle, Purge}
+use Rattle.script_text.specs.Line.{IsCallText, control_text}
 use Rattle.script_text.specs.Named.{asked_table, AreWordsOf, IsTextFor, HasParts, IsAsking, IsBehindName}
 use Rattle.script_text.specs.Reads.{ReadsText, IsWord}
 use Rattle.script_text.proofs.Words.{no_space, first_space}
 
 -- the words of a call begin with a letter
+control_letter : (control : history.Control) → 97 ≤ get_or (control_text control) 0 0
+control_letter Commit = omega arith
+control_letter Abort = omega arith
+control_letter Offer = omega arith
+control_letter Settle = omega arith
+control_letter Purge = omega arith
+
 pub first_letter : (call : Call) (words : List ℕ) → AreWordsOf call words → 97 ≤ get_or words 0 0
 first_letter Begin words is = omega (arith, ap (λ (l : List ℕ). get_or l 0 0) is)
-first_letter (Get name key) words is = omega (arith, ap (λ (l : List ℕ). get_or l 0 0) is.1)
-first_letter (Put name key value) words is = omega (arith, ap (λ (l : List ℕ). get_or l 0 0) is.2)
-first_letter (Del name key) words is = omega (arith, ap (λ (l : List ℕ). get_or l 0 0) is.1)
-first_letter (Scan name low high) words is = omega (arith, ap (λ (l : List ℕ). get_or l 0 0) is.2)
-first_letter Save words is = omega (arith, ap (λ (l : List ℕ). get_or l 0 0) is)
-first_letter (Back save) words is = omega (arith, ap (λ (l : List ℕ). get_or l 0 0) is.1)
-first_letter Commit words is = omega (arith, ap (λ (l : List ℕ). get_or l 0 0) is)
-first_letter Abort words is = omega (arith, ap (λ (l : List ℕ). get_or l 0 0) is)
-first_letter Offer words is = omega (arith, ap (λ (l : List ℕ). get_or l 0 0) is)
-first_letter Settle words is = omega (arith, ap (λ (l : List ℕ). get_or l 0 0) is)
-first_letter Purge words is = omega (arith, ap (λ (l : List ℕ). get_or l 0 0) is)
+first_letter (Table (Get name key)) words is = omega (arith, ap (λ (l : List ℕ). get_or l 0 0) is.1)
+first_letter (Table (Put name key value)) words is = omega (arith, ap (λ (l : List ℕ). get_or l 0 0) is.2)
+first_letter (Table (Del name key)) words is = omega (arith, ap (λ (l : List ℕ). get_or l 0 0) is.1)
+first_letter (Table (Scan name low high)) words is = omega (arith, ap (λ (l : List ℕ). get_or l 0 0) is.2)
+first_letter (Table Save) words is = omega (arith, ap (λ (l : List ℕ). get_or l 0 0) is)
+first_letter (Table (Back save)) words is = omega (arith, ap (λ (l : List ℕ). get_or l 0 0) is.1)
+first_letter (Control control) words is = omega (arith, control_letter control, ap (λ (l : List ℕ). get_or l 0 0) is)
 
 pub no_sign : {X : Type 0} (call : Call) (words rest : List ℕ) → words ≡ 64 ∷ rest → AreWordsOf call words → X
 no_sign call words rest at is = absurd (omega (arith, first_letter call words is, ap (λ (l : List ℕ). get_or l 0 0) at))
@@ -97,39 +103,31 @@ named name words other same = ap (λ (w : List ℕ). 64 ∷ (name ++ 32 ∷ w)) 
 
 pub joined : (call : Call) (text : List ℕ) → HasParts call text → IsCallText call text
 joined Begin text is = is
-joined (Get name key) text (proper, inl (words, at, (few, are))) = (few, (proper, inl (at ∙ named name words _ are)))
-joined (Get name key) text (proper, inr (main, (few, are))) = (few, (proper, inr (main, are)))
-joined (Put name key value) text (proper, inl (words, at, (few, more, are))) = (few, more, (proper, inl (at ∙ named name words _ are)))
-joined (Put name key value) text (proper, inr (main, (few, more, are))) = (few, more, (proper, inr (main, are)))
-joined (Del name key) text (proper, inl (words, at, (few, are))) = (few, (proper, inl (at ∙ named name words _ are)))
-joined (Del name key) text (proper, inr (main, (few, are))) = (few, (proper, inr (main, are)))
-joined (Scan name low high) text (proper, inl (words, at, (few, more, are))) = (few, more, (proper, inl (at ∙ named name words _ are)))
-joined (Scan name low high) text (proper, inr (main, (few, more, are))) = (few, more, (proper, inr (main, are)))
-joined Save text is = is
-joined (Back save) text is = is
-joined Commit text is = is
-joined Abort text is = is
-joined Offer text is = is
-joined Settle text is = is
-joined Purge text is = is
+joined (Table (Get name key)) text (proper, inl (words, at, (few, are))) = (few, (proper, inl (at ∙ named name words _ are)))
+joined (Table (Get name key)) text (proper, inr (main, (few, are))) = (few, (proper, inr (main, are)))
+joined (Table (Put name key value)) text (proper, inl (words, at, (few, more, are))) = (few, more, (proper, inl (at ∙ named name words _ are)))
+joined (Table (Put name key value)) text (proper, inr (main, (few, more, are))) = (few, more, (proper, inr (main, are)))
+joined (Table (Del name key)) text (proper, inl (words, at, (few, are))) = (few, (proper, inl (at ∙ named name words _ are)))
+joined (Table (Del name key)) text (proper, inr (main, (few, are))) = (few, (proper, inr (main, are)))
+joined (Table (Scan name low high)) text (proper, inl (words, at, (few, more, are))) = (few, more, (proper, inl (at ∙ named name words _ are)))
+joined (Table (Scan name low high)) text (proper, inr (main, (few, more, are))) = (few, more, (proper, inr (main, are)))
+joined (Table Save) text is = is
+joined (Table (Back save)) text is = is
+joined (Control control) text is = is
 
 pub parted : (call : Call) (text : List ℕ) → IsCallText call text → HasParts call text
 parted Begin text is = is
-parted (Get name key) text (few, (proper, inl at)) = (proper, inl (_, at, (few, refl)))
-parted (Get name key) text (few, (proper, inr (main, are))) = (proper, inr (main, (few, are)))
-parted (Put name key value) text (few, more, (proper, inl at)) = (proper, inl (_, at, (few, more, refl)))
-parted (Put name key value) text (few, more, (proper, inr (main, are))) = (proper, inr (main, (few, more, are)))
-parted (Del name key) text (few, (proper, inl at)) = (proper, inl (_, at, (few, refl)))
-parted (Del name key) text (few, (proper, inr (main, are))) = (proper, inr (main, (few, are)))
-parted (Scan name low high) text (few, more, (proper, inl at)) = (proper, inl (_, at, (few, more, refl)))
-parted (Scan name low high) text (few, more, (proper, inr (main, are))) = (proper, inr (main, (few, more, are)))
-parted Save text is = is
-parted (Back save) text is = is
-parted Commit text is = is
-parted Abort text is = is
-parted Offer text is = is
-parted Settle text is = is
-parted Purge text is = is
+parted (Table (Get name key)) text (few, (proper, inl at)) = (proper, inl (_, at, (few, refl)))
+parted (Table (Get name key)) text (few, (proper, inr (main, are))) = (proper, inr (main, (few, are)))
+parted (Table (Put name key value)) text (few, more, (proper, inl at)) = (proper, inl (_, at, (few, more, refl)))
+parted (Table (Put name key value)) text (few, more, (proper, inr (main, are))) = (proper, inr (main, (few, more, are)))
+parted (Table (Del name key)) text (few, (proper, inl at)) = (proper, inl (_, at, (few, refl)))
+parted (Table (Del name key)) text (few, (proper, inr (main, are))) = (proper, inr (main, (few, are)))
+parted (Table (Scan name low high)) text (few, more, (proper, inl at)) = (proper, inl (_, at, (few, more, refl)))
+parted (Table (Scan name low high)) text (few, more, (proper, inr (main, are))) = (proper, inr (main, (few, more, are)))
+parted (Table Save) text is = is
+parted (Table (Back save)) text is = is
+parted (Control control) text is = is
 
 -- what is read by its parts is read by its text
 pub read_joined : (bytes : List ℕ) (result : Option Call) → ReadsText HasParts bytes result → ReadsText IsCallText bytes result

@@ -1,12 +1,15 @@
 -- The text of a caller's call is the text of no other, and a line says one thing.
 use Rattle.std.proofs.Common.{◌≡◌, ℕ, zero, suc, length, ◌+◌, ◌++◌, ◌<◌, ◌≤◌, ◌^◌, List, [], ◌∷◌, get_or, inl, inr, Option, Some, None, refl, ap, ◌∙◌, sym, subst, arith}
-use Rattle.std.specs.Prelude.{codes, is_some}
+use Rattle.std.specs.Prelude.{codes, is_some, nat_eq, ◌||◌, if◌then◌else◌}
 use Rattle.std.specs.Fmt.{decimal}
 use Rattle.std.proofs.lemmas.Fmt.{decimal_injective, decimal_digit, decimal_nonempty, first_decimal}
 use Rattle.std.proofs.lemmas.List.{append_cancel_left, get_or_append_left, length-append}
 use Rattle.history.specs.declared.call.Call.{Call}
-use Rattle.history.specs.declared.call.Call.TheVariants.{Begin, Get, Put, Del, Scan, Save, Back, Commit, Abort, Offer, Settle, Purge}
-use Rattle.script_text.specs.Line.{IsCallText, IsLineOf, IsPassedOver, LineSays}
+use Rattle.history.specs.declared.call.Call.TheVariants.{Begin, Table, Control}
+use Rattle.history.specs.declared.call.TableCall.TheVariants.{Get, Put, Del, Scan, Save, Back}
+use Rattle.history.specs.declared.call.Control as history
+use Rattle.history.specs.declared.call.Control.TheVariants.{Commit, Abort, Offer, Settle, Purge}
+use Rattle.script_text.specs.Line.{IsCallText, IsLineOf, IsPassedOver, LineSays, control_text}
 use Rattle.script_text.specs.Named.{asked_table, AreWordsOf, IsTextFor}
 use Rattle.script_text.specs.declared.line.Line.{Line}
 use Rattle.script_text.specs.declared.line.Line.TheVariants.{Nothing, Told, Bad}
@@ -23,35 +26,66 @@ mark text = get_or text 0 0 + get_or text 1 0 + get_or text 2 0
 -- the sum identifies the verb
 letters : Call → ℕ
 letters Begin = 302
-letters (Get name key) = 320
-letters (Put name key value) = 345
-letters (Del name key) = 309
-letters (Scan name low high) = 311
-letters Save = 330
-letters (Back save) = 294
-letters Commit = 319
-letters Abort = 306
-letters Offer = 315
-letters Settle = 332
-letters Purge = 343
+letters (Table (Get name key)) = 320
+letters (Table (Put name key value)) = 345
+letters (Table (Del name key)) = 309
+letters (Table (Scan name low high)) = 311
+letters (Table Save) = 330
+letters (Table (Back save)) = 294
+letters (Control Commit) = 319
+letters (Control Abort) = 306
+letters (Control Offer) = 315
+letters (Control Settle) = 332
+letters (Control Purge) = 343
+
+control_mark : (control : history.Control) → mark (control_text control) ≡ letters (Control control)
+unfolding mark letters
+control_mark Commit = refl
+control_mark Abort = refl
+control_mark Offer = refl
+control_mark Settle = refl
+control_mark Purge = refl
 
 mark_of : (call : Call) (text : List ℕ) → AreWordsOf call text → mark text ≡ letters call
 unfolding mark letters
 mark_of Begin text is = ap mark is
-mark_of (Get name key) text is = ap mark is.1
-mark_of (Put name key value) text is = ap mark is.2
-mark_of (Del name key) text is = ap mark is.1
-mark_of (Scan name low high) text is = ap mark is.2
-mark_of Save text is = ap mark is
-mark_of (Back save) text is = ap mark is.1
-mark_of Commit text is = ap mark is
-mark_of Abort text is = ap mark is
-mark_of Offer text is = ap mark is
-mark_of Settle text is = ap mark is
-mark_of Purge text is = ap mark is
+mark_of (Table (Get name key)) text is = ap mark is.1
+mark_of (Table (Put name key value)) text is = ap mark is.2
+mark_of (Table (Del name key)) text is = ap mark is.1
+mark_of (Table (Scan name low high)) text is = ap mark is.2
+mark_of (Table Save) text is = ap mark is
+mark_of (Table (Back save)) text is = ap mark is.1
+mark_of (Control control) text is = ap mark is ∙ control_mark control
+
+-- the sum tells of which part a call is
+part : Call → ℕ
+part Begin = 0
+part (Table call) = 1
+part (Control control) = 2
+
+part_by : ℕ → ℕ
+part_by sum = if nat_eq sum 302 then 0 else if nat_eq sum 319 || nat_eq sum 306 || nat_eq sum 315 || nat_eq sum 332 || nat_eq sum 343 then 2 else 1
+
+part_of : (call : Call) → part_by (letters call) ≡ part call
+unfolding letters part part_by
+part_of Begin = refl
+part_of (Table (Get name key)) = refl
+part_of (Table (Put name key value)) = refl
+part_of (Table (Del name key)) = refl
+part_of (Table (Scan name low high)) = refl
+part_of (Table Save) = refl
+part_of (Table (Back save)) = refl
+part_of (Control Commit) = refl
+part_of (Control Abort) = refl
+part_of (Control Offer) = refl
+part_of (Control Settle) = refl
+part_of (Control Purge) = refl
 
 same_letters : (call other : Call) (text : List ℕ) → AreWordsOf call text → AreWordsOf other text → letters call ≡ letters other
 same_letters call other text is js = sym (mark_of call text is) ∙ mark_of other text js
+
+same_part : (call other : Call) (text : List ℕ) → AreWordsOf call text → AreWordsOf other text → part call ≡ part other
+same_part call other text is js = sym (part_of call) ∙ ap part_by (same_letters call other text is js) ∙ part_of other
 
 -- a front and a number determine the number
 same_key : (front text : List ℕ) (k l : ℕ) → k < 2 ^ 64 → l < 2 ^ 64 → text ≡ front ++ decimal k → text ≡ front ++ decimal l → k ≡ l
@@ -66,42 +100,38 @@ names_are one other e = cc
 
 -- one text is the words of one call of one table
 same_words : (call other : Call) (text : List ℕ) → asked_table call ≡ asked_table other → AreWordsOf call text → AreWordsOf other text → call ≡ other
-unfolding letters
+unfolding letters part
 same_words Begin Begin text asks is js = refl
-same_words (Get m k) (Get n l) text asks is js = λ i. Get (names_are m n asks i) (same_key (codes "get ") text k l is.0 js.0 is.1 js.1 i)
-same_words (Put m k v) (Put n l w) text asks is js =
+same_words (Table (Get m k)) (Table (Get n l)) text asks is js = λ i. Table (Get (names_are m n asks i) (same_key (codes "get ") text k l is.0 js.0 is.1 js.1 i))
+same_words (Table (Put m k v)) (Table (Put n l w)) text asks is js =
     let both = same_pair (codes "put ") text v w k l is.0 js.0 is.2 js.2 in
-    λ i. Put (names_are m n asks i) (both.0 i) (both.1 i)
-same_words (Del m k) (Del n l) text asks is js = λ i. Del (names_are m n asks i) (same_key (codes "del ") text k l is.0 js.0 is.1 js.1 i)
-same_words (Scan m k h) (Scan n l g) text asks is js =
+    λ i. Table (Put (names_are m n asks i) (both.0 i) (both.1 i))
+same_words (Table (Del m k)) (Table (Del n l)) text asks is js = λ i. Table (Del (names_are m n asks i) (same_key (codes "del ") text k l is.0 js.0 is.1 js.1 i))
+same_words (Table (Scan m k h)) (Table (Scan n l g)) text asks is js =
     let both = same_pair (codes "scan ") text (decimal h) (decimal g) k l is.0 js.0 is.2 js.2 in
     let high = decimal_injective h g is.1 js.1 both.1 in
-    λ i. Scan (names_are m n asks i) (both.0 i) (high i)
-same_words Save Save text asks is js = refl
-same_words (Back m) (Back n) text asks is js = ap Back (same_key (codes "back ") text m n (omega (arith, is.0)) (omega (arith, js.0)) is.1 js.1)
-same_words Commit Commit text asks is js = refl
-same_words Abort Abort text asks is js = refl
-same_words Offer Offer text asks is js = refl
-same_words Settle Settle text asks is js = refl
-same_words Purge Purge text asks is js = refl
-same_words call other text asks is js = absurd (let h : letters call ≡ letters other = same_letters call other text is js in omega (arith, h))
+    λ i. Table (Scan (names_are m n asks i) (both.0 i) (high i))
+same_words (Table Save) (Table Save) text asks is js = refl
+same_words (Table (Back m)) (Table (Back n)) text asks is js = ap (λ (save : ℕ). Table (Back save)) (same_key (codes "back ") text m n (omega (arith, is.0)) (omega (arith, js.0)) is.1 js.1)
+same_words (Control Commit) (Control Commit) text asks is js = refl
+same_words (Control Abort) (Control Abort) text asks is js = refl
+same_words (Control Offer) (Control Offer) text asks is js = refl
+same_words (Control Settle) (Control Settle) text asks is js = refl
+same_words (Control Purge) (Control Purge) text asks is js = refl
+same_words call other text asks is js = absurd (let h : letters call ≡ letters other = same_letters call other text is js in let p : part call ≡ part other = same_part call other text is js in omega (arith, h, p))
 
 -- and tells whether they ask for a table
 same_kind : (call other : Call) (text : List ℕ) → AreWordsOf call text → AreWordsOf other text → is_some (asked_table call) ≡ is_some (asked_table other)
-unfolding letters
+unfolding letters part
 same_kind Begin Begin text is js = refl
-same_kind (Get m k) (Get n l) text is js = refl
-same_kind (Put m k v) (Put n l w) text is js = refl
-same_kind (Del m k) (Del n l) text is js = refl
-same_kind (Scan m k h) (Scan n l g) text is js = refl
-same_kind Save Save text is js = refl
-same_kind (Back m) (Back n) text is js = refl
-same_kind Commit Commit text is js = refl
-same_kind Abort Abort text is js = refl
-same_kind Offer Offer text is js = refl
-same_kind Settle Settle text is js = refl
-same_kind Purge Purge text is js = refl
-same_kind call other text is js = absurd (let h : letters call ≡ letters other = same_letters call other text is js in omega (arith, h))
+same_kind (Table (Get m k)) (Table (Get n l)) text is js = refl
+same_kind (Table (Put m k v)) (Table (Put n l w)) text is js = refl
+same_kind (Table (Del m k)) (Table (Del n l)) text is js = refl
+same_kind (Table (Scan m k h)) (Table (Scan n l g)) text is js = refl
+same_kind (Table Save) (Table Save) text is js = refl
+same_kind (Table (Back m)) (Table (Back n)) text is js = refl
+same_kind (Control control) (Control other) text is js = refl
+same_kind call other text is js = absurd (let h : letters call ≡ letters other = same_letters call other text is js in let p : part call ≡ part other = same_part call other text is js in omega (arith, h, p))
 
 unlike : {X : Type 0} (call other : Call) (name text : List ℕ) → asked_table call ≡ None → asked_table other ≡ Some name → AreWordsOf call text → AreWordsOf other text → X
 unlike call other name text none some is js = absurd (false≢true (sym (ap is_some none) ∙ same_kind call other text is js ∙ ap is_some some))

@@ -1,7 +1,8 @@
 -- The lines of a script with readers beside its callers.
 use Rattle.std.specs.Prelude.{ℕ, ◌≡◌, List, ◌∷◌}
 use Rattle.history.specs.declared.call.Call.{Call}
-use Rattle.history.specs.declared.call.Call.TheVariants.{Get}
+use Rattle.history.specs.declared.call.Call.TheVariants.{Table}
+use Rattle.history.specs.declared.call.TableCall.TheVariants.{Get}
 use Rattle.history.specs.declared.key.Key.{Key}
 use Rattle.script_text.specs.Line.{IsCallText, IsLineOf, IsPassedOver}
 use Rattle.script_text.specs.declared.joint_line.JointLine.{JointLine}
@@ -9,7 +10,7 @@ use Rattle.script_text.specs.declared.joint_line.JointLine.TheVariants.{Nothing,
 
 -- the line by which a reader, one of this many, asks for a key of some table: an r (114), and then the line of a call that gets the key
 abbrev pub IsReadLine : ℕ → ℕ → Key → List ℕ → Type 0
-IsReadLine readers reader key line = (rest : List ℕ) × IsLineOf (IsCallText (Get key.table key.key)) readers reader rest × (line ≡ 114 ∷ rest)
+IsReadLine readers reader key line = (rest : List ℕ) × IsLineOf (IsCallText (Table (Get key.table key.key))) readers reader rest × (line ≡ 114 ∷ rest)
 
 -- What a line says: nothing, a call of a caller, what a reader asks for, or it is bad.
 abbrev pub JointLineSays : (callers readers : ℕ) → List ℕ → JointLine → Type 0

@@ -4,30 +4,28 @@ use Rattle.std.specs.Fmt.{decimal}
 use Rattle.record_slots.specs.Text.{IsName, IsValue}
 use Rattle.history.specs.Key.{main_name}
 use Rattle.history.specs.declared.call.Call.{Call}
-use Rattle.history.specs.declared.call.Call.TheVariants.{Begin, Get, Put, Del, Scan, Save, Back, Commit, Abort, Offer, Settle, Purge}
+use Rattle.history.specs.declared.call.Call.TheVariants.{Begin, Table, Control}
+use Rattle.history.specs.declared.call.TableCall.TheVariants.{Get, Put, Del, Scan, Save, Back}
+use Rattle.script_text.specs.Line.{control_text}
 
 -- the name of the table that a call asks for
 abbrev pub asked_table : Call → Option (List ℕ)
-asked_table (Get name key) = Some name
-asked_table (Put name key value) = Some name
-asked_table (Del name key) = Some name
-asked_table (Scan name low high) = Some name
+asked_table (Table (Get name key)) = Some name
+asked_table (Table (Put name key value)) = Some name
+asked_table (Table (Del name key)) = Some name
+asked_table (Table (Scan name low high)) = Some name
 asked_table call = None
 
 -- The words of a call. Its keys are numbers of 64 bits, its save is one of 32 bits, and its value is a proper value.
 abbrev pub AreWordsOf : Call → List ℕ → Type 0
 AreWordsOf Begin words = words ≡ codes "begin"
-AreWordsOf (Get name key) words = (key < 2 ^ 64) × (words ≡ codes "get " ++ decimal key)
-AreWordsOf (Put name key value) words = (key < 2 ^ 64) × IsValue value × (words ≡ codes "put " ++ (decimal key ++ 32 ∷ value))
-AreWordsOf (Del name key) words = (key < 2 ^ 64) × (words ≡ codes "del " ++ decimal key)
-AreWordsOf (Scan name low high) words = (low < 2 ^ 64) × (high < 2 ^ 64) × (words ≡ codes "scan " ++ (decimal low ++ 32 ∷ decimal high))
-AreWordsOf Save words = words ≡ codes "save"
-AreWordsOf (Back save) words = (save < 2 ^ 32) × (words ≡ codes "back " ++ decimal save)
-AreWordsOf Commit words = words ≡ codes "commit"
-AreWordsOf Abort words = words ≡ codes "abort"
-AreWordsOf Offer words = words ≡ codes "offer"
-AreWordsOf Settle words = words ≡ codes "settle"
-AreWordsOf Purge words = words ≡ codes "purge"
+AreWordsOf (Table (Get name key)) words = (key < 2 ^ 64) × (words ≡ codes "get " ++ decimal key)
+AreWordsOf (Table (Put name key value)) words = (key < 2 ^ 64) × IsValue value × (words ≡ codes "put " ++ (decimal key ++ 32 ∷ value))
+AreWordsOf (Table (Del name key)) words = (key < 2 ^ 64) × (words ≡ codes "del " ++ decimal key)
+AreWordsOf (Table (Scan name low high)) words = (low < 2 ^ 64) × (high < 2 ^ 64) × (words ≡ codes "scan " ++ (decimal low ++ 32 ∷ decimal high))
+AreWordsOf (Table Save) words = words ≡ codes "save"
+AreWordsOf (Table (Back save)) words = (save < 2 ^ 32) × (words ≡ codes "back " ++ decimal save)
+AreWordsOf (Control control) words = words ≡ control_text control
 
 -- A text of words with the name of their table before them, if they are of one. The table `main` need not be named.
 abbrev pub IsTextFor : Option (List ℕ) → (List ℕ → Type 0) → List ℕ → Type 0

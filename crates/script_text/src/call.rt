@@ -1,14 +1,14 @@
-ghost use Rattle.std.specs.Prelude.{◌<◌, ◌^◌, ◌∷◌, ◌++◌, codes, Some, None};
+ghost use Rattle.std.specs.Prelude.{◌≡◌, ◌<◌, ◌^◌, ◌∷◌, ◌++◌, codes, Some, None};
 ghost use Rattle.std.specs.Fmt.{decimal};
 ghost use Rattle.record_slots.specs.Text.{IsValue};
 ghost use Rattle.texts.specs.Reads.{Reads};
 ghost use Rattle.script_text.specs.Reads.{ReadsText};
-ghost use Rattle.script_text.specs.Line.{IsCallText};
+ghost use Rattle.script_text.specs.Line.{IsCallText, control_text};
 ghost use Rattle.script_text.specs.Named.{IsAsking, IsBehindName};
 
 use crate::number::{read_u32_after, read_u64_after, split_u64};
 use crate::word::{after, is_text, split_word};
-use history::{Call, main_table};
+use history::{Call, Control, TableCall, main_table};
 use record_slots::{Name, Value};
 use texts::read_u64;
 
@@ -42,25 +42,35 @@ fn read_plain(bytes: &[u8]) -> Option<Call>
         return Some(Call::Begin);
     }
     if is_text(bytes, b"save") {
-        return Some(Call::Save);
+        return Some(Call::Table(TableCall::Save));
     }
-    if is_text(bytes, b"commit") {
-        return Some(Call::Commit);
-    }
-    if is_text(bytes, b"abort") {
-        return Some(Call::Abort);
-    }
-    if is_text(bytes, b"offer") {
-        return Some(Call::Offer);
-    }
-    if is_text(bytes, b"settle") {
-        return Some(Call::Settle);
-    }
-    if is_text(bytes, b"purge") {
-        return Some(Call::Purge);
+    if let Some(control) = read_control(bytes) {
+        return Some(Call::Control(control));
     }
     let save = read_u32_after(bytes, b"back ")?;
-    Some(Call::Back { save })
+    Some(Call::Table(TableCall::Back { save }))
+}
+
+// The word of what ends, offers or settles a transaction, or comes outside of any.
+fn read_control(bytes: &[u8]) -> Option<Control>
+    ensures { ReadsText (λ control text. text ≡ control_text control) bytes.now result }
+{
+    if is_text(bytes, b"commit") {
+        return Some(Control::Commit);
+    }
+    if is_text(bytes, b"abort") {
+        return Some(Control::Abort);
+    }
+    if is_text(bytes, b"offer") {
+        return Some(Control::Offer);
+    }
+    if is_text(bytes, b"settle") {
+        return Some(Control::Settle);
+    }
+    if is_text(bytes, b"purge") {
+        return Some(Control::Purge);
+    }
+    None
 }
 
 // The words of a call that asks for this table.
@@ -69,16 +79,16 @@ fn read_of(bytes: &[u8], table: &Name) -> Option<Call>
 {
     let table = *table;
     if let Some(key) = read_u64_after(bytes, b"get ") {
-        return Some(Call::Get { table, key });
+        return Some(Call::Table(TableCall::Get { table, key }));
     }
     if let Some((key, value)) = read_put(bytes) {
-        return Some(Call::Put { table, key, value });
+        return Some(Call::Table(TableCall::Put { table, key, value }));
     }
     if let Some(key) = read_u64_after(bytes, b"del ") {
-        return Some(Call::Del { table, key });
+        return Some(Call::Table(TableCall::Del { table, key }));
     }
     let (low, high) = read_scan(bytes)?;
-    Some(Call::Scan { table, low, high })
+    Some(Call::Table(TableCall::Scan { table, low, high }))
 }
 
 // A key, a space, a value.

@@ -5,7 +5,7 @@ ghost use Rattle.script_text.specs.JointLine.{IsReadLine, JointLineSays};
 
 use crate::line::{Line, read_line, read_told};
 use crate::word::after;
-use history::{Call, Key};
+use history::{Call, Key, TableCall};
 
 /// What a line of a script says where there are readers beside the callers.
 #[derive(Clone, Copy, Debug, PartialEq, Eq)]
@@ -38,8 +38,11 @@ fn read_reader_line(bytes: &[u8], readers: u8) -> Option<(u8, Key)>
 {
     let rest = after(bytes, b"r")?;
     let (reader, call) = read_told(rest, readers)?;
-    match call {
-        Call::Get { table, key } => Some((reader, Key { table, key })),
+    let Call::Table(asked) = call else {
+        return None;
+    };
+    match asked {
+        TableCall::Get { table, key } => Some((reader, Key { table, key })),
         _ => None,
     }
 }

@@ -7,9 +7,9 @@ use Rattle.std.proofs.lemmas.List.Elements.{All-push}
 use Rattle.std.proofs.lemmas.List.Quantifiers.{all_pairs_push}
 use Rattle.history.specs.Writes.{Table, Write, write_into, all_written}
 use Rattle.history.specs.Table.{Granted, Work, begun, has_save, after, worked}
-use Rattle.history.specs.declared.call.Call.{Call}
+use Rattle.history.specs.declared.call.TableCall.{TableCall}
 use Rattle.history.specs.declared.call.Reply.{Reply}
-use Rattle.history.specs.declared.call.Call.TheVariants.{Save, Back}
+use Rattle.history.specs.declared.call.TableCall.TheVariants.{Save, Back}
 use Rattle.snapshot_readers.specs.Writing.{Writes}
 
 pub all_written-append : (table : Table) (writes more : List Write) → all_written table (writes ++ more) ≡ all_written (all_written table writes) more
@@ -59,7 +59,7 @@ module _ (table : Table) where
   }
 
   -- one call more of those that are left
-  pub call_more : {writes more : List Write} {saves later : List ℕ} {all : Work} {left rest : Granted} {call : Call} {reply : Reply} → left ≡ (call, reply) ∷ rest
+  pub call_more : {writes more : List Write} {saves later : List ℕ} {all : Work} {left rest : Granted} {call : TableCall} {reply : Reply} → left ≡ (call, reply) ∷ rest
       → ((work : Work) → Writes table writes saves work → Writes table more later (after work call))
       → ((work : Work) × Writes table writes saves work × (worked work left ≡ all)) → (work : Work) × Writes table more later work × (worked work rest ≡ all)
   call_more {call = call} front makes (work, so_far, comes) = (after work call, makes work so_far, sym (ap (worked work) front) ∙ comes)

@@ -3,11 +3,11 @@ ghost use Rattle.std.specs.Prelude.{◌≡◌, [], IfOk, OnOk};
 ghost use Rattle.history.specs.Writes.{Table, all_written};
 ghost use Rattle.history.specs.Table.{Work, after, begun, left_by, has_save};
 ghost use Rattle.history.specs.Legal.{records};
-ghost use Rattle.history.specs.declared.call.Call.TheVariants.{Back};
+ghost use Rattle.history.specs.declared.call.TableCall.TheVariants.{Back};
 ghost use Rattle.snapshot_readers.specs.Writing.{Writes};
 
 use crate::records::Write;
-use history::{Call, Calls, Done, Key};
+use history::{Calls, Done, Key, TableCall};
 use mars_base::NoMemory;
 use std::alloc::Global;
 
@@ -47,34 +47,27 @@ impl Writing {
         Ok(())
     }
 
-    fn make(&mut self, call: &Call) -> Result<(), NoMemory>
+    fn make(&mut self, call: &TableCall) -> Result<(), NoMemory>
         ensures { OnOk result ((table : Table) (work : Work) → Writes table self.old.writes.items self.old.saves.items work → Writes table self.new.writes.items self.new.saves.items (after work call.now)) }
     {
         match call {
-            Call::Put { table, key, value } => {
+            TableCall::Put { table, key, value } => {
                 let key = Key {
                     table: *table,
                     key: *key,
                 };
                 self.writes.push((key, Some(*value)))?
             }
-            Call::Del { table, key } => {
+            TableCall::Del { table, key } => {
                 let key = Key {
                     table: *table,
                     key: *key,
                 };
                 self.writes.push((key, None))?
             }
-            Call::Save => self.saves.push(self.writes.len())?,
-            Call::Back { save } => self.back(*save),
-            Call::Begin
-            | Call::Get { .. }
-            | Call::Scan { .. }
-            | Call::Commit
-            | Call::Abort
-            | Call::Offer
-            | Call::Settle
-            | Call::Purge => (),
+            TableCall::Save => self.saves.push(self.writes.len())?,
+            TableCall::Back { save } => self.back(*save),
+            TableCall::Get { .. } | TableCall::Scan { .. } => (),
         }
         Ok(())
     }

@@ -12,6 +12,7 @@ use crate::slots::write_slots;
 use crate::sorting::are_sorted;
 use eaw_device::PageSource;
 use history::{Rows, Tables};
+use mars_base::NoMemory;
 use record_slots::{Name, TABLES_MAX};
 use std::alloc::Global;
 use std::marker::Model;
@@ -37,6 +38,17 @@ pub enum BuildFault {
     TooFewPages { needed: u64 },
     #[error("no memory")]
     NoMemory,
+}
+
+impl From<NoMemory> for BuildFault {
+    ghost use Rattle.std.specs.Prelude.{◌≡◌};
+    ghost use Rattle.table_builder.specs.declared.image.BuildFault.TheVariants as fault;
+
+    ghost from_gives = { λ _ told. told ≡ fault.NoMemory };
+
+    fn from(_: NoMemory) -> Self {
+        BuildFault::NoMemory
+    }
 }
 
 /// The data of an array with these tables and their rows, page by page.
@@ -81,10 +93,7 @@ impl DataImage {
     {
         let (rows, pages) = room_for(fill, half, tables.as_slice())?;
         let front = front_page(tables.as_slice(), rows as u32, pages as u32);
-        let index = match index_of(alloc, fill, tables.as_slice()) {
-            Ok(index) => index,
-            Err(_) => return Err(BuildFault::NoMemory),
-        };
+        let index = index_of(alloc, fill, tables.as_slice())?;
         Ok(DataImage {
             fill,
             half,

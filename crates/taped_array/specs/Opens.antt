@@ -15,7 +15,7 @@ pub record IsOpened (depth : ℕ) (bytes : List ℕ) (array : OpenArray) : Type 
   pub attached : Attached true (view_of (fresh bytes)) (store_in array)
   pub found : FindsData true (view_of (fresh bytes)) (store_in array)
   pub keeps : KeepsData true (view_of (fresh bytes)) (store_in array).moment (store_in array).left_since
-  pub limit : array.store.late.queue.depth ≡ depth
+  pub limit : (store_in array).depth ≡ depth
   pub none_waits : deferred_of array.store.late ≡ 0
 
 -- The bytes are not opened by this fault. It is no fault of the medium, which is in memory: where memory ran out in a write, the status says that.

@@ -69,7 +69,7 @@ made_of P told made holds is = subst (λ (o : Result (Result ℕ MakeFault) Core
 
 -- a core is put down
 pub is_down : (store : StoreView) (core : CoreView) (media : View) (defers : Bool) → IsOver true (Opens store.shape) tree store core → store.is_dead ≡ false → IsBehind true defers store media
-    → ((image : List ℕ) → MayLeave media.content image → Opens store.shape image store.state.bytes) → IsPutDown store.shape core media
+    → ((image : List ℕ) → MayLeave media.content image → Opens store.shape image store.state.bytes) → IsPutDown store.shape store.depth core media
 is_down store core media defers over alive behind opens = record {
   bytes = store.state.bytes;
   opens = opens;
@@ -82,7 +82,7 @@ is_down store core media defers over alive behind opens = record {
   left = λ t image left. (over.left t image).0 (behind.left t image left);
 }
 
-module _ (old : TapedRecords) (media : View) (down : IsPutDown old.core.records.store.shape (core_in old) media) (found : StoreView) (finds : FindsData true media found) (keeps : KeepsData true media found.moment found.left_since) where
+module _ (depth : ℕ) (old : TapedRecords) (media : View) (down : IsPutDown old.core.records.store.shape depth (core_in old) media) (found : StoreView) (finds : FindsData true media found) (keeps : KeepsData true media found.moment found.left_since) where
   abbrev shape : Shape
   shape = old.core.records.store.shape
 
@@ -127,7 +127,7 @@ module _ (old : TapedRecords) (media : View) (down : IsPutDown old.core.records.
       (counts : (image : List ℕ) → MayLeave last.content image → last.left_since last.moment image) where
     -- what is left now opens with tables of these names
     module _ (names : List (List ℕ)) (opens : (image : List ℕ) → after.left_since after.moment image → OpensNamed (Opens shape) tree image names (records_in old))
-        (is_one : (image : List ℕ) → OpensHolding shape names (records_in old) image → OpensMeanwhile name old image) (new : TapedRecords) (begins : OfData true last (λ (s : Shape) (b : List ℕ). Begins tree s b (core_in new)))
+        (is_one : (image : List ℕ) → OpensHolding shape names (records_in old) image → OpensMeanwhile name old image) (new : TapedRecords) (begins : OfData true last (λ (s : Shape) (b : List ℕ). Begins tree depth s b (core_in new)))
         (time : KeepsRecords true last (core_in new).moment (core_in new).left_since) where
       named_now : (image : List ℕ) → MayLeave last.content image → OpensNamed (Opens shape) tree image names (records_in old)
       named_now image left = opens image (subst (λ (t : ℕ). after.left_since t image) behind.moment (behind.left last.moment image (counts image left)))
@@ -167,17 +167,17 @@ module _ (old : TapedRecords) (media : View) (down : IsPutDown old.core.records.
           }
 
 -- the table was made
-module _ (old : TapedRecords) (media : View) (down : IsPutDown old.core.records.store.shape (core_in old) media) (found : StoreView) (finds : FindsData true media found) (keeps : KeepsData true media found.moment found.left_since) (name : List ℕ)
+module _ (depth : ℕ) (old : TapedRecords) (media : View) (down : IsPutDown old.core.records.store.shape depth (core_in old) media) (found : StoreView) (finds : FindsData true media found) (keeps : KeepsData true media found.moment found.left_since) (name : List ℕ)
     (after : StoreView) (defers : Bool) (last : View) (behind : IsBehind true defers after last) (counts : (image : List ℕ) → MayLeave last.content image → last.left_since last.moment image) (new : TapedRecords)
-    (begins : OfData true last (λ (s : Shape) (b : List ℕ). Begins tree s b (core_in new))) (time : KeepsRecords true last (core_in new).moment (core_in new).left_since) (callers : new.callers ≡ old.callers) (rows : new.rows ≡ old.rows) (may : MayMake name old) where
+    (begins : OfData true last (λ (s : Shape) (b : List ℕ). Begins tree depth s b (core_in new))) (time : KeepsRecords true last (core_in new).moment (core_in new).left_since) (callers : new.callers ≡ old.callers) (rows : new.rows ≡ old.rows) (may : MayMake name old) where
   pub has_table : (number : ℕ) → MakesTable true (Opens found.shape) tree name found after (Ok number) → taped.MakesTable name number old new
   has_table number makes =
-      let opens = λ (image : List ℕ) (left : after.left_since after.moment image). with_name old media down found finds keeps name image (makes.now refl image left) in
-      let anew = begins_anew old media down found finds keeps name after (Ok number) makes defers last behind counts (tables_in old ++ name ∷ []) opens (λ image is. inr is) new begins time callers rows in
+      let opens = λ (image : List ℕ) (left : after.left_since after.moment image). with_name depth old media down found finds keeps name image (makes.now refl image left) in
+      let anew = begins_anew depth old media down found finds keeps name after (Ok number) makes defers last behind counts (tables_in old ++ name ∷ []) opens (λ image is. inr is) new begins time callers rows in
       let told = makes.cause.1 refl in
       record {
         may = may;
-        number = told.1 ∙ ap length (ap names_of (as_found old media down found finds keeps).1 ∙ down.named);
+        number = told.1 ∙ ap length (ap names_of (as_found depth old media down found finds keeps).1 ∙ down.named);
         begins = anew;
         empty =
             ap (rows_of name) (anew.records ∙ sym down.shows)
@@ -187,9 +187,9 @@ module _ (old : TapedRecords) (media : View) (down : IsPutDown old.core.records.
   -- no page was left for it
   pub has_no_page : (pages : ℕ) → MakesTable true (Opens found.shape) tree name found after (Err (refused.PagesFull pages)) → UnmadeCause name old PagesFull × BeginsAnew name (tables_in old) old new
   has_no_page pages makes =
-      let opens = λ (image : List ℕ) (left : after.left_since after.moment image). as_named old media down found finds keeps image (makes.same refl refl image left) in
-      let is = as_found old media down found finds keeps in
+      let opens = λ (image : List ℕ) (left : after.left_since after.moment image). as_named depth old media down found finds keeps image (makes.same refl refl image left) in
+      let is = as_found depth old media down found finds keeps in
       let told = makes.cause.2 refl in (
         (may, down.pages ∙ ap next_page (sym is.1) ∙ told.2 ∙ ap index_pages_of is.0 ∙ sym (ap (λ (l : Limits). l.index_pages) down.limits)),
-        begins_anew old media down found finds keeps name after (Err (refused.PagesFull pages)) makes defers last behind counts (tables_in old) opens (λ image is. inl is) new begins time callers rows,
+        begins_anew depth old media down found finds keeps name after (Err (refused.PagesFull pages)) makes defers last behind counts (tables_in old) opens (λ image is. inl is) new begins time callers rows,
       )

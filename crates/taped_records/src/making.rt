@@ -148,7 +148,7 @@ fn remade(
 
 // The medium below, and how many commits may wait for their write-back. There is none where the medium had failed.
 fn put_down(core: Sound<TapedCore>) -> Option<(TapeMedia, u8)>
-    ensures down { IfSome result (λ down. IsPutDown core.records.store.shape (⟦<TapedCore as Steps>⟧.view core) (view_of down.0)) }
+    ensures down { IfSome result (λ down. IsPutDown core.records.store.shape down.1 (⟦<TapedCore as Steps>⟧.view core) (view_of down.0)) }
     ensures depth { IfSome result (λ down. down.1 ≤ 64) }
     ensures dead { IfNone result ((⟦<TapedCore as Steps>⟧.view core).state.is_dead ≡ true) }
 {
@@ -169,7 +169,7 @@ fn reopened(
     rows: Rows,
 ) -> Result<Box<TapedRecords>, Unmade>
     requires { depth ≤ 64 }
-    ensures begins { IfOk result (λ array. OfData true (view_of media) (λ shape bytes. Begins tree shape bytes (core_in array.value))) }
+    ensures begins { IfOk result (λ array. OfData true (view_of media) (λ shape bytes. Begins tree depth shape bytes (core_in array.value))) }
     ensures keeps { IfOk result (λ array. KeepsRecords true (view_of media) (core_in array.value).moment (core_in array.value).left_since) }
     ensures callers { IfOk result (λ array. array.value.callers ≡ callers) }
     ensures rows { IfOk result (λ array. array.value.rows ≡ rows) }

@@ -70,7 +70,7 @@ impl TapedRecords {
         depth: u8,
     ) -> Result<Box<TapedRecords>, OpenFault>
         requires { depth ≤ 64 }
-        ensures opened { IfOk result (λ array. IsOpened tree callers bytes.now array.value) }
+        ensures opened { IfOk result (λ array. IsOpened tree callers depth bytes.now array.value) }
         ensures cause { IfErr result (HasFault tree callers bytes.now) }
     {
         let Ok(media) = TapeMedia::new(alloc, bytes) else {

@@ -5,6 +5,7 @@ use Rattle.eaw_face.specs.StoreView.{StoreView}
 -- one store shows what the other does
 pub record ShowsSame (old new : StoreView) : Type 0 where
   pub shape : new.shape ≡ old.shape
+  pub depth : new.depth ≡ old.depth
   pub state : new.state ≡ old.state
   pub ranges : new.ranges ≡ old.ranges
   pub is_dead : new.is_dead ≡ old.is_dead

@@ -19,7 +19,8 @@ use Rattle.record_table.specs.Upgrading.{upgraded, OpensUpgraded}
 use Rattle.history.specs.Legal.{records}
 use Rattle.history.specs.declared.transaction.Done.{Done}
 use Rattle.history.specs.Table.{Granted}
-use Rattle.history.specs.declared.call.Call.TheVariants.{Purge}
+use Rattle.history.specs.declared.call.Call.TheVariants.{Control}
+use Rattle.history.specs.declared.call.Control.TheVariants.{Purge}
 use Rattle.history.specs.declared.call.Reply.{Reply}
 use Rattle.history.specs.declared.call.Reply.TheVariants as says
 use Rattle.caller_steps.specs.Core.{CoreView, Steps}
@@ -66,10 +67,10 @@ answers old says.Already alive idle cause = absurd (false≢true (sym idle ∙ c
 answers old _ alive idle cause = absurd cause
 
 -- what a step of such a core is
-cleared_step : (limits : Limits) (old new : State) (reply : Reply) → old.is_dead ≡ false → old.live 0 ≡ None → old.offers 0 ≡ unoffered → Step limits old 0 Purge reply new → steps_of_callers.Clears limits old reply new
+cleared_step : (limits : Limits) (old new : State) (reply : Reply) → old.is_dead ≡ false → old.live 0 ≡ None → old.offers 0 ≡ unoffered → Step limits old 0 (Control Purge) reply new → steps_of_callers.Clears limits old reply new
 cleared_step limits old new reply alive none free step =
-    subst (λ (o : Option Granted). StepAt limits o old 0 Purge reply new) none
-    (subst (λ (o : Offer). StepBy limits o old 0 Purge reply new) free (subst (λ (b : Bool). StepIf limits b old 0 Purge reply new) alive step.acts))
+    subst (λ (o : Option Granted). StepAt limits o old 0 (Control Purge) reply new) none
+    (subst (λ (o : Offer). StepBy limits o old 0 (Control Purge) reply new) free (subst (λ (b : Bool). StepIf limits b old 0 (Control Purge) reply new) alive step.acts))
 
 -- it changes neither the history nor what is in doubt
 unchanged : (limits : Limits) (old new : State) (reply : Reply) → steps_of_callers.Clears limits old reply new → (new.history ≡ old.history) × (new.doubt ≡ old.doubt)
@@ -103,12 +104,12 @@ none_taken (suc n) = refl
 
 -- a core that has just begun was purged
 module _ (tells : Bool) (Opens : Shape → List ℕ → List ℕ → Type 0) (index : Index) (old mid new : StoreView) (core later : CoreView) (begins : Begins tells (Opens old.shape) index old mid core)
-    (over : IsOver tells (Opens new.shape) index new later) (reply : Reply) (steps : Steps tells 0 Purge core later reply) (cause : PurgeCause core.state 0 reply) where
+    (over : IsOver tells (Opens new.shape) index new later) (reply : Reply) (steps : Steps tells 0 (Control Purge) core later reply) (cause : PurgeCause core.state 0 reply) where
   shape : new.shape ≡ old.shape
-  shape = same_limits index new.shape mid.shape (sym over.limits ∙ steps.limits ∙ begins.over.limits) ∙ begins.shape
+  shape = same_limits index new.shape mid.shape new.depth mid.depth (sym over.limits ∙ steps.limits ∙ begins.over.limits) ∙ begins.shape
 
-  limits : core.limits ≡ limits_of index old.shape
-  limits = begins.over.limits ∙ ap (limits_of index) begins.shape
+  limits : core.limits ≡ limits_of index old.shape old.depth
+  limits = begins.over.limits ∙ (λ i. limits_of index (begins.shape i) (begins.depth i))
 
   living : core.state.is_dead ≡ false
   living = begins.over.dead ∙ begins.alive
@@ -190,11 +191,11 @@ module _ (tells : Bool) (Opens : Shape → List ℕ → List ℕ → Type 0) (in
   alive_after (says.Damaged page) dead is = tt
   alive_after _ dead is = absurd is
 
-  to_data : (told : IsTrue tells) (said : Reply) → new.is_dead ≡ is_media said → IsAnswer said → steps_of_callers.Clears (limits_of index old.shape) (begun_on index old.state.bytes) said later.state
-      → IfOk (cleared said) (λ n. ClearsTo index old.shape old.state.bytes n new.state.bytes)
+  to_data : (told : IsTrue tells) (said : Reply) → new.is_dead ≡ is_media said → IsAnswer said → steps_of_callers.Clears (limits_of index old.shape old.depth) (begun_on index old.state.bytes) said later.state
+      → IfOk (cleared said) (λ n. ClearsTo index old.shape old.depth old.state.bytes n new.state.bytes)
   to_data told (says.Purged n) dead is (inl (m, re, purges)) = record {
     final = later.state;
-    purged = subst (λ (k : ℕ). Purges (limits_of index old.shape) (begun_on index old.state.bytes) k later.state) (sym (same_count n m re)) purges;
+    purged = subst (λ (k : ℕ). Purges (limits_of index old.shape old.depth) (begun_on index old.state.bytes) k later.state) (sym (same_count n m re)) purges;
     left = all told dead;
   }
   to_data told (says.Purged n) dead is (inr (re, other, e)) = absurd (cc)
@@ -227,7 +228,7 @@ clears_over tells Opens form old mid new says r clears = record {
   cause = clears.cause;
   counts = subst (λ (n : ℕ). ClearedCounts r n new.faults) says.faults clears.counts;
   alive = clears.alive;
-  cleared = λ told. moved told (λ h b i. IfOk r (λ n. ClearsTo i h b n new.state.bytes)) (clears.cleared told);
+  cleared = λ told. moved told (λ h b i. IfOk r (λ n. ClearsTo i h old.depth b n new.state.bytes)) (subst (λ (d : ℕ). IfOk r (λ n. ClearsTo (index_of_form form) mid.shape d mid.state.bytes n new.state.bytes)) says.depth (clears.cleared told));
   time = λ told. going.then (going.weaker (λ image opens. record { bytes = old.state.bytes; opened = opens; sound = sound told; named = refl; shows = refl }) (says.time told))
       (moved told (λ h b i. LeavesOnly (OpensAsNamed (Opens h) i b) mid new) (clears.time told));
   now = λ told. moved told (λ h b i. (image : List ℕ) → new.left_since new.moment image → OpensAsNamed (Opens h) i b image) (clears.now told);
@@ -254,7 +255,7 @@ as_purged old status new outcome = outcome_as false (λ ended. ⊥) (PurgedBy ol
     (λ ended none. absurd none) outcome
 
 module _ (tells : Bool) (told : IsTrue tells) (old : View) (only_now : (image : List ℕ) → IsTrue tells → old.left_since old.moment image → MayLeave old.content image)
-    (store : StoreView) (attached : Attached tells old store) (keeps : KeepsData tells old store.moment store.left_since)
+    (store : StoreView) (attached : Attached tells old store) (keeps : KeepsData tells old store.moment store.left_since) (at_once : store.depth ≡ 0)
     (later : StoreView) (new : View) (behind : IsBehind tells false later new) (counts_now : (t : ℕ) (image : List ℕ) → IsTrue tells → t ≤ new.moment → MayLeave new.content image → new.left_since t image) where
   -- in terms of the data of the array
   own : (P : List ℕ → Type 0) → P store.state.bytes → P (settled_data store.shape old.content.bytes)
@@ -286,7 +287,8 @@ module _ (tells : Bool) (told : IsTrue tells) (old : View) (only_now : (image : 
         works = clear (Ok n) clears;
         count = n;
         final = to.final;
-        purged = own (λ b. Purges (limits_of (index_at b) store.shape) (begun_on (index_at b) b) n to.final) to.purged;
+        purged = own (λ b. Purges (limits_of (index_at b) store.shape 0) (begun_on (index_at b) b) n to.final)
+            (subst (λ (d : ℕ). Purges (limits_of (index_at store.state.bytes) store.shape d) (begun_on (index_at store.state.bytes) store.state.bytes) n to.final) at_once to.purged);
         left = subst (λ (b : List ℕ). HasAll (index_at b) b to.final) (sym bytes)
             (subst (λ (i : Index). HasAll i later.state.bytes to.final) (sym (sound_says store.state.bytes later.state.bytes to.left.sound)) to.left);
         finishes = record {
@@ -325,7 +327,7 @@ purged_counts (Err core.NoMemory) m m' counts = counts
 -- what is told of a purge under the index that the data names
 pub comes_of : (tells : Bool) → IsTrue tells → (old : View) (store mid later : StoreView) (new : View) → Ran tells old store later new → (form : ℕ) → SaysForm tells (Opens store.shape) form store mid
     → (end : Result (List ℕ) Status) → LeavesPurged tells Opens (index_of_form form) mid end later → (status : Status) (cut : Bool) (text : List ℕ) → Tells end status cut text → PurgeOutcome old status new cut text
-comes_of tells told old store mid later new ran form says end left status cut text said = told_outcome tells told old ran.only_now store ran.attached ran.keeps later new ran.behind ran.counts_now left.0
+comes_of tells told old store mid later new ran form says end left status cut text said = told_outcome tells told old ran.only_now store ran.attached ran.keeps ran.at_once later new ran.behind ran.counts_now left.0
     (clears_over tells Opens form store mid later says left.0 left.2) status cut text (subst (λ (e : Result (List ℕ) Status). Tells e status cut text) left.1 said)
 
 -- What can be purged is purged, unless memory runs out.

@@ -159,6 +159,7 @@ pub makes_over : (tells : Bool) (Opens : Shape → List ℕ → List ℕ → Typ
     → making.MakesTable tells (Opens mid.shape) (index_of_form form) name mid new made → making.MakesTable tells (Opens old.shape) (index_at old.state.bytes) name old new made
 makes_over tells Opens form name old mid new alive says made makes = record {
   shape = makes.shape ∙ says.shape;
+  depth = makes.depth ∙ says.depth;
   mirrors = sent_then tells old mid new says.mirrors makes.mirrors;
   sound = λ told. moved told (λ h b i. i.sound b) (makes.sound told);
   cause = moved_cause tells name old mid alive (says.alive ∙ sym alive) says.shape (λ told. bytes told) made makes.cause;

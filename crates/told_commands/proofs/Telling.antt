@@ -102,8 +102,8 @@ given_counts tells Opens old new core.Media back = (back.dies refl).1
 given_counts tells Opens old new core.NoMemory back = (back.kept refl).1
 
 pub ran_of : (tells : Bool) (old : View) (store later : StoreView) (new : View) → ((image : List ℕ) → IsTrue tells → old.left_since old.moment image → MayLeave old.content image) → Attached tells old store
-    → KeepsData tells old store.moment store.left_since → IsBehind tells false later new → ((t : ℕ) (image : List ℕ) → IsTrue tells → t ≤ new.moment → MayLeave new.content image → new.left_since t image) → Ran tells old store later new
-ran_of tells old store later new only_now attached keeps behind counts_now = record { only_now = only_now; attached = attached; keeps = keeps; behind = behind; counts_now = counts_now }
+    → KeepsData tells old store.moment store.left_since → store.depth ≡ 0 → IsBehind tells false later new → ((t : ℕ) (image : List ℕ) → IsTrue tells → t ≤ new.moment → MayLeave new.content image → new.left_since t image) → Ran tells old store later new
+ran_of tells old store later new only_now attached keeps at_once behind counts_now = record { only_now = only_now; attached = attached; keeps = keeps; at_once = at_once; behind = behind; counts_now = counts_now }
 
 -- nothing was done, whether the data is spared or not
 pub idle_over : (spares : Bool) (old : View) (status : Status) (new : View) → OverRecords true 0 (λ ended. ⊥) old status new false [] → OverRecords spares 0 (λ ended. ⊥) old status new false []

@@ -27,9 +27,9 @@ use Rattle.told_commands.specs.Told.{HasNames, WorksOn, Finishes}
 
 -- Of n keys without a record the index, in version 2, has lost each, and each key without a record that it still has is the last of its page.
 -- This is said of the data of a store.
-pub record ClearsTo (index : Index) (shape : Shape) (old : List ℕ) (n : ℕ) (new : List ℕ) : Type 0 where
+pub record ClearsTo (index : Index) (shape : Shape) (depth : ℕ) (old : List ℕ) (n : ℕ) (new : List ℕ) : Type 0 where
   pub final : State
-  pub purged : Purges (limits_of index shape) (begun_on index old) n final
+  pub purged : Purges (limits_of index shape depth) (begun_on index old) n final
   pub left : HasAll index new final
 
 -- how a purge of a core that nobody else calls may be answered
@@ -64,7 +64,7 @@ pub record ClearsStore (tells : Bool) (Opens : List ℕ → List ℕ → Type 0)
   pub cause : IfErr result (StopCause tells)
   pub counts : ClearedCounts result old.faults new.faults
   pub alive : IfOk result (λ n. IsAlive new)
-  pub cleared : IsTrue tells → IfOk result (λ n. ClearsTo index old.shape old.state.bytes n new.state.bytes)
+  pub cleared : IsTrue tells → IfOk result (λ n. ClearsTo index old.shape old.depth old.state.bytes n new.state.bytes)
   pub time : IsTrue tells → LeavesOnly (OpensAsNamed Opens index old.state.bytes) old new
   pub now : IsTrue tells → (image : List ℕ) → new.left_since new.moment image → OpensAsNamed Opens index old.state.bytes image
 
@@ -76,7 +76,7 @@ pub record PurgesRecords (old new : View) (cut : Bool) (text : List ℕ) (ended 
   pub works : WorksOn shape (HasNames shape old) old new
   pub count : ℕ
   pub final : State
-  pub purged : Purges (limits_of (index_in shape old) shape) (begun_on (index_in shape old) (settled_data shape old.content.bytes)) count final
+  pub purged : Purges (limits_of (index_in shape old) shape 0) (begun_on (index_in shape old) (settled_data shape old.content.bytes)) count final
   pub left : HasAll (index_in shape new) (settled_data shape new.content.bytes) final
   pub finishes : Finishes shape (HasNames shape old) (number_line (codes "purged") count) new cut text ended
 

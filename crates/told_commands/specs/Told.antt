@@ -83,5 +83,6 @@ pub record Ran (tells : Bool) (old : View) (store later : StoreView) (new : View
   pub only_now : (image : List ℕ) → IsTrue tells → old.left_since old.moment image → MayLeave old.content image
   pub attached : Attached tells old store
   pub keeps : KeepsData tells old store.moment store.left_since
+  pub at_once : store.depth ≡ 0
   pub behind : IsBehind tells false later new
   pub counts_now : (t : ℕ) (image : List ℕ) → IsTrue tells → t ≤ new.moment → MayLeave new.content image → new.left_since t image

@@ -7,7 +7,7 @@ use crate::told_work::{Told, ToldWork};
 use array_runs::{Status, served_status};
 use caller_steps::Core as Steps;
 use eaw_face::EawStore;
-use history::{Call, Reply};
+use history::{Call, Control, Reply};
 use mars_core::{Core, CoreFault};
 use noted::KeepsNothing;
 use page_store::{KeyIndex, SaveRoom};
@@ -43,7 +43,7 @@ impl ToldWork for Purge {
             Ok(core) => core,
             Err((fault, store)) => return (Err(served_status(Err(fault))), store),
         };
-        let purged = cleared(&core.step(CALLER, &Call::Purge));
+        let purged = cleared(&core.step(CALLER, &Call::Control(Control::Purge)));
         let store = core.into_store();
         match purged {
             Ok(count) => (Ok(Told::Line(purged_line(count))), store),

@@ -12,7 +12,7 @@ use Rattle.history.specs.declared.call.Reply.{Reply}
 use Rattle.history.specs.declared.transaction.Done.{Done}
 use Rattle.caller_steps.specs.State.{State, records_of, done_by}
 use Rattle.caller_steps.specs.Room.{Limits}
-use Rattle.caller_steps.specs.Run.{Turn}
+use Rattle.caller_steps.specs.Run.{Turn, Heard}
 use Rattle.caller_steps.specs.Step.{StepIf, Runs}
 use Rattle.caller_steps.specs.Core.{CoreView, Continues}
 use Rattle.transactions.specs.Told.{reply_of}
@@ -41,18 +41,18 @@ alive_before caller mid new went alive = by mid.state.is_dead refl
     by true is = absurd (true≢false (sym (dead_on mid.limits mid.state new.state (turns_by caller went.told) went.run is) ∙ alive))
     by false is = is
 
-busy_append : (one other : Granted) → count_by (λ (entry : Call × Reply). is_busy entry.1) (one ++ other) ≡ count_by (λ (entry : Call × Reply). is_busy entry.1) one + count_by (λ (entry : Call × Reply). is_busy entry.1) other
+busy_append : (one other : Heard) → count_by (λ (entry : Call × Reply). is_busy entry.1) (one ++ other) ≡ count_by (λ (entry : Call × Reply). is_busy entry.1) one + count_by (λ (entry : Call × Reply). is_busy entry.1) other
 busy_append one other = sum_by-append _ one other
 
 -- one refusal,
 busy_one : (caller holder : ℕ) (old new : CoreView) → Refuses caller old new (Busy holder) → WentBusy 1 caller old new
 busy_one caller holder old new r = record {
   told = r.before ++ here ++ r.after;
-  run = subst (λ (told : Granted). Runs old.limits old.state (turns_by caller told) new.state) (sym (append_assoc r.before here r.after)) r.run;
+  run = subst (λ (told : Heard). Runs old.limits old.state (turns_by caller told) new.state) (sym (append_assoc r.before here r.after)) r.run;
   often = omega (arith, busy_append (r.before ++ here) r.after, busy_append r.before here, one);
 }
   where
-    here : Granted
+    here : Heard
     here = (r.call, reply_of (Busy holder)) ∷ []
 
     one : count_by (λ (entry : Call × Reply). is_busy entry.1) here ≡ 1

@@ -1,11 +1,12 @@
 -- What a commit leaves, by what its step comes to.
-use Rattle.std.proofs.Common.{◌≡◌, ℕ, ◌+◌, Bool, true, false, inl, inr, List, [], ◌∷◌, ◌++◌, Option, Some, None, unwrap_or, refl, sym, ap, ◌∙◌}
+use Rattle.std.proofs.Common.{◌≡◌, ℕ, Bool, true, false, inl, inr, List, [], ◌∷◌, ◌++◌, Option, Some, None, unwrap_or, refl, sym, ap, ◌∙◌}
 use Rattle.std.proofs.lemmas.Bool.{true≢false}
 use Rattle.std.proofs.lemmas.List.{append-nil}
 use Rattle.std.proofs.lemmas.Map.{update_here}
 use Rattle.history.specs.Table.{Granted}
 use Rattle.history.specs.declared.call.Call.{Call}
-use Rattle.history.specs.declared.call.Call.TheVariants.{Commit}
+use Rattle.history.specs.declared.call.Call.TheVariants.{Control}
+use Rattle.history.specs.declared.call.Control.TheVariants.{Commit}
 use Rattle.history.specs.declared.call.Reply.{Reply}
 use Rattle.history.specs.declared.call.Reply.TheVariants.{Media, Dead}
 use Rattle.history.specs.declared.transaction.Done.{Done}
@@ -27,28 +28,28 @@ data Came (caller : ℕ) (old : State) (reply : Reply) (new : State) : Type 0 wh
   in_doubt : old.is_dead ≡ false → reply ≡ Media → new.history ≡ old.history → new.doubt ≡ done_by old caller (calls_of old caller) ∷ [] → new.live caller ≡ None → new.offers ≡ old.offers → Came caller old reply new
 
 abbrev is_it : Call → Bool
-is_it Commit = true
+is_it (Control Commit) = true
 is_it call = false
 
-module _ (old new : CoreView) (caller : ℕ) (reply : Reply) (step : Step old.limits old.state caller Commit reply new.state) where
+module _ (old new : CoreView) (caller : ℕ) (reply : Reply) (step : Step old.limits old.state caller (Control Commit) reply new.state) where
   alive : (other : Reply) → (Dead ≡ other → ⊥) → reply ≡ other → old.state.is_dead ≡ false
   alive other apart is = by old.state.is_dead refl step.acts
     where
-      by : (dead : Bool) → old.state.is_dead ≡ dead → StepIf old.limits dead old.state caller Commit reply new.state → old.state.is_dead ≡ false
+      by : (dead : Bool) → old.state.is_dead ≡ dead → StepIf old.limits dead old.state caller (Control Commit) reply new.state → old.state.is_dead ≡ false
       by true dead says = absurd (apart (sym says.0 ∙ is))
       by false lives says = lives
 
-  of_other : (other : Call) → is_it other ≡ false → Commit ≡ other → ⊥
+  of_other : (other : Call) → is_it other ≡ false → Control Commit ≡ other → ⊥
   of_other other out is = true≢false (ap is_it is ∙ out)
 
   calls_are : (calls : Granted) → old.state.live caller ≡ Some calls → calls ≡ calls_of old.state caller
   calls_are calls live = sym (ap (λ (o : Option Granted). unwrap_or o []) live)
 
-  came_by : Fate old.limits.callers old.state caller Commit reply new.state → Came caller old.state reply new.state
+  came_by : Fate old.limits.callers old.state caller (Control Commit) reply new.state → Came caller old.state reply new.state
   came_by (refused r m index e) = unchanged (refusal_none reply r) (ap (λ (s : State). s.history) e) (ap (λ (s : State). s.doubt) e) (ap (λ (s : State). s.live caller) e) (ap (λ (s : State). s.offers) e)
   came_by (failed c r index e) = absurd (true≢false c)
   came_by (began un l c r e) = absurd (of_other _ refl c)
-  came_by (granted calls un l free answers index e) = absurd answers
+  came_by (granted asked calls un c l free answers index e) = absurd (of_other _ refl c)
   came_by (committed calls un c r l index e) =
       made (alive _ (λ is. true≢false (sym (ap is_committed is))) r) (ap is_committed r)
       (ap (λ (s : State). s.history) e ∙ ap (λ (calls : Granted). old.state.history ++ done_by old.state caller calls ∷ []) (calls_are calls l)) (ap (λ (s : State). s.doubt) e)
@@ -65,7 +66,7 @@ module _ (old new : CoreView) (caller : ℕ) (reply : Reply) (step : Step old.li
   came_by (purged n un l c r index e) = absurd (of_other _ refl c)
 
   came : Came caller old.state reply new.state
-  came = came_by (step_fate old.limits old.state caller new.state Commit reply step)
+  came = came_by (step_fate old.limits old.state caller new.state (Control Commit) reply step)
 
   pub offers : new.state.offers ≡ old.state.offers
   offers = by came

@@ -1,12 +1,11 @@
 -- Calls of one caller after others.
 use Rattle.std.proofs.Common.{◌≡◌, ℕ, List, [], ◌∷◌, ◌++◌, refl, sym, ◌∙◌, subst, append_assoc}
 use Rattle.std.proofs.lemmas.List.{map-append}
-use Rattle.history.specs.Table.{Granted}
 use Rattle.history.specs.declared.call.Call.{Call}
 use Rattle.history.specs.declared.call.Reply.{Reply}
 use Rattle.caller_steps.specs.State.{State}
 use Rattle.caller_steps.specs.Room.{Limits}
-use Rattle.caller_steps.specs.Run.{Turn}
+use Rattle.caller_steps.specs.Run.{Turn, Heard}
 use Rattle.caller_steps.specs.Step.{Step, Runs}
 use Rattle.caller_steps.specs.Core.{CoreView, Continues}
 use Rattle.transactions.specs.Told.{reply_of}
@@ -21,7 +20,7 @@ runs_join limits first mid now [] ys a b = subst (λ (s : State). Runs limits s 
 runs_join limits first mid now (x ∷ xs) ys a b = (a.0, a.1, runs_join limits a.0 mid now xs ys a.2 b)
 
 -- calls after others
-pub joined : (caller : ℕ) (old mid new : CoreView) (told more : Granted) → mid.limits ≡ old.limits → Runs old.limits old.state (turns_by caller told) mid.state
+pub joined : (caller : ℕ) (old mid new : CoreView) (told more : Heard) → mid.limits ≡ old.limits → Runs old.limits old.state (turns_by caller told) mid.state
     → Runs mid.limits mid.state (turns_by caller more) new.state → Runs old.limits old.state (turns_by caller (told ++ more)) new.state
 joined caller old mid new told more limits a b =
     subst (λ (turns : List Turn). Runs old.limits old.state turns new.state) (sym (map-append (λ (entry : Call × Reply). (caller, entry.0, entry.1)) told more))
@@ -42,7 +41,7 @@ refuses_later caller old mid new refusal limits a r = record {
   before = a.told ++ r.before;
   call = r.call;
   after = r.after;
-  run = subst (λ (told : Granted). Runs old.limits old.state (turns_by caller told) new.state) (sym (append_assoc a.told r.before ((r.call, reply_of refusal) ∷ r.after)))
+  run = subst (λ (told : Heard). Runs old.limits old.state (turns_by caller told) new.state) (sym (append_assoc a.told r.before ((r.call, reply_of refusal) ∷ r.after)))
       (joined caller old mid new a.told (r.before ++ (r.call, reply_of refusal) ∷ r.after) limits a.run r.run);
 }
 
@@ -52,7 +51,7 @@ refuses_before caller old mid new refusal limits r b = record {
   before = r.before;
   call = r.call;
   after = r.after ++ b.told;
-  run = subst (λ (told : Granted). Runs old.limits old.state (turns_by caller told) new.state) (append_assoc r.before ((r.call, reply_of refusal) ∷ r.after) b.told)
+  run = subst (λ (told : Heard). Runs old.limits old.state (turns_by caller told) new.state) (append_assoc r.before ((r.call, reply_of refusal) ∷ r.after) b.told)
       (joined caller old mid new (r.before ++ (r.call, reply_of refusal) ∷ r.after) b.told limits r.run b.run);
 }
 

@@ -7,7 +7,10 @@ use Rattle.std.proofs.lemmas.Map.{update_apart}
 use Rattle.history.specs.Key.{of_table}
 use Rattle.history.specs.Table.{Granted, Work, Answers, found, removed}
 use Rattle.history.specs.declared.call.Call.{Call}
-use Rattle.history.specs.declared.call.Call.TheVariants.{Begin, Get, Put, Del, Scan, Save, Back, Commit, Abort, Offer, Settle}
+use Rattle.history.specs.declared.call.Call.TheVariants.{Begin, Table, Control}
+use Rattle.history.specs.declared.call.TableCall.{TableCall}
+use Rattle.history.specs.declared.call.TableCall.TheVariants.{Get, Put, Del, Scan, Save, Back}
+use Rattle.history.specs.declared.call.Control.TheVariants.{Commit, Abort, Offer, Settle}
 use Rattle.history.specs.declared.call.Reply.{Reply}
 use Rattle.history.specs.declared.call.Reply.TheVariants.{Fine, Found, Absent, Listed, Saved}
 use Rattle.caller_steps.specs.Fate.{is_media}
@@ -21,41 +24,40 @@ use Rattle.transactions.proofs.Going.{went_one}
 
 -- a call that neither commits nor offers
 abbrev pub is_own : Call → Bool
-is_own Commit = false
-is_own Offer = false
-is_own Settle = false
+is_own (Control Commit) = false
+is_own (Control Offer) = false
+is_own (Control Settle) = false
 is_own call = true
 
 -- a reply that grants the call
 abbrev pub is_answer : Call → Reply → Bool
 is_answer Begin Fine = true
-is_answer (Get name key) (Found value) = true
-is_answer (Get name key) Absent = true
-is_answer (Put name key value) Fine = true
-is_answer (Del name key) Fine = true
-is_answer (Del name key) Absent = true
-is_answer (Scan name low high) (Listed rows) = true
-is_answer Save (Saved n) = true
-is_answer (Back n) Fine = true
-is_answer Abort Fine = true
+is_answer (Table (Get name key)) (Found value) = true
+is_answer (Table (Get name key)) Absent = true
+is_answer (Table (Put name key value)) Fine = true
+is_answer (Table (Del name key)) Fine = true
+is_answer (Table (Del name key)) Absent = true
+is_answer (Table (Scan name low high)) (Listed rows) = true
+is_answer (Table Save) (Saved n) = true
+is_answer (Table (Back n)) Fine = true
+is_answer (Control Abort) Fine = true
 is_answer call reply = false
 
-found_answers : (name : List ℕ) (key : ℕ) (o : Option (List ℕ)) → is_answer (Get name key) (found o) ≡ true
+found_answers : (name : List ℕ) (key : ℕ) (o : Option (List ℕ)) → is_answer (Table (Get name key)) (found o) ≡ true
 found_answers name key None = refl
 found_answers name key (Some value) = refl
 
-removed_answers : (name : List ℕ) (key : ℕ) (o : Option (List ℕ)) → is_answer (Del name key) (removed o) ≡ true
+removed_answers : (name : List ℕ) (key : ℕ) (o : Option (List ℕ)) → is_answer (Table (Del name key)) (removed o) ≡ true
 removed_answers name key None = refl
 removed_answers name key (Some value) = refl
 
-answered : (work : Work) (call : Call) (reply : Reply) → Answers work call reply → is_answer call reply ≡ true
-answered work (Get name key) reply is = ap (is_answer (Get name key)) is ∙ found_answers name key (get work.table (of_table name key))
-answered work (Put name key value) reply is = ap (is_answer (Put name key value)) is
-answered work (Del name key) reply is = ap (is_answer (Del name key)) is ∙ removed_answers name key (get work.table (of_table name key))
-answered work (Scan name low high) reply is = ap (is_answer (Scan name low high)) is
-answered work Save reply is = ap (is_answer Save) is
-answered work (Back n) reply is = ap (is_answer (Back n)) is.1
-answered work call reply is = absurd is
+answered : (work : Work) (asked : TableCall) (reply : Reply) → Answers work asked reply → is_answer (Table asked) reply ≡ true
+answered work (Get name key) reply is = ap (is_answer (Table (Get name key))) is ∙ found_answers name key (get work.table (of_table name key))
+answered work (Put name key value) reply is = ap (is_answer (Table (Put name key value))) is
+answered work (Del name key) reply is = ap (is_answer (Table (Del name key))) is ∙ removed_answers name key (get work.table (of_table name key))
+answered work (Scan name low high) reply is = ap (is_answer (Table (Scan name low high))) is
+answered work Save reply is = ap (is_answer (Table Save)) is
+answered work (Back n) reply is = ap (is_answer (Table (Back n))) is.1
 
 -- nothing was committed, nothing came to be in doubt, no other caller's transaction changed, and none was offered
 record Left (caller : ℕ) (old new : State) : Type 0 where
@@ -88,14 +90,14 @@ module _ (callers : ℕ) (old : State) (caller : ℕ) (call : Call) (reply : Rep
   left (refused r m index e) = as_before _ e refl refl refl refl
   left (failed c r index e) = as_before _ e refl refl refl refl
   left (began un l c r e) = but_live (Some []) _ e refl refl refl refl
-  left (granted calls un l free answers index e) = but_live (Some (calls ++ (call, reply) ∷ [])) _ e refl refl refl refl
-  left (committed calls un c r l index e) = absurd (of_other Commit refl c)
-  left (doubted calls un c r l index e) = absurd (of_other Commit refl c)
+  left (granted asked calls un c l free answers index e) = but_live (Some (calls ++ (asked, reply) ∷ [])) _ e refl refl refl refl
+  left (committed calls un c r l index e) = absurd (of_other (Control Commit) refl c)
+  left (doubted calls un c r l index e) = absurd (of_other (Control Commit) refl c)
   left (aborted calls un c r l e) = but_live None _ e refl refl refl refl
-  left (given calls un c r l e) = absurd (of_other Offer refl c)
-  left (settled inside un c r index e) = absurd (of_other Settle refl c)
-  left (unsure inside un c r index e) = absurd (of_other Settle refl c)
-  left (told n un c r e) = absurd (of_other Settle refl c)
+  left (given calls un c r l e) = absurd (of_other (Control Offer) refl c)
+  left (settled inside un c r index e) = absurd (of_other (Control Settle) refl c)
+  left (unsure inside un c r index e) = absurd (of_other (Control Settle) refl c)
+  left (told n un c r e) = absurd (of_other (Control Settle) refl c)
   left (purged n un l c r index e) = as_before _ e refl refl refl refl
 
   -- a call that no answer grants leaves the caller's own transaction too
@@ -103,14 +105,14 @@ module _ (callers : ℕ) (old : State) (caller : ℕ) (call : Call) (reply : Rep
   kept none (refused r m index e) = ap (λ (s : State). s.live caller) e
   kept none (failed c r index e) = ap (λ (s : State). s.live caller) e
   kept none (began un l c r e) = absurd (true≢false (sym (λ i. is_answer (c i) (r i)) ∙ none))
-  kept none (granted calls un l free answers index e) = absurd (true≢false (sym (answered _ call reply answers) ∙ none))
-  kept none (committed calls un c r l index e) = absurd (of_other Commit refl c)
-  kept none (doubted calls un c r l index e) = absurd (of_other Commit refl c)
+  kept none (granted asked calls un c l free answers index e) = absurd (true≢false (sym (ap (λ (x : Call). is_answer x reply) c ∙ answered _ asked reply answers) ∙ none))
+  kept none (committed calls un c r l index e) = absurd (of_other (Control Commit) refl c)
+  kept none (doubted calls un c r l index e) = absurd (of_other (Control Commit) refl c)
   kept none (aborted calls un c r l e) = absurd (true≢false (sym (λ i. is_answer (c i) (r i)) ∙ none))
-  kept none (given calls un c r l e) = absurd (of_other Offer refl c)
-  kept none (settled inside un c r index e) = absurd (of_other Settle refl c)
-  kept none (unsure inside un c r index e) = absurd (of_other Settle refl c)
-  kept none (told n un c r e) = absurd (of_other Settle refl c)
+  kept none (given calls un c r l e) = absurd (of_other (Control Offer) refl c)
+  kept none (settled inside un c r index e) = absurd (of_other (Control Settle) refl c)
+  kept none (unsure inside un c r index e) = absurd (of_other (Control Settle) refl c)
+  kept none (told n un c r e) = absurd (of_other (Control Settle) refl c)
   kept none (purged n un l c r index e) = ap (λ (s : State). s.live caller) e
 
 -- a transaction begins where there was none, and none was offered
@@ -118,7 +120,7 @@ begins : (callers : ℕ) (old : State) (caller : ℕ) (new : State) → Fate cal
 begins callers old caller new (refused r m index e) = absurd (true≢false (sym r))
 begins callers old caller new (failed c r index e) = absurd (true≢false (sym (ap is_media r)))
 begins callers old caller new (began un l c r e) = (un, l)
-begins callers old caller new (granted calls un l free answers index e) = absurd answers
+begins callers old caller new (granted asked calls un c l free answers index e) = absurd (true≢false (ap is_begin c))
 begins callers old caller new (committed calls un c r l index e) = absurd (true≢false (ap is_own c))
 begins callers old caller new (doubted calls un c r l index e) = absurd (true≢false (ap is_own c))
 begins callers old caller new (aborted calls un c r l e) = absurd (true≢false (ap is_begin c))

@@ -5,7 +5,8 @@ use Rattle.history.specs.Legal.{records}
 use Rattle.history.specs.Table.{Granted}
 use Rattle.history.specs.Writes.{Table}
 use Rattle.history.specs.declared.call.Call.{Call}
-use Rattle.history.specs.declared.call.Call.TheVariants.{Commit}
+use Rattle.history.specs.declared.call.Call.TheVariants.{Control}
+use Rattle.history.specs.declared.call.Control.TheVariants.{Commit}
 use Rattle.history.specs.declared.call.Reply.{Reply}
 use Rattle.history.specs.declared.transaction.Done.{Done}
 use Rattle.caller_steps.specs.Core.{CoreView}
@@ -15,11 +16,11 @@ use Rattle.transactions.specs.Adds.{MayGrow}
 use Rattle.transactions.specs.Makes.{Holds, IsMade, MayAdd}
 
 abbrev commits : Call → Bool
-commits Commit = true
+commits (Control Commit) = true
 commits call = false
 
 -- a commit changes no other caller's transaction
-pub others_stay : (callers caller : ℕ) (old new : CoreView) (reply : Reply) → Moves callers old.state caller Commit reply new.state → (other : ℕ) → other ≢ caller → new.state.live other ≡ old.state.live other
+pub others_stay : (callers caller : ℕ) (old new : CoreView) (reply : Reply) → Moves callers old.state caller (Control Commit) reply new.state → (other : ℕ) → other ≢ caller → new.state.live other ≡ old.state.live other
 others_stay callers caller old new reply moves other apart = ⊎_elim (λ stays. stays.live) (λ ends. absurd (true≢false (ap commits ends.settles))) (moves.others other apart)
 
 module _ {T : Type 0} (Does : T → Table → Granted → Type 0) (caller : ℕ) (answer : T) (old begun mid : CoreView) (base : begun.state.base ≡ old.state.base) (history : begun.state.history ≡ old.state.history)

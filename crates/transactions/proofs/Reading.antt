@@ -5,8 +5,8 @@ use Rattle.history.specs.Key.{of_table}
 use Rattle.history.specs.Legal.{records}
 use Rattle.history.specs.Table.{Granted, Work, begun, after, worked, found, Answers, IsRight, IsRightFrom}
 use Rattle.history.specs.Writes.{Table}
-use Rattle.history.specs.declared.call.Call.{Call}
-use Rattle.history.specs.declared.call.Call.TheVariants.{Get}
+use Rattle.history.specs.declared.call.TableCall.{TableCall}
+use Rattle.history.specs.declared.call.TableCall.TheVariants.{Get}
 use Rattle.history.specs.declared.call.Reply.{Reply}
 use Rattle.history.specs.declared.call.Reply.TheVariants.{Found, Absent}
 use Rattle.caller_steps.specs.Core.{CoreView}
@@ -20,7 +20,7 @@ found_same (Some a) (Some b) same = cc
 found_same None (Some b) same = absurd (let e : Absent ≡ Found b = same in cc)
 found_same (Some a) None same = absurd (let e : Found a ≡ Absent = same in cc)
 
-right_at : (work : Work) (front back : Granted) (call : Call) (reply : Reply) → IsRightFrom work (front ++ (call, reply) ∷ back) → Answers (worked work front) call reply
+right_at : (work : Work) (front back : Granted) (call : TableCall) (reply : Reply) → IsRightFrom work (front ++ (call, reply) ∷ back) → Answers (worked work front) call reply
 right_at work [] back call reply right = right.0
 right_at work (entry ∷ front) back call reply right = right_at (after work entry.0) front back call reply right.1
 

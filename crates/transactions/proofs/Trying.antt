@@ -1,14 +1,14 @@
 -- Calls within a transaction, and how many begins there are among the calls of tries.
-use Rattle.std.proofs.Common.{◌≡◌, ℕ, ◌+◌, ◌≤◌, Bool, true, false, cond, List, [], ◌∷◌, ◌++◌, refl, sym, ◌∙◌, ap, arith}
+use Rattle.std.proofs.Common.{◌≡◌, ℕ, ◌+◌, ◌≤◌, Bool, false, cond, [], ◌∷◌, ◌++◌, refl, ◌∙◌, ap, arith}
 use Rattle.std.specs.Prelude.{IsTrue, IsFalse, All}
 use Rattle.std.specs.List.{count_by}
 use Rattle.std.proofs.lemmas.Bool.{false≢true}
 use Rattle.std.proofs.lemmas.List.Elements.{All-nil, All-cons, All-head, All-tail, All-append}
 use Rattle.std.proofs.lemmas.List.Sums.{sum_by-append, sum_by-cons}
-use Rattle.history.specs.Table.{Granted}
 use Rattle.history.specs.declared.call.Call.{Call}
 use Rattle.history.specs.declared.call.Call.TheVariants.{Begin}
 use Rattle.history.specs.declared.call.Reply.{Reply}
+use Rattle.caller_steps.specs.Run.{Heard}
 use Rattle.caller_steps.specs.Step.{Step}
 use Rattle.caller_steps.specs.Core.{CoreView}
 use Rattle.transactions.specs.Went.{is_within, WentWithin}
@@ -30,23 +30,23 @@ within_on caller old mid new a b = record {
   within = All-append IsWithin a.told b.told a.within b.within;
 }
 
-abbrev begins : Granted → ℕ
+abbrev begins : Heard → ℕ
 begins told = count_by (λ (entry : Call × Reply). is_begin entry.0) told
 
 begins_no : (call : Call) → IsTrue (is_within call) → is_begin call ≡ false
 begins_no Begin within = absurd (false≢true within)
 begins_no call within = refl
 
-begins_append : (one other : Granted) → begins (one ++ other) ≡ begins one + begins other
+begins_append : (one other : Heard) → begins (one ++ other) ≡ begins one + begins other
 begins_append one other = sum_by-append _ one other
 
-begins_cons : (call : Call) (reply : Reply) (told : Granted) → is_begin call ≡ false → begins ((call, reply) ∷ told) ≡ begins told
+begins_cons : (call : Call) (reply : Reply) (told : Heard) → is_begin call ≡ false → begins ((call, reply) ∷ told) ≡ begins told
 begins_cons call reply told still =
     let once : Bool → ℕ = λ b. cond b 1 0 in
     let none : once (is_begin call) ≡ 0 = ap once still in
     omega (arith, sum_by-cons (λ (entry : Call × Reply). cond (is_begin entry.0) 1 0) (call, reply) told, none)
 
-begins_none : (told : Granted) → All IsWithin told → begins told ≡ 0
+begins_none : (told : Heard) → All IsWithin told → begins told ≡ 0
 begins_none [] within = refl
 begins_none (entry ∷ told) within = begins_cons entry.0 entry.1 told (begins_no entry.0 (All-head IsWithin entry told within)) ∙ begins_none told (All-tail IsWithin entry told within)
 

@@ -1,6 +1,6 @@
 -- What a call leaves of its caller's transaction.
 use Rattle.std.specs.Prelude.{ℕ, ◌≡◌, ◌≢◌, ◌⊎◌, [], ◌∷◌, ◌++◌, Some, None}
-use Rattle.history.specs.declared.call.Call.{Call}
+use Rattle.history.specs.declared.call.TableCall.{TableCall}
 use Rattle.history.specs.declared.call.Reply.{Reply}
 use Rattle.caller_steps.specs.Core.{CoreView, Continues}
 use Rattle.caller_steps.specs.State.{calls_of, done_by}
@@ -19,7 +19,7 @@ pub record Stays (caller : ℕ) (old new : CoreView) : Type 0 where
   pub offers : new.state.offers ≡ old.state.offers
 
 -- the caller's transaction has one more granted call
-abbrev pub Adds : ℕ → Call → Reply → CoreView → CoreView → Type 0
+abbrev pub Adds : ℕ → TableCall → Reply → CoreView → CoreView → Type 0
 Adds caller call reply old new = new.state.live caller ≡ Some (calls_of old.state caller ++ (call, reply) ∷ [])
 
 -- the caller's transaction is as it was

@@ -1,6 +1,8 @@
 // The calls of a transaction, each with a result of its own.
 ghost use Rattle.std.specs.Prelude.{◌≡◌, ◌<◌, [], ℕ, List, Bool, Some, None, IsTrue, IfOk, IfErr, OnOk, OnErr};
-ghost use Rattle.history.specs.declared.call.Call.TheVariants.{Begin, Get, Put, Del, Scan, Save, Back, Commit, Abort};
+ghost use Rattle.history.specs.declared.call.Call.TheVariants.{Begin, Table as OnTable, Control as Controls};
+ghost use Rattle.history.specs.declared.call.TableCall.TheVariants.{Get, Put, Del, Scan, Save, Back};
+ghost use Rattle.history.specs.declared.call.Control.TheVariants.{Commit, Abort};
 ghost use Rattle.history.specs.declared.call.Reply.TheVariants.{Fine, Found, Absent, Listed, Saved};
 ghost use Rattle.caller_steps.specs.Core.{Steps, Continues};
 ghost use Rattle.caller_steps.specs.Sound.{IsSound};
@@ -12,7 +14,7 @@ ghost use Rattle.transactions.specs.Adds.{Stays, Adds, Keeps, Commits, MayDoubt,
 use crate::Refusal;
 use crate::laws::what_a_call_is;
 use caller_steps::{Core, prefix_law};
-use history::{Call, Reply, Rows};
+use history::{Call, Control, Reply, Rows, TableCall};
 use record_slots::{Name, Value};
 
 /// Begins a transaction of the caller, which must have none, and none that it has offered and not settled.
@@ -44,7 +46,7 @@ pub fn get<C: Core>(
 ) -> Result<Option<Value>, Refusal>
     requires inside { caller < (C.view core.old).limits.callers }
     requires sound { IsTrue C.tells → IsSound (C.view core.old).state }
-    ensures steps { Steps C.tells caller (Get table key) (C.view core.old) (C.view core.new) (told_get result) }
+    ensures steps { Steps C.tells caller (OnTable (Get table key)) (C.view core.old) (C.view core.new) (told_get result) }
     ensures stays { IsTrue C.tells → Stays caller (C.view core.old) (C.view core.new) }
     ensures within { IsTrue C.tells → WentWithin caller (C.view core.old) (C.view core.new) }
     ensures ok { IsTrue C.tells → OnOk result (Adds caller (Get table key) (told_get result) (C.view core.old) (C.view core.new)) }
@@ -53,7 +55,7 @@ pub fn get<C: Core>(
 {
     prefix_law::<C>();
     what_a_call_is::<C>();
-    match core.step(caller, &Call::Get { table, key }) {
+    match core.step(caller, &Call::Table(TableCall::Get { table, key })) {
         Reply::Found(value) => Ok(Some(value)),
         Reply::Absent => Ok(None),
         reply => Err(Refusal::from(reply)),
@@ -70,7 +72,7 @@ pub fn put<C: Core>(
 ) -> Result<(), Refusal>
     requires inside { caller < (C.view core.old).limits.callers }
     requires sound { IsTrue C.tells → IsSound (C.view core.old).state }
-    ensures steps { Steps C.tells caller (Put table key value) (C.view core.old) (C.view core.new) (told_done result) }
+    ensures steps { Steps C.tells caller (OnTable (Put table key value)) (C.view core.old) (C.view core.new) (told_done result) }
     ensures stays { IsTrue C.tells → Stays caller (C.view core.old) (C.view core.new) }
     ensures within { IsTrue C.tells → WentWithin caller (C.view core.old) (C.view core.new) }
     ensures ok { IsTrue C.tells → OnOk result (Adds caller (Put table key value) Fine (C.view core.old) (C.view core.new)) }
@@ -79,7 +81,7 @@ pub fn put<C: Core>(
 {
     prefix_law::<C>();
     what_a_call_is::<C>();
-    match core.step(caller, &Call::Put { table, key, value }) {
+    match core.step(caller, &Call::Table(TableCall::Put { table, key, value })) {
         Reply::Fine => Ok(()),
         reply => Err(Refusal::from(reply)),
     }
@@ -89,7 +91,7 @@ pub fn put<C: Core>(
 pub fn del<C: Core>(core: &mut C, caller: u8, table: Name, key: u64) -> Result<bool, Refusal>
     requires inside { caller < (C.view core.old).limits.callers }
     requires sound { IsTrue C.tells → IsSound (C.view core.old).state }
-    ensures steps { Steps C.tells caller (Del table key) (C.view core.old) (C.view core.new) (told_del result) }
+    ensures steps { Steps C.tells caller (OnTable (Del table key)) (C.view core.old) (C.view core.new) (told_del result) }
     ensures stays { IsTrue C.tells → Stays caller (C.view core.old) (C.view core.new) }
     ensures within { IsTrue C.tells → WentWithin caller (C.view core.old) (C.view core.new) }
     ensures ok { IsTrue C.tells → OnOk result (Adds caller (Del table key) (told_del result) (C.view core.old) (C.view core.new)) }
@@ -98,7 +100,7 @@ pub fn del<C: Core>(core: &mut C, caller: u8, table: Name, key: u64) -> Result<b
 {
     prefix_law::<C>();
     what_a_call_is::<C>();
-    match core.step(caller, &Call::Del { table, key }) {
+    match core.step(caller, &Call::Table(TableCall::Del { table, key })) {
         Reply::Fine => Ok(true),
         Reply::Absent => Ok(false),
         reply => Err(Refusal::from(reply)),
@@ -115,7 +117,7 @@ pub fn scan<C: Core>(
 ) -> Result<Rows, Refusal>
     requires inside { caller < (C.view core.old).limits.callers }
     requires sound { IsTrue C.tells → IsSound (C.view core.old).state }
-    ensures steps { Steps C.tells caller (Scan table low high) (C.view core.old) (C.view core.new) (told_scan result) }
+    ensures steps { Steps C.tells caller (OnTable (Scan table low high)) (C.view core.old) (C.view core.new) (told_scan result) }
     ensures stays { IsTrue C.tells → Stays caller (C.view core.old) (C.view core.new) }
     ensures within { IsTrue C.tells → WentWithin caller (C.view core.old) (C.view core.new) }
     ensures ok { IsTrue C.tells → IfOk result (λ rows. Adds caller (Scan table low high) (Listed rows) (C.view core.old) (C.view core.new)) }
@@ -124,7 +126,7 @@ pub fn scan<C: Core>(
 {
     prefix_law::<C>();
     what_a_call_is::<C>();
-    match core.step(caller, &Call::Scan { table, low, high }) {
+    match core.step(caller, &Call::Table(TableCall::Scan { table, low, high })) {
         Reply::Listed(rows) => Ok(rows),
         reply => Err(Refusal::from(reply)),
     }
@@ -134,7 +136,7 @@ pub fn scan<C: Core>(
 pub fn save<C: Core>(core: &mut C, caller: u8) -> Result<u32, Refusal>
     requires inside { caller < (C.view core.old).limits.callers }
     requires sound { IsTrue C.tells → IsSound (C.view core.old).state }
-    ensures steps { Steps C.tells caller Save (C.view core.old) (C.view core.new) (told_save result) }
+    ensures steps { Steps C.tells caller (OnTable Save) (C.view core.old) (C.view core.new) (told_save result) }
     ensures stays { IsTrue C.tells → Stays caller (C.view core.old) (C.view core.new) }
     ensures within { IsTrue C.tells → WentWithin caller (C.view core.old) (C.view core.new) }
     ensures ok { IsTrue C.tells → IfOk result (λ saves. Adds caller Save (Saved saves) (C.view core.old) (C.view core.new)) }
@@ -143,7 +145,7 @@ pub fn save<C: Core>(core: &mut C, caller: u8) -> Result<u32, Refusal>
 {
     prefix_law::<C>();
     what_a_call_is::<C>();
-    match core.step(caller, &Call::Save) {
+    match core.step(caller, &Call::Table(TableCall::Save)) {
         Reply::Saved(saves) => Ok(saves),
         reply => Err(Refusal::from(reply)),
     }
@@ -153,7 +155,7 @@ pub fn save<C: Core>(core: &mut C, caller: u8) -> Result<u32, Refusal>
 pub fn back<C: Core>(core: &mut C, caller: u8, save: u32) -> Result<(), Refusal>
     requires inside { caller < (C.view core.old).limits.callers }
     requires sound { IsTrue C.tells → IsSound (C.view core.old).state }
-    ensures steps { Steps C.tells caller (Back save) (C.view core.old) (C.view core.new) (told_done result) }
+    ensures steps { Steps C.tells caller (OnTable (Back save)) (C.view core.old) (C.view core.new) (told_done result) }
     ensures stays { IsTrue C.tells → Stays caller (C.view core.old) (C.view core.new) }
     ensures within { IsTrue C.tells → WentWithin caller (C.view core.old) (C.view core.new) }
     ensures ok { IsTrue C.tells → OnOk result (Adds caller (Back save) Fine (C.view core.old) (C.view core.new)) }
@@ -162,7 +164,7 @@ pub fn back<C: Core>(core: &mut C, caller: u8, save: u32) -> Result<(), Refusal>
 {
     prefix_law::<C>();
     what_a_call_is::<C>();
-    match core.step(caller, &Call::Back { save }) {
+    match core.step(caller, &Call::Table(TableCall::Back { save })) {
         Reply::Fine => Ok(()),
         reply => Err(Refusal::from(reply)),
     }
@@ -173,7 +175,7 @@ pub fn back<C: Core>(core: &mut C, caller: u8, save: u32) -> Result<(), Refusal>
 pub fn commit<C: Core>(core: &mut C, caller: u8) -> Result<u64, Refusal>
     requires inside { caller < (C.view core.old).limits.callers }
     requires sound { IsTrue C.tells → IsSound (C.view core.old).state }
-    ensures steps { Steps C.tells caller Commit (C.view core.old) (C.view core.new) (told_commit result) }
+    ensures steps { Steps C.tells caller (Controls Commit) (C.view core.old) (C.view core.new) (told_commit result) }
     ensures goes_on { IsTrue C.tells → Continues (C.view core.old) (C.view core.new) }
     ensures ok { IsTrue C.tells → OnOk result (Commits caller (C.view core.old) (C.view core.new)) }
     ensures err { IsTrue C.tells → OnErr result ((C.view core.new).state.history ≡ (C.view core.old).state.history) }
@@ -185,7 +187,7 @@ pub fn commit<C: Core>(core: &mut C, caller: u8) -> Result<u64, Refusal>
 {
     prefix_law::<C>();
     what_a_call_is::<C>();
-    match core.step(caller, &Call::Commit) {
+    match core.step(caller, &Call::Control(Control::Commit)) {
         Reply::Committed(at) => Ok(at),
         reply => Err(Refusal::from(reply)),
     }
@@ -195,7 +197,7 @@ pub fn commit<C: Core>(core: &mut C, caller: u8) -> Result<u64, Refusal>
 pub fn abort<C: Core>(core: &mut C, caller: u8) -> Result<(), Refusal>
     requires inside { caller < (C.view core.old).limits.callers }
     requires sound { IsTrue C.tells → IsSound (C.view core.old).state }
-    ensures steps { Steps C.tells caller Abort (C.view core.old) (C.view core.new) (told_done result) }
+    ensures steps { Steps C.tells caller (Controls Abort) (C.view core.old) (C.view core.new) (told_done result) }
     ensures stays { IsTrue C.tells → Stays caller (C.view core.old) (C.view core.new) }
     ensures ok { IsTrue C.tells → OnOk result ((C.view core.new).state.live caller ≡ None) }
     ensures err { IsTrue C.tells → OnErr result (Keeps caller (C.view core.old) (C.view core.new)) }
@@ -203,7 +205,7 @@ pub fn abort<C: Core>(core: &mut C, caller: u8) -> Result<(), Refusal>
 {
     prefix_law::<C>();
     what_a_call_is::<C>();
-    match core.step(caller, &Call::Abort) {
+    match core.step(caller, &Call::Control(Control::Abort)) {
         Reply::Fine => Ok(()),
         reply => Err(Refusal::from(reply)),
     }

@@ -5,7 +5,7 @@ use super::arrays::{CHOICES, fresh, media_of, whole};
 use super::opening::{close_bank, open_bank};
 use bank::{Refusal, balance, transfer};
 use caller_steps::{Core as Steps, prefix_law};
-use history::{Call, main_table};
+use history::{Call, Control, TableCall, main_table};
 use pcm_media::{FusedMedia, Media, MemoryMedia};
 use record_slots::Value;
 use std::alloc::Global;
@@ -19,15 +19,13 @@ fn open_account<C: Steps>(core: &mut C, account: u64, value: Value)
     ensures { (C.view core.new).limits ≡ (C.view core.old).limits }
 {
     let _ = core.step(0, &Call::Begin);
-    let _ = core.step(
-        0,
-        &Call::Put {
-            table: main_table(),
-            key: account,
-            value,
-        },
-    );
-    let _ = core.step(0, &Call::Commit);
+    let put = TableCall::Put {
+        table: main_table(),
+        key: account,
+        value,
+    };
+    let _ = core.step(0, &Call::Table(put));
+    let _ = core.step(0, &Call::Control(Control::Commit));
 }
 
 /// An array with 100 in the account 1 and 50 in the account 2.

@@ -2,7 +2,7 @@
 ghost use Rattle.std.specs.Prelude.{◌≡◌, []};
 ghost use Rattle.snapshot_readers.specs.Feeds.{fed, fed_book, read_book};
 
-use history::{Call, Calls, Done, Key, Reply, Tables};
+use history::{Calls, Done, Key, Reply, TableCall, Tables};
 use mars_base::NoMemory;
 use record_slots::{Name, Value};
 use snapshot_readers::{Feed, Reader, open_readers};
@@ -22,17 +22,17 @@ fn put_and_back(alloc: Global, at_key: Key, text: &[u8]) -> Result<Calls, NoMemo
     let value = Value::of(text).ok_or(NoMemory)?;
     let Key { table, key } = at_key;
     let mut calls = Calls::new(alloc);
-    calls.push(Call::Put { table, key, value }, Reply::Fine)?;
-    calls.push(Call::Save, Reply::Saved(1))?;
-    calls.push(Call::Del { table, key }, Reply::Fine)?;
-    calls.push(Call::Back { save: 1 }, Reply::Fine)?;
+    calls.push(TableCall::Put { table, key, value }, Reply::Fine)?;
+    calls.push(TableCall::Save, Reply::Saved(1))?;
+    calls.push(TableCall::Del { table, key }, Reply::Fine)?;
+    calls.push(TableCall::Back { save: 1 }, Reply::Fine)?;
     Ok(calls)
 }
 
 fn removal(alloc: Global, at_key: Key) -> Result<Calls, NoMemory> {
     let Key { table, key } = at_key;
     let mut calls = Calls::new(alloc);
-    calls.push(Call::Del { table, key }, Reply::Fine)?;
+    calls.push(TableCall::Del { table, key }, Reply::Fine)?;
     Ok(calls)
 }
 

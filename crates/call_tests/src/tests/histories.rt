@@ -1,4 +1,4 @@
-use history::{Call, Calls, Done, History, Reply, Rows, Tables, main_table};
+use history::{Calls, Done, History, Reply, Rows, TableCall, Tables, main_table};
 use history_replay::{is_legal, play};
 use mars_base::NoMemory;
 use record_slots::{Name, Value};
@@ -45,17 +45,17 @@ fn the_one(tables: &Tables, table: Name) -> Option<Value> {
 fn back_and_look(alloc: Global, table: Name, value: Value) -> Result<Calls, NoMemory> {
     let mut calls = Calls::new(alloc);
     calls.push(
-        Call::Put {
+        TableCall::Put {
             table,
             key: 5,
             value,
         },
         Reply::Fine,
     )?;
-    calls.push(Call::Save, Reply::Saved(1))?;
-    calls.push(Call::Del { table, key: 5 }, Reply::Fine)?;
-    calls.push(Call::Back { save: 1 }, Reply::Fine)?;
-    calls.push(Call::Get { table, key: 5 }, Reply::Found(value))?;
+    calls.push(TableCall::Save, Reply::Saved(1))?;
+    calls.push(TableCall::Del { table, key: 5 }, Reply::Fine)?;
+    calls.push(TableCall::Back { save: 1 }, Reply::Fine)?;
+    calls.push(TableCall::Get { table, key: 5 }, Reply::Found(value))?;
     Ok(calls)
 }
 
@@ -79,7 +79,7 @@ fn records_of_two_tables_are_apart(rt: HostRuntime) -> Result<(), Fail> {
     let other = Name::of(b"other").ok_or(NoMemory)?;
     let base = one_row(alloc, main_table(), one)?;
     let mut calls = Calls::new(alloc);
-    let get = Call::Get {
+    let get = TableCall::Get {
         table: other,
         key: 5,
     };
@@ -87,7 +87,7 @@ fn records_of_two_tables_are_apart(rt: HostRuntime) -> Result<(), Fail> {
     let history = history_of(alloc, calls, 1)?;
     assert!(rt; is_legal(alloc, history.as_slice(), &base)?);
     let mut calls = Calls::new(alloc);
-    let put = Call::Put {
+    let put = TableCall::Put {
         table: other,
         key: 5,
         value: one,
@@ -111,18 +111,17 @@ fn a_wrong_reply_is_illegal(rt: HostRuntime) -> Result<(), Fail> {
     let alloc = rt.alloc();
     let table = main_table();
     let base = one_row(alloc, table, Value::of(b"abc").ok_or(NoMemory)?)?;
-    let scan = Call::Scan {
+    let scan = TableCall::Scan {
         table,
         low: 0,
         high: 9,
     };
     let wrong = [
-        (Call::Get { table, key: 5 }, Reply::Absent),
-        (Call::Del { table, key: 4 }, Reply::Fine),
+        (TableCall::Get { table, key: 5 }, Reply::Absent),
+        (TableCall::Del { table, key: 4 }, Reply::Fine),
         (scan, Reply::Listed(Rows::new(alloc))),
-        (Call::Save, Reply::Saved(2)),
-        (Call::Back { save: 1 }, Reply::Fine),
-        (Call::Begin, Reply::Fine),
+        (TableCall::Save, Reply::Saved(2)),
+        (TableCall::Back { save: 1 }, Reply::Fine),
     ];
     for (call, reply) in wrong {
         let mut calls = Calls::new(alloc);

@@ -5,7 +5,7 @@ use super::arrays::{fresh, whole};
 use btree_pages::BTreePages;
 use caller_steps::Core as Steps;
 use eaw_device::Eaw;
-use history::Call;
+use history::{Call, Control};
 use mars_core::Core;
 use noted::{Keeper, KeepsAll, KeepsNews, KeepsNothing};
 use open_records::open;
@@ -19,7 +19,7 @@ fn commit_nothing<C: Steps>(core: &mut C)
     ensures { (C.view core.new).limits ≡ (C.view core.old).limits }
 {
     core.step(0, &Call::Begin);
-    core.step(0, &Call::Commit);
+    core.step(0, &Call::Control(Control::Commit));
 }
 
 fn commit_four<C: Steps>(core: &mut C)

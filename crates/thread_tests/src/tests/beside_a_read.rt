@@ -6,7 +6,7 @@ ghost use Rattle.mars_manager.specs.Sharing.{CanShare};
 use super::held_media::Hold;
 use super::sharing::{held_array, opened};
 use caller_steps::Core;
-use history::{Call, Reply, main_table};
+use history::{Call, Reply, TableCall, main_table};
 use mars_manager::{Again, Mars, Pass, Passes};
 use pcm_media::Media;
 use std::alloc::Global;
@@ -23,7 +23,8 @@ pub fn get_one<C: Core + Drop>(mars: &Mars<C>, mut pass: Pass<C>) -> (Pass<C>, O
         return (pass, None);
     }
     let table = main_table();
-    let found = mars.call(&mut pass, &Call::Get { table, key: 5 }).ok();
+    let get = Call::Table(TableCall::Get { table, key: 5 });
+    let found = mars.call(&mut pass, &get).ok();
     (pass, found)
 }
 

@@ -5,7 +5,7 @@ ghost use Rattle.mars_manager.specs.Sharing.{CanShare};
 
 use super::sharing::{array, opened};
 use caller_steps::Core;
-use history::{Call, Mode, Reply, main_table};
+use history::{Call, Control, Mode, Reply, TableCall, main_table};
 use mars_manager::{Lock, Mars, Pass, Passes};
 use pcm_media::Media;
 use record_slots::Value;
@@ -44,7 +44,10 @@ const EXCLUSIVE: [(By, Line); 9] = [
     ),
     (By::One, Line::Gets(69, BUSY_WITH_0)),
     (By::One, Line::Gets(6, Reply::Absent)),
-    (By::Zero, Line::Calls(Call::Commit, Reply::Committed(1))),
+    (
+        By::Zero,
+        Line::Calls(Call::Control(Control::Commit), Reply::Committed(1)),
+    ),
     (By::One, Line::Locks(5, Mode::Exclusive, Lock::Held)),
     (
         By::Zero,
@@ -62,7 +65,10 @@ const SHARED: [(By, Line); 7] = [
         By::Zero,
         Line::Locks(5, Mode::Exclusive, Lock::Busy { holder: 1 }),
     ),
-    (By::One, Line::Calls(Call::Commit, Reply::Committed(1))),
+    (
+        By::One,
+        Line::Calls(Call::Control(Control::Commit), Reply::Committed(1)),
+    ),
     (By::Zero, Line::Locks(5, Mode::Exclusive, Lock::Held)),
 ];
 
@@ -75,7 +81,10 @@ const READERS: [(By, Line); 9] = [
     (By::One, Line::Dels(69, BUSY_WITH_0)),
     (By::Zero, Line::Dels(7, Reply::Absent)),
     (By::One, Line::Scans(0, 1, BUSY_WITH_0)),
-    (By::Zero, Line::Calls(Call::Abort, Reply::Fine)),
+    (
+        By::Zero,
+        Line::Calls(Call::Control(Control::Abort), Reply::Fine),
+    ),
     (By::One, Line::Dels(69, Reply::Absent)),
 ];
 
@@ -85,19 +94,46 @@ const PURGES: [(By, Line); 16] = [
     (By::Zero, Line::Calls(Call::Begin, Reply::Fine)),
     (By::Zero, Line::Puts(5, Reply::Fine)),
     (By::Zero, Line::Puts(6, Reply::Fine)),
-    (By::Zero, Line::Calls(Call::Abort, Reply::Fine)),
+    (
+        By::Zero,
+        Line::Calls(Call::Control(Control::Abort), Reply::Fine),
+    ),
     (By::One, Line::Calls(Call::Begin, Reply::Fine)),
     (By::One, Line::Gets(69, Reply::Absent)),
-    (By::One, Line::Calls(Call::Purge, Reply::Already)),
-    (By::Zero, Line::Calls(Call::Purge, Reply::Purged(1))),
+    (
+        By::One,
+        Line::Calls(Call::Control(Control::Purge), Reply::Already),
+    ),
+    (
+        By::Zero,
+        Line::Calls(Call::Control(Control::Purge), Reply::Purged(1)),
+    ),
     (By::One, Line::Gets(5, Reply::Absent)),
-    (By::One, Line::Calls(Call::Offer, Reply::Fine)),
-    (By::One, Line::Calls(Call::Purge, Reply::Already)),
-    (By::Zero, Line::Calls(Call::Purge, Reply::Purged(0))),
-    (By::One, Line::Calls(Call::Settle, Reply::Committed(1))),
-    (By::One, Line::Calls(Call::Purge, Reply::Purged(1))),
+    (
+        By::One,
+        Line::Calls(Call::Control(Control::Offer), Reply::Fine),
+    ),
+    (
+        By::One,
+        Line::Calls(Call::Control(Control::Purge), Reply::Already),
+    ),
+    (
+        By::Zero,
+        Line::Calls(Call::Control(Control::Purge), Reply::Purged(0)),
+    ),
+    (
+        By::One,
+        Line::Calls(Call::Control(Control::Settle), Reply::Committed(1)),
+    ),
+    (
+        By::One,
+        Line::Calls(Call::Control(Control::Purge), Reply::Purged(1)),
+    ),
     (By::Zero, Line::Calls(Call::Begin, Reply::Fine)),
-    (By::One, Line::Calls(Call::Purge, Reply::Purged(0))),
+    (
+        By::One,
+        Line::Calls(Call::Control(Control::Purge), Reply::Purged(0)),
+    ),
 ];
 
 fn is_answered<C: Core + Drop>(mars: &Mars<C>, pass: &mut Pass<C>, line: &Line) -> bool
@@ -112,31 +148,37 @@ fn is_answered<C: Core + Drop>(mars: &Mars<C>, pass: &mut Pass<C>, line: &Line) 
         Line::Locks(..) => false,
         Line::Calls(call, reply) => is_told(mars, pass, call, reply),
         Line::Gets(key, reply) => {
-            let table = main_table();
-            is_told(mars, pass, &Call::Get { table, key: *key }, reply)
+            let get = TableCall::Get {
+                table: main_table(),
+                key: *key,
+            };
+            is_told(mars, pass, &Call::Table(get), reply)
         }
         Line::Puts(key, reply) => {
             let Some(value) = Value::of(b"a") else {
                 return false;
             };
-            let put = Call::Put {
+            let put = TableCall::Put {
                 table: main_table(),
                 key: *key,
                 value,
             };
-            is_told(mars, pass, &put, reply)
+            is_told(mars, pass, &Call::Table(put), reply)
         }
         Line::Dels(key, reply) => {
-            let table = main_table();
-            is_told(mars, pass, &Call::Del { table, key: *key }, reply)
+            let del = TableCall::Del {
+                table: main_table(),
+                key: *key,
+            };
+            is_told(mars, pass, &Call::Table(del), reply)
         }
         Line::Scans(low, high, reply) => {
-            let scan = Call::Scan {
+            let scan = TableCall::Scan {
                 table: main_table(),
                 low: *low,
                 high: *high,
             };
-            is_told(mars, pass, &scan, reply)
+            is_told(mars, pass, &Call::Table(scan), reply)
         }
     }
 }

@@ -6,7 +6,7 @@ ghost use Rattle.mars_manager.specs.Sharing.{CanShare};
 
 use super::sharing::{array, opened_by};
 use caller_steps::Core;
-use history::{Call, Done, History, Key, Reply, Tables, Told, main_table};
+use history::{Done, History, Key, Reply, TableCall, Tables, Told, main_table};
 use mars_manager::{Mars, NotCopied, Pass, Passes};
 use noted::{Keeper, KeepsAll, KeepsNews};
 use pcm_media::Media;
@@ -22,7 +22,7 @@ fn is_put(done: &Done, at: u64, value: Value) -> bool {
     if done.caller != 0 || done.at != at {
         return false;
     }
-    let put = Call::Put {
+    let put = TableCall::Put {
         table: main_table(),
         key: at,
         value,

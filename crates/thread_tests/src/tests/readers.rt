@@ -1,7 +1,7 @@
 // Readers of what a feed publishes on another thread.
 ghost use Rattle.std.specs.Prelude.{◌≡◌, IfOk};
 
-use history::{Call, Calls, Done, Key, Reply, Tables, main_table};
+use history::{Calls, Done, Key, Reply, TableCall, Tables, main_table};
 use mars_base::NoMemory;
 use record_slots::Value;
 use snapshot_readers::{Feed, Reader, open_readers};
@@ -29,7 +29,7 @@ fn put(alloc: Global, at: u64) -> Result<Done, NoMemory>
 {
     let value = Value::of(text_of(at)).ok_or(NoMemory)?;
     let mut calls = Calls::new(alloc);
-    let put = Call::Put {
+    let put = TableCall::Put {
         table: main_table(),
         key: KEY,
         value,

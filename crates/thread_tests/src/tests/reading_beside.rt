@@ -8,7 +8,7 @@ use super::beside_a_read::get_one;
 use super::held_media::Hold;
 use super::sharing::{held_array, opened};
 use caller_steps::Core;
-use history::{Call, Reply, main_table};
+use history::{Call, Reply, TableCall, main_table};
 use mars_manager::{Again, Mars, Pass, Passes};
 use pcm_media::Media;
 use std::alloc::Global;
@@ -34,8 +34,8 @@ fn read_beside<C: Core + Drop>(
 {
     hold.wait_for_read();
     let table = main_table();
-    let same = mars.call(&mut pass, &Call::Get { table, key: 69 });
-    let other = mars.call(&mut pass, &Call::Get { table, key: 6 });
+    let same = mars.call(&mut pass, &Call::Table(TableCall::Get { table, key: 69 }));
+    let other = mars.call(&mut pass, &Call::Table(TableCall::Get { table, key: 6 }));
     hold.release();
     (pass, same, other)
 }

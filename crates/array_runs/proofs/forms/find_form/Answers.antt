@@ -19,6 +19,7 @@ returns-in-Err-Damaged-clause-cause g c = λ told.
 left_by : (tells failed : Bool) (Opens : List ℕ → List ℕ → Type 0) (old new : StoreView) → IsAlive old → LooksAt tells Opens failed old new → LeftAsItWas tells Opens failed old new
 left_by tells failed Opens old new alive looks = record {
   shape = looks.shape;
+  depth = looks.depth;
   kept = λ well. ((looks.still well).dead, (looks.still well).faults);
   unwritten = λ told well. ap (λ (s : State). s.bytes) ((looks.still well).state told);
   dies = looks.dies;

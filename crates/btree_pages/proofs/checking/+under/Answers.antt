@@ -27,6 +27,7 @@ use Rattle.index_pages.proofs.Causing.{still_same}
 use Rattle.index_pages.proofs.Trying.{SoFar, so_first, so_passes, so_then, so_fails, so_ends, so_page, so_page_err}
 use Rattle.btree_pages.specs.Testing.{children_plan, page_plan, under_plan}
 use Rattle.btree_pages.proofs.Testing.{page_bad, page_leaf, page_inner}
+use Rattle.std.proofs.lemmas.Result.{err_from_is_err_and}
 use Rattle.btree_pages.proofs.checking.+under.Goals as goal
 
 -- the pairs under children
@@ -75,20 +76,22 @@ check_children-check_under-requires g t c κs within =
       ),
     )
 
-pub check_children-returns-in-Err-clause-cause : goal.check_children-returns-in-Err-clause-cause
-check_children-returns-in-Err-clause-cause g t c = λ told front.
+pub check_children-returns-in_err-check_under-clause-cause : goal.check_children-returns-in_err-check_under-clause-cause
+check_children-returns-in_err-check_under-clause-cause g t c =
+    let exit = err_from_is_err_and c.from_residual.result c.from_residual.ensures.1 in
+    rw (exit.1, exit.2) (λ told front.
     let view = g.S.EawStore.view c.args.pages.now.store in
     let same = (c.loop-i.invariant.looks.still refl).state told in
     let rest = pairs_from c.args.bytes.now (suc c.loop-i.i) (c.args.count - suc c.loop-i.i) in
-    let e : Result (Unit {0}) CheckFault = Err c.in-Err.fault in
+    let e : Result (Unit {0}) CheckFault = Err c.in_err-check_under.field-0.0 in
     let left = subst (λ (ps : List Pair). ChildrenLeft c.args.root (c.args.level - 1) view.state.bytes (pairs_said c.args.bytes.now) ps (high_of c.args.high)) (from_step c.args.bytes.now c.loop-i.i c.args.count c.loop-i-test.true)
     (c.loop-i.invariant.left told front) in
-    let cause = c.in-Err.ensures.cause told (subst (λ (s : State). IsFrontOf s.bytes c.args.front.now) (sym same) front) in
+    let cause = c.in_err-check_under.ensures.cause told (subst (λ (s : State). IsFrontOf s.bytes c.args.front.now) (sym same) front) in
     let cause' : IsVerdict (tree_from c.args.root (c.args.level - 1) view.state.bytes (pair_said c.args.bytes.now c.loop-i.i).1 (pair_said c.args.bytes.now c.loop-i.i).0 (next_low rest (high_of c.args.high))) e =
     subst (λ (h : ℕ). IsVerdict (tree_from c.args.root (c.args.level - 1) view.state.bytes (pair_said c.args.bytes.now c.loop-i.i).1 (pair_said c.args.bytes.now c.loop-i.i).0 h) e) c.end_of.ensures
     (subst (λ (p : Pair). IsVerdict (tree_from c.args.root (c.args.level - 1) view.state.bytes p.1 p.0 (high_of c.end_of.result)) e) c.read_pair-low.ensures.pair
     (subst (λ (s : State). IsVerdict (tree_from c.args.root (c.args.level - 1) s.bytes c.read_pair-low.result.1 c.read_pair-low.result.0 (high_of c.end_of.result)) e) same cause)) in
-    children_fail c.args.root (c.args.level - 1) view.state.bytes (pairs_said c.args.bytes.now) (pair_said c.args.bytes.now c.loop-i.i) rest (high_of c.args.high) left c.in-Err.fault cause'
+    children_fail c.args.root (c.args.level - 1) view.state.bytes (pairs_said c.args.bytes.now) (pair_said c.args.bytes.now c.loop-i.i) rest (high_of c.args.high) left c.in_err-check_under.field-0.0 cause')
 
 pub check_children-loop-i-preserved : goal.check_children-loop-i-preserved
 check_children-loop-i-preserved g t c =
@@ -97,8 +100,8 @@ check_children-loop-i-preserved g t c =
     let h = named_here c.args.bytes.now c.loop-i.i c.args.count (AreChildren c.args.front.now.next_page (pairs_said c.args.bytes.now)) c.args.front.now.next_page c.loop-i.invariant.named c.loop-i-test.true c.requires.named in
     record {
       looks = looks_next g.S.EawStore.tells g.S.EawStore.opens false (pages_of view c.args.pages.now) (pages_of mid c.loop-i.pages) (pages_of (g.S.EawStore.view c.check_under.new.pages.store) c.check_under.new.pages)
-          c.loop-i.invariant.looks c.in-Ok.ensures.looks;
-      alive = (c.in-Ok.ensures.looks.still refl).dead ∙ c.loop-i.invariant.alive;
+          c.loop-i.invariant.looks c.in_ok-check_under.ensures.looks;
+      alive = (c.in_ok-check_under.ensures.looks.still refl).dead ∙ c.loop-i.invariant.alive;
       rows = λ told.
           let same = (c.loop-i.invariant.looks.still refl).state told in
           let b = view.state.bytes in
@@ -107,7 +110,7 @@ check_children-loop-i-preserved g t c =
           let rest = pairs_from c.args.bytes.now (suc c.loop-i.i) (c.args.count - suc c.loop-i.i) in
           let on : suc c.loop-i.i ≡ c.loop-i.i + 1 = omega arith in
           let left = subst (λ (ps : List Pair). RowsLeft b c.args.rows.now (under b l (pairs_said c.args.bytes.now)) c.loop-i.rows (under b l ps)) (from_step c.args.bytes.now c.loop-i.i c.args.count c.loop-i-test.true) (c.loop-i.invariant.rows told) in
-          let more = c.in-Ok.ensures.rows told ∙ (λ i. c.loop-i.rows ++ rows_of (same i).bytes (pairs_under l (same i).bytes (ap (λ (q : Pair). q.1) c.read_pair-low.ensures.pair i))) in
+          let more = c.in_ok-check_under.ensures.rows told ∙ (λ i. c.loop-i.rows ++ rows_of (same i).bytes (pairs_under l (same i).bytes (ap (λ (q : Pair). q.1) c.read_pair-low.ensures.pair i))) in
           subst (λ (n : ℕ). RowsLeft b c.args.rows.now (under b l (pairs_said c.args.bytes.now)) c.check_under.new.rows (under b l (pairs_from c.args.bytes.now n (c.args.count - n)))) on
           (left_more b c.args.rows.now (under b l (pairs_said c.args.bytes.now)) c.loop-i.rows c.check_under.new.rows (pairs_under l b p.1) (under b l rest) left more);
       named = named_step c.args.bytes.now c.loop-i.i c.args.count (AreChildren c.args.front.now.next_page (pairs_said c.args.bytes.now)) c.args.front.now.next_page c.loop-i.invariant.named c.loop-i-test.true h.0 h.1;
@@ -117,7 +120,7 @@ check_children-loop-i-preserved g t c =
           let r : Result (Unit {0}) CheckFault = Ok tt in
           let left = subst (λ (ps : List Pair). ChildrenLeft c.args.root (c.args.level - 1) view.state.bytes (pairs_said c.args.bytes.now) ps (high_of c.args.high)) (from_step c.args.bytes.now c.loop-i.i c.args.count c.loop-i-test.true)
           (c.loop-i.invariant.left told front) in
-          let cause = c.in-Ok.ensures.cause told (subst (λ (s : State). IsFrontOf s.bytes c.args.front.now) (sym same) front) in
+          let cause = c.in_ok-check_under.ensures.cause told (subst (λ (s : State). IsFrontOf s.bytes c.args.front.now) (sym same) front) in
           let cause' : IsVerdict (tree_from c.args.root (c.args.level - 1) view.state.bytes (pair_said c.args.bytes.now c.loop-i.i).1 (pair_said c.args.bytes.now c.loop-i.i).0 (next_low rest (high_of c.args.high))) r =
           subst (λ (h : ℕ). IsVerdict (tree_from c.args.root (c.args.level - 1) view.state.bytes (pair_said c.args.bytes.now c.loop-i.i).1 (pair_said c.args.bytes.now c.loop-i.i).0 h) r) c.end_of.ensures
           (subst (λ (p : Pair). IsVerdict (tree_from c.args.root (c.args.level - 1) view.state.bytes p.1 p.0 (high_of c.end_of.result)) r) c.read_pair-low.ensures.pair
@@ -132,7 +135,7 @@ check_children-loop-i-preserved g t c =
           (so_then (c.loop-i.invariant.looks.still refl) c.loop-i.invariant.looks.shape (under_plan (g.S.EawStore.view c.args.pages.now.store).shape c.args.front.now c.args.root.page c.args.root.table (c.args.level - 1) (pair_said c.args.bytes.now c.loop-i.i).1 (pair_said c.args.bytes.now c.loop-i.i).0 (next_low (pairs_from c.args.bytes.now (suc c.loop-i.i) (c.args.count - suc c.loop-i.i)) (high_of c.args.high))) (children_plan (under_plan (g.S.EawStore.view c.args.pages.now.store).shape c.args.front.now c.args.root.page c.args.root.table (c.args.level - 1)) (pairs_from c.args.bytes.now (suc c.loop-i.i) (c.args.count - suc c.loop-i.i)) (high_of c.args.high)) tt (subst (λ (ps : List Pair). SoFar g.S.EawStore.tells (g.S.EawStore.calls c.args.pages.now.store) (g.S.EawStore.calls c.loop-i.pages.store) (children_plan (under_plan (g.S.EawStore.view c.args.pages.now.store).shape c.args.front.now c.args.root.page c.args.root.table (c.args.level - 1)) ps (high_of c.args.high)) (children_plan (under_plan (g.S.EawStore.view c.args.pages.now.store).shape c.args.front.now c.args.root.page c.args.root.table (c.args.level - 1)) (pairs_said c.args.bytes.now) (high_of c.args.high)) (g.S.EawStore.view c.args.pages.now.store) (g.S.EawStore.view c.loop-i.pages.store)) (from_step c.args.bytes.now c.loop-i.i c.args.count c.loop-i-test.true) c.loop-i.invariant.tests)
           (subst (λ (s : Shape). Tries g.S.EawStore.tells (g.S.EawStore.calls c.loop-i.pages.store) (g.S.EawStore.calls c.check_under.new.pages.store) (under_plan s c.args.front.now c.args.root.page c.args.root.table (c.args.level - 1) (pair_said c.args.bytes.now c.loop-i.i).1 (pair_said c.args.bytes.now c.loop-i.i).0 (next_low (pairs_from c.args.bytes.now (suc c.loop-i.i) (c.args.count - suc c.loop-i.i)) (high_of c.args.high))) (g.S.EawStore.view c.loop-i.pages.store) (g.S.EawStore.view c.check_under.new.pages.store) r) c.loop-i.invariant.looks.shape
           (subst (λ (h : ℕ). Tries g.S.EawStore.tells (g.S.EawStore.calls c.loop-i.pages.store) (g.S.EawStore.calls c.check_under.new.pages.store) (under_plan (g.S.EawStore.view c.loop-i.pages.store).shape c.args.front.now c.args.root.page c.args.root.table (c.args.level - 1) (pair_said c.args.bytes.now c.loop-i.i).1 (pair_said c.args.bytes.now c.loop-i.i).0 h) (g.S.EawStore.view c.loop-i.pages.store) (g.S.EawStore.view c.check_under.new.pages.store) r) c.end_of.ensures
-          (subst (λ (p : Pair). Tries g.S.EawStore.tells (g.S.EawStore.calls c.loop-i.pages.store) (g.S.EawStore.calls c.check_under.new.pages.store) (under_plan (g.S.EawStore.view c.loop-i.pages.store).shape c.args.front.now c.args.root.page c.args.root.table (c.args.level - 1) p.1 p.0 (high_of c.end_of.result)) (g.S.EawStore.view c.loop-i.pages.store) (g.S.EawStore.view c.check_under.new.pages.store) r) c.read_pair-low.ensures.pair c.in-Ok.ensures.tests))));
+          (subst (λ (p : Pair). Tries g.S.EawStore.tells (g.S.EawStore.calls c.loop-i.pages.store) (g.S.EawStore.calls c.check_under.new.pages.store) (under_plan (g.S.EawStore.view c.loop-i.pages.store).shape c.args.front.now c.args.root.page c.args.root.table (c.args.level - 1) p.1 p.0 (high_of c.end_of.result)) (g.S.EawStore.view c.loop-i.pages.store) (g.S.EawStore.view c.check_under.new.pages.store) r) c.read_pair-low.ensures.pair c.in_ok-check_under.ensures.tests))));
     }
 
 pub check_children-returns-clause-cause : goal.check_children-returns-clause-cause
@@ -157,11 +160,15 @@ check_page-returns-clause-cause g t c = λ told front is.
 pub check_children-end_of-requires : goal.check_children-end_of-requires
 check_children-end_of-requires g t c = record { count = c.requires.count; most = c.requires.most; i = c.loop-i-test.true }
 
-pub check_children-returns-in-Err-clause-looks : goal.check_children-returns-in-Err-clause-looks
-check_children-returns-in-Err-clause-looks g t c = looks_next g.S.EawStore.tells g.S.EawStore.opens _ (pages_of (g.S.EawStore.view c.args.pages.now.store) c.args.pages.now) (pages_of (g.S.EawStore.view c.loop-i.pages.store) c.loop-i.pages) (pages_of (g.S.EawStore.view c.check_under.new.pages.store) c.check_under.new.pages) c.loop-i.invariant.looks c.in-Err.ensures.looks
+pub check_children-returns-in_err-check_under-clause-looks : goal.check_children-returns-in_err-check_under-clause-looks
+check_children-returns-in_err-check_under-clause-looks g t c =
+    let exit = err_from_is_err_and c.from_residual.result c.from_residual.ensures.1 in
+    rw (exit.1, exit.2) (looks_next g.S.EawStore.tells g.S.EawStore.opens _ (pages_of (g.S.EawStore.view c.args.pages.now.store) c.args.pages.now) (pages_of (g.S.EawStore.view c.loop-i.pages.store) c.loop-i.pages) (pages_of (g.S.EawStore.view c.check_under.new.pages.store) c.check_under.new.pages) c.loop-i.invariant.looks c.in_err-check_under.ensures.looks)
 
-pub check_children-returns-in-Err-clause-dead : goal.check_children-returns-in-Err-clause-dead
-check_children-returns-in-Err-clause-dead g t c = c.in-Err.ensures.dead
+pub check_children-returns-in_err-check_under-clause-dead : goal.check_children-returns-in_err-check_under-clause-dead
+check_children-returns-in_err-check_under-clause-dead g t c =
+    let exit = err_from_is_err_and c.from_residual.result c.from_residual.ensures.1 in
+    rw (exit.1, exit.2) (c.in_err-check_under.ensures.dead)
 
 pub check_children-returns-clause-looks : goal.check_children-returns-clause-looks
 check_children-returns-clause-looks g t c = c.loop-i.invariant.looks
@@ -211,30 +218,32 @@ check_page-returns-clause-looks g t c = c.check_children.ensures.looks
 pub check_page-returns-clause-dead : goal.check_page-returns-clause-dead
 check_page-returns-clause-dead g t c = c.check_children.ensures.dead
 
-pub check_under-returns-in-Err : goal.check_under-returns-in-Err
-check_under-returns-in-Err g t c = record {
-  tests = so_page_err (still_same g.S.EawStore.tells (g.S.EawStore.view c.args.pages.now.store)) refl (Unit {0}) c.args.spot.page (λ said. page_plan (g.S.EawStore.view c.args.pages.now.store).shape c.args.front.now c.args.root.page c.args.root.table c.args.level c.args.spot.page c.args.spot.low (high_of c.args.spot.high) said) c.fetch_page.new.bytes (page_bytes (g.S.EawStore.view c.args.pages.now.store).state.bytes c.args.spot.page) c.in-Err.fault c.check_fault.result c.check_fault.ensures (so_first (under_plan (g.S.EawStore.view c.args.pages.now.store).shape c.args.front.now c.args.root.page c.args.root.table c.args.level c.args.spot.page c.args.spot.low (high_of c.args.spot.high))) c.requires.alive c.in-Err.ensures.cause c.in-Err.ensures.reads;
-  looks = told_looks g.S.EawStore.tells (g.S.EawStore.opens (g.S.EawStore.view c.args.pages.now.store).shape) (pages_of (g.S.EawStore.view c.args.pages.now.store) c.args.pages.now) (pages_of (g.S.EawStore.view c.fetch_page.new.pages.store) c.fetch_page.new.pages) c.requires.alive c.in-Err.fault c.in-Err.ensures.cause c.check_fault.result c.check_fault.ensures c.in-Err.ensures.looks;
-  cause = λ told front. told_verdict g.S.EawStore.tells (g.S.EawStore.opens (g.S.EawStore.view c.args.pages.now.store).shape) (pages_of (g.S.EawStore.view c.args.pages.now.store) c.args.pages.now) (pages_of (g.S.EawStore.view c.fetch_page.new.pages.store) c.fetch_page.new.pages) c.requires.alive c.in-Err.fault c.in-Err.ensures.cause c.check_fault.result c.check_fault.ensures (tree_from c.args.root c.args.level (g.S.EawStore.view c.args.pages.now.store).state.bytes c.args.spot.page c.args.spot.low (high_of c.args.spot.high));
-  rows = λ told. tt;
-  dead = λ told. told_dead g.S.EawStore.tells (g.S.EawStore.opens (g.S.EawStore.view c.args.pages.now.store).shape) (pages_of (g.S.EawStore.view c.args.pages.now.store) c.args.pages.now) (pages_of (g.S.EawStore.view c.fetch_page.new.pages.store) c.fetch_page.new.pages) c.requires.alive c.in-Err.fault c.in-Err.ensures.cause c.check_fault.result c.check_fault.ensures told;
-}
+pub check_under-returns-in_err-fetch_page : goal.check_under-returns-in_err-fetch_page
+check_under-returns-in_err-fetch_page g t c =
+    let exit = err_from_is_err_and c.from_residual.result c.from_residual.ensures.1 in
+    rw (exit.1) (record {
+      tests = so_page_err (still_same g.S.EawStore.tells (g.S.EawStore.view c.args.pages.now.store)) refl (Unit {0}) c.args.spot.page (λ said. page_plan (g.S.EawStore.view c.args.pages.now.store).shape c.args.front.now c.args.root.page c.args.root.table c.args.level c.args.spot.page c.args.spot.low (high_of c.args.spot.high) said) c.fetch_page.new.bytes (page_bytes (g.S.EawStore.view c.args.pages.now.store).state.bytes c.args.spot.page) c.in_err-fetch_page.field-0.0 exit.0 exit.2 (so_first (under_plan (g.S.EawStore.view c.args.pages.now.store).shape c.args.front.now c.args.root.page c.args.root.table c.args.level c.args.spot.page c.args.spot.low (high_of c.args.spot.high))) c.requires.alive c.in_err-fetch_page.ensures.cause c.in_err-fetch_page.ensures.reads;
+      looks = told_looks g.S.EawStore.tells (g.S.EawStore.opens (g.S.EawStore.view c.args.pages.now.store).shape) (pages_of (g.S.EawStore.view c.args.pages.now.store) c.args.pages.now) (pages_of (g.S.EawStore.view c.fetch_page.new.pages.store) c.fetch_page.new.pages) c.requires.alive c.in_err-fetch_page.field-0.0 c.in_err-fetch_page.ensures.cause exit.0 exit.2 c.in_err-fetch_page.ensures.looks;
+      cause = λ told front. told_verdict g.S.EawStore.tells (g.S.EawStore.opens (g.S.EawStore.view c.args.pages.now.store).shape) (pages_of (g.S.EawStore.view c.args.pages.now.store) c.args.pages.now) (pages_of (g.S.EawStore.view c.fetch_page.new.pages.store) c.fetch_page.new.pages) c.requires.alive c.in_err-fetch_page.field-0.0 c.in_err-fetch_page.ensures.cause exit.0 exit.2 (tree_from c.args.root c.args.level (g.S.EawStore.view c.args.pages.now.store).state.bytes c.args.spot.page c.args.spot.low (high_of c.args.spot.high));
+      rows = λ told. tt;
+      dead = λ told. told_dead g.S.EawStore.tells (g.S.EawStore.opens (g.S.EawStore.view c.args.pages.now.store).shape) (pages_of (g.S.EawStore.view c.args.pages.now.store) c.args.pages.now) (pages_of (g.S.EawStore.view c.fetch_page.new.pages.store) c.fetch_page.new.pages) c.requires.alive c.in_err-fetch_page.field-0.0 c.in_err-fetch_page.ensures.cause exit.0 exit.2 told;
+    })
 
 pub check_under-returns : goal.check_under-returns
 check_under-returns g t c = record {
-  tests = so_ends (c.in-Ok.ensures.looks.still refl) c.in-Ok.ensures.looks.shape (page_plan (g.S.EawStore.view c.args.pages.now.store).shape c.args.front.now c.args.root.page c.args.root.table c.args.level c.args.spot.page c.args.spot.low (high_of c.args.spot.high) c.fetch_page.new.bytes) c.check_page.result
-      (so_page (still_same g.S.EawStore.tells (g.S.EawStore.view c.args.pages.now.store)) refl c.args.spot.page (λ said. page_plan (g.S.EawStore.view c.args.pages.now.store).shape c.args.front.now c.args.root.page c.args.root.table c.args.level c.args.spot.page c.args.spot.low (high_of c.args.spot.high) said) c.fetch_page.new.bytes (so_first (under_plan (g.S.EawStore.view c.args.pages.now.store).shape c.args.front.now c.args.root.page c.args.root.table c.args.level c.args.spot.page c.args.spot.low (high_of c.args.spot.high))) c.in-Ok.ensures.reads)
-      (subst (λ (s : Shape). Tries g.S.EawStore.tells (g.S.EawStore.calls c.fetch_page.new.pages.store) (g.S.EawStore.calls c.check_page.new.pages.store) (page_plan s c.args.front.now c.args.root.page c.args.root.table c.args.level c.args.spot.page c.args.spot.low (high_of c.args.spot.high) c.fetch_page.new.bytes) (g.S.EawStore.view c.fetch_page.new.pages.store) (g.S.EawStore.view c.check_page.new.pages.store) c.check_page.result) c.in-Ok.ensures.looks.shape c.check_page.ensures.tests);
-  looks = looks_next g.S.EawStore.tells g.S.EawStore.opens _ (pages_of (g.S.EawStore.view c.args.pages.now.store) c.args.pages.now) (pages_of (g.S.EawStore.view c.fetch_page.new.pages.store) c.fetch_page.new.pages) (pages_of (g.S.EawStore.view c.check_page.new.pages.store) c.check_page.new.pages) c.in-Ok.ensures.looks c.check_page.ensures.looks;
+  tests = so_ends (c.in_ok-fetch_page.ensures.looks.still refl) c.in_ok-fetch_page.ensures.looks.shape (page_plan (g.S.EawStore.view c.args.pages.now.store).shape c.args.front.now c.args.root.page c.args.root.table c.args.level c.args.spot.page c.args.spot.low (high_of c.args.spot.high) c.fetch_page.new.bytes) c.check_page.result
+      (so_page (still_same g.S.EawStore.tells (g.S.EawStore.view c.args.pages.now.store)) refl c.args.spot.page (λ said. page_plan (g.S.EawStore.view c.args.pages.now.store).shape c.args.front.now c.args.root.page c.args.root.table c.args.level c.args.spot.page c.args.spot.low (high_of c.args.spot.high) said) c.fetch_page.new.bytes (so_first (under_plan (g.S.EawStore.view c.args.pages.now.store).shape c.args.front.now c.args.root.page c.args.root.table c.args.level c.args.spot.page c.args.spot.low (high_of c.args.spot.high))) c.in_ok-fetch_page.ensures.reads)
+      (subst (λ (s : Shape). Tries g.S.EawStore.tells (g.S.EawStore.calls c.fetch_page.new.pages.store) (g.S.EawStore.calls c.check_page.new.pages.store) (page_plan s c.args.front.now c.args.root.page c.args.root.table c.args.level c.args.spot.page c.args.spot.low (high_of c.args.spot.high) c.fetch_page.new.bytes) (g.S.EawStore.view c.fetch_page.new.pages.store) (g.S.EawStore.view c.check_page.new.pages.store) c.check_page.result) c.in_ok-fetch_page.ensures.looks.shape c.check_page.ensures.tests);
+  looks = looks_next g.S.EawStore.tells g.S.EawStore.opens _ (pages_of (g.S.EawStore.view c.args.pages.now.store) c.args.pages.now) (pages_of (g.S.EawStore.view c.fetch_page.new.pages.store) c.fetch_page.new.pages) (pages_of (g.S.EawStore.view c.check_page.new.pages.store) c.check_page.new.pages) c.in_ok-fetch_page.ensures.looks c.check_page.ensures.looks;
   cause = λ told front.
-      let same = (c.in-Ok.ensures.looks.still refl).state told in
+      let same = (c.in_ok-fetch_page.ensures.looks.still refl).state told in
       subst (λ (s : State). IsVerdict (tree_from c.args.root c.args.level s.bytes c.args.spot.page c.args.spot.low (high_of c.args.spot.high)) c.check_page.result) same
       (c.check_page.ensures.cause told (subst (λ (s : State). IsFrontOf s.bytes c.args.front.now) (sym same) front)
-      (subst (λ (s : State). c.fetch_page.new.bytes ≡ page_bytes s.bytes c.args.spot.page) (sym same) (c.in-Ok.ensures.bytes told)));
+      (subst (λ (s : State). c.fetch_page.new.bytes ≡ page_bytes s.bytes c.args.spot.page) (sym same) (c.in_ok-fetch_page.ensures.bytes told)));
   rows = λ told.
-      let same = (c.in-Ok.ensures.looks.still refl).state told in
+      let same = (c.in_ok-fetch_page.ensures.looks.still refl).state told in
       subst (λ (s : State). OnOk c.check_page.result (c.check_page.new.rows ≡ c.args.rows.now ++ rows_of s.bytes (pairs_under c.args.level s.bytes c.args.spot.page))) same
-      (c.check_page.ensures.rows told (subst (λ (s : State). c.fetch_page.new.bytes ≡ page_bytes s.bytes c.args.spot.page) (sym same) (c.in-Ok.ensures.bytes told)));
+      (c.check_page.ensures.rows told (subst (λ (s : State). c.fetch_page.new.bytes ≡ page_bytes s.bytes c.args.spot.page) (sym same) (c.in_ok-fetch_page.ensures.bytes told)));
   dead = c.check_page.ensures.dead;
 }
 
@@ -258,13 +267,15 @@ check_page-returns-clause-rows g t c = λ told is.
     subst (λ (ps : List Pair). OnOk c.check_children.result (c.check_children.new.rows ≡ c.args.rows.now ++ rows_of b ps)) (sym (under_inner c.args.level b c.args.spot.page c.if-level-eq0.false))
     (subst (λ (buf : List ℕ). OnOk c.check_children.result (c.check_children.new.rows ≡ c.args.rows.now ++ rows_of b (under b (c.args.level - 1) (pairs_said buf)))) is (c.check_children.ensures.rows told))
 
-pub check_children-returns-in-Err-clause-tests : goal.check_children-returns-in-Err-clause-tests
-check_children-returns-in-Err-clause-tests g t c =
-    let r : Result (Unit {0}) CheckFault = Err c.in-Err.fault in
-    so_fails (c.loop-i.invariant.looks.still refl) c.loop-i.invariant.looks.shape (under_plan (g.S.EawStore.view c.args.pages.now.store).shape c.args.front.now c.args.root.page c.args.root.table (c.args.level - 1) (pair_said c.args.bytes.now c.loop-i.i).1 (pair_said c.args.bytes.now c.loop-i.i).0 (next_low (pairs_from c.args.bytes.now (suc c.loop-i.i) (c.args.count - suc c.loop-i.i)) (high_of c.args.high))) (children_plan (under_plan (g.S.EawStore.view c.args.pages.now.store).shape c.args.front.now c.args.root.page c.args.root.table (c.args.level - 1)) (pairs_from c.args.bytes.now (suc c.loop-i.i) (c.args.count - suc c.loop-i.i)) (high_of c.args.high)) c.in-Err.fault (subst (λ (ps : List Pair). SoFar g.S.EawStore.tells (g.S.EawStore.calls c.args.pages.now.store) (g.S.EawStore.calls c.loop-i.pages.store) (children_plan (under_plan (g.S.EawStore.view c.args.pages.now.store).shape c.args.front.now c.args.root.page c.args.root.table (c.args.level - 1)) ps (high_of c.args.high)) (children_plan (under_plan (g.S.EawStore.view c.args.pages.now.store).shape c.args.front.now c.args.root.page c.args.root.table (c.args.level - 1)) (pairs_said c.args.bytes.now) (high_of c.args.high)) (g.S.EawStore.view c.args.pages.now.store) (g.S.EawStore.view c.loop-i.pages.store)) (from_step c.args.bytes.now c.loop-i.i c.args.count c.loop-i-test.true) c.loop-i.invariant.tests)
+pub check_children-returns-in_err-check_under-clause-tests : goal.check_children-returns-in_err-check_under-clause-tests
+check_children-returns-in_err-check_under-clause-tests g t c =
+    let exit = err_from_is_err_and c.from_residual.result c.from_residual.ensures.1 in
+    rw (exit.1, exit.2) (
+    let r : Result (Unit {0}) CheckFault = Err c.in_err-check_under.field-0.0 in
+    so_fails (c.loop-i.invariant.looks.still refl) c.loop-i.invariant.looks.shape (under_plan (g.S.EawStore.view c.args.pages.now.store).shape c.args.front.now c.args.root.page c.args.root.table (c.args.level - 1) (pair_said c.args.bytes.now c.loop-i.i).1 (pair_said c.args.bytes.now c.loop-i.i).0 (next_low (pairs_from c.args.bytes.now (suc c.loop-i.i) (c.args.count - suc c.loop-i.i)) (high_of c.args.high))) (children_plan (under_plan (g.S.EawStore.view c.args.pages.now.store).shape c.args.front.now c.args.root.page c.args.root.table (c.args.level - 1)) (pairs_from c.args.bytes.now (suc c.loop-i.i) (c.args.count - suc c.loop-i.i)) (high_of c.args.high)) c.in_err-check_under.field-0.0 (subst (λ (ps : List Pair). SoFar g.S.EawStore.tells (g.S.EawStore.calls c.args.pages.now.store) (g.S.EawStore.calls c.loop-i.pages.store) (children_plan (under_plan (g.S.EawStore.view c.args.pages.now.store).shape c.args.front.now c.args.root.page c.args.root.table (c.args.level - 1)) ps (high_of c.args.high)) (children_plan (under_plan (g.S.EawStore.view c.args.pages.now.store).shape c.args.front.now c.args.root.page c.args.root.table (c.args.level - 1)) (pairs_said c.args.bytes.now) (high_of c.args.high)) (g.S.EawStore.view c.args.pages.now.store) (g.S.EawStore.view c.loop-i.pages.store)) (from_step c.args.bytes.now c.loop-i.i c.args.count c.loop-i-test.true) c.loop-i.invariant.tests)
     (subst (λ (s : Shape). Tries g.S.EawStore.tells (g.S.EawStore.calls c.loop-i.pages.store) (g.S.EawStore.calls c.check_under.new.pages.store) (under_plan s c.args.front.now c.args.root.page c.args.root.table (c.args.level - 1) (pair_said c.args.bytes.now c.loop-i.i).1 (pair_said c.args.bytes.now c.loop-i.i).0 (next_low (pairs_from c.args.bytes.now (suc c.loop-i.i) (c.args.count - suc c.loop-i.i)) (high_of c.args.high))) (g.S.EawStore.view c.loop-i.pages.store) (g.S.EawStore.view c.check_under.new.pages.store) r) c.loop-i.invariant.looks.shape
     (subst (λ (h : ℕ). Tries g.S.EawStore.tells (g.S.EawStore.calls c.loop-i.pages.store) (g.S.EawStore.calls c.check_under.new.pages.store) (under_plan (g.S.EawStore.view c.loop-i.pages.store).shape c.args.front.now c.args.root.page c.args.root.table (c.args.level - 1) (pair_said c.args.bytes.now c.loop-i.i).1 (pair_said c.args.bytes.now c.loop-i.i).0 h) (g.S.EawStore.view c.loop-i.pages.store) (g.S.EawStore.view c.check_under.new.pages.store) r) c.end_of.ensures
-    (subst (λ (p : Pair). Tries g.S.EawStore.tells (g.S.EawStore.calls c.loop-i.pages.store) (g.S.EawStore.calls c.check_under.new.pages.store) (under_plan (g.S.EawStore.view c.loop-i.pages.store).shape c.args.front.now c.args.root.page c.args.root.table (c.args.level - 1) p.1 p.0 (high_of c.end_of.result)) (g.S.EawStore.view c.loop-i.pages.store) (g.S.EawStore.view c.check_under.new.pages.store) r) c.read_pair-low.ensures.pair c.in-Err.ensures.tests)))
+    (subst (λ (p : Pair). Tries g.S.EawStore.tells (g.S.EawStore.calls c.loop-i.pages.store) (g.S.EawStore.calls c.check_under.new.pages.store) (under_plan (g.S.EawStore.view c.loop-i.pages.store).shape c.args.front.now c.args.root.page c.args.root.table (c.args.level - 1) p.1 p.0 (high_of c.end_of.result)) (g.S.EawStore.view c.loop-i.pages.store) (g.S.EawStore.view c.check_under.new.pages.store) r) c.read_pair-low.ensures.pair c.in_err-check_under.ensures.tests))))
 
 pub check_children-returns-clause-tests : goal.check_children-returns-clause-tests
 check_children-returns-clause-tests g t c =

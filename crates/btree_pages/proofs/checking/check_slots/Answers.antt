@@ -21,6 +21,7 @@ use Rattle.page_store.specs.Index.{index_pages_of}
 use Rattle.page_store.specs.Tested.{Plan}
 use Rattle.index_pages.specs.Plans.{Tries, slot_plan, slots_plan, held_of, held_after}
 use Rattle.index_pages.proofs.Trying.{SoFar, so_first, so_passes, so_slot, so_slot_err, slots_stop}
+use Rattle.std.proofs.lemmas.Result.{err_from_is_err_and}
 use Rattle.btree_pages.proofs.checking.check_slots.Goals as goal
 
 pub loop-i-init : goal.loop-i-init
@@ -47,18 +48,20 @@ check_slot-requires g c =
       held = λ told. subst (λ (s : State). IsHeld s.bytes c.loop-i.held) (sym (still.state told)) (c.loop-i.invariant.held told);
     }
 
-pub returns-in-Err-clause-cause : goal.returns-in-Err-clause-cause
-returns-in-Err-clause-cause g c = λ told slots.
+pub returns-in_err-check_slot-clause-cause : goal.returns-in_err-check_slot-clause-cause
+returns-in_err-check_slot-clause-cause g c =
+    let exit = err_from_is_err_and c.from_residual.result c.from_residual.ensures.1 in
+    rw (exit.1, exit.2) (λ told slots.
     let view = g.S.EawStore.view c.args.pages.now.store in
     let same = (c.loop-i.invariant.looks.still refl).state told in
     let rest = pairs_from c.args.bytes.now (suc c.loop-i.i) (c.args.count - suc c.loop-i.i) in
-    let e : Result (Unit {0}) CheckFault = Err c.in-Err.fault in
+    let e : Result (Unit {0}) CheckFault = Err c.in_err-check_slot.field-0.0 in
     let left = subst (λ (ps : List Pair). SlotsLeft view.state.bytes c.args.table c.args.page (pairs_said c.args.bytes.now) ps) (from_step c.args.bytes.now c.loop-i.i c.args.count c.loop-i-test.true)
     (c.loop-i.invariant.left told slots) in
-    let cause = c.in-Err.ensures.cause told (slots ∙ ap (λ (s : State). next_slot s.bytes) (sym same)) in
+    let cause = c.in_err-check_slot.ensures.cause told (slots ∙ ap (λ (s : State). next_slot s.bytes) (sym same)) in
     let cause' : IsVerdict (slot_check view.state.bytes c.args.table c.args.page (pair_said c.args.bytes.now c.loop-i.i)) e =
     subst (λ (p : Pair). IsVerdict (slot_check view.state.bytes c.args.table c.args.page p) e) c.read_pair-pair.ensures.pair (subst (λ (s : State). IsVerdict (slot_check s.bytes c.args.table c.args.page c.read_pair-pair.result) e) same cause) in
-    slots_fail view.state.bytes c.args.table c.args.page (pairs_said c.args.bytes.now) (pair_said c.args.bytes.now c.loop-i.i) rest left c.in-Err.fault cause'
+    slots_fail view.state.bytes c.args.table c.args.page (pairs_said c.args.bytes.now) (pair_said c.args.bytes.now c.loop-i.i) rest left c.in_err-check_slot.field-0.0 cause')
 
 pub loop-i-preserved : goal.loop-i-preserved
 loop-i-preserved g c =
@@ -66,23 +69,23 @@ loop-i-preserved g c =
     let mid = g.S.EawStore.view c.loop-i.pages.store in
     record {
       looks = looks_next g.S.EawStore.tells g.S.EawStore.opens false (pages_of view c.args.pages.now) (pages_of mid c.loop-i.pages) (pages_of (g.S.EawStore.view c.check_slot.new.pages.store) c.check_slot.new.pages)
-          c.loop-i.invariant.looks c.in-Ok.ensures.looks;
-      alive = (c.in-Ok.ensures.looks.still refl).dead ∙ c.loop-i.invariant.alive;
+          c.loop-i.invariant.looks c.in_ok-check_slot.ensures.looks;
+      alive = (c.in_ok-check_slot.ensures.looks.still refl).dead ∙ c.loop-i.invariant.alive;
       rows = λ told.
           let same = (c.loop-i.invariant.looks.still refl).state told in
           let on : suc c.loop-i.i ≡ c.loop-i.i + 1 = omega arith in
           let left = subst (λ (ps : List Pair). RowsLeft view.state.bytes c.args.rows.now (pairs_said c.args.bytes.now) c.loop-i.rows ps) (from_step c.args.bytes.now c.loop-i.i c.args.count c.loop-i-test.true) (c.loop-i.invariant.rows told) in
-          let more = c.in-Ok.ensures.rows told ∙ (λ i. c.loop-i.rows ++ row_of (same i).bytes (c.read_pair-pair.ensures.pair i)) in
+          let more = c.in_ok-check_slot.ensures.rows told ∙ (λ i. c.loop-i.rows ++ row_of (same i).bytes (c.read_pair-pair.ensures.pair i)) in
           subst (λ (n : ℕ). RowsLeft view.state.bytes c.args.rows.now (pairs_said c.args.bytes.now) c.check_slot.new.rows (pairs_from c.args.bytes.now n (c.args.count - n))) on
           (left_row view.state.bytes c.args.rows.now (pairs_said c.args.bytes.now) c.loop-i.rows c.check_slot.new.rows (pair_said c.args.bytes.now c.loop-i.i) (pairs_from c.args.bytes.now (suc c.loop-i.i) (c.args.count - suc c.loop-i.i)) left more);
-      held = λ told. subst (λ (s : State). IsHeld s.bytes c.check_slot.new.held) ((c.loop-i.invariant.looks.still refl).state told) (c.in-Ok.ensures.held told);
+      held = λ told. subst (λ (s : State). IsHeld s.bytes c.check_slot.new.held) ((c.loop-i.invariant.looks.still refl).state told) (c.in_ok-check_slot.ensures.held told);
       left = λ told slots.
           let same = (c.loop-i.invariant.looks.still refl).state told in
           let rest = pairs_from c.args.bytes.now (suc c.loop-i.i) (c.args.count - suc c.loop-i.i) in
           let r : Result (Unit {0}) CheckFault = Ok tt in
           let left = subst (λ (ps : List Pair). SlotsLeft view.state.bytes c.args.table c.args.page (pairs_said c.args.bytes.now) ps) (from_step c.args.bytes.now c.loop-i.i c.args.count c.loop-i-test.true)
           (c.loop-i.invariant.left told slots) in
-          let cause = c.in-Ok.ensures.cause told (slots ∙ ap (λ (s : State). next_slot s.bytes) (sym same)) in
+          let cause = c.in_ok-check_slot.ensures.cause told (slots ∙ ap (λ (s : State). next_slot s.bytes) (sym same)) in
           let cause' : IsVerdict (slot_check view.state.bytes c.args.table c.args.page (pair_said c.args.bytes.now c.loop-i.i)) r =
           subst (λ (p : Pair). IsVerdict (slot_check view.state.bytes c.args.table c.args.page p) r) c.read_pair-pair.ensures.pair (subst (λ (s : State). IsVerdict (slot_check s.bytes c.args.table c.args.page c.read_pair-pair.result) r) same cause) in
           let on : suc c.loop-i.i ≡ c.loop-i.i + 1 = omega arith in
@@ -95,7 +98,7 @@ loop-i-preserved g c =
           (so_slot (index_pages_of (g.S.EawStore.view c.args.pages.now.store).shape) c.args.slots c.args.table c.args.page (held_of c.loop-i.held) (pair_said c.args.bytes.now c.loop-i.i) (λ (now : Option Reading). slots_plan (index_pages_of (g.S.EawStore.view c.args.pages.now.store).shape) c.args.slots c.args.table c.args.page now (pairs_from c.args.bytes.now (suc c.loop-i.i) (c.args.count - suc c.loop-i.i))) (c.loop-i.invariant.looks.still refl) c.loop-i.invariant.looks.shape
           (subst (λ (ps : List Pair). SoFar g.S.EawStore.tells (g.S.EawStore.calls c.args.pages.now.store) (g.S.EawStore.calls c.loop-i.pages.store) (slots_plan (index_pages_of (g.S.EawStore.view c.args.pages.now.store).shape) c.args.slots c.args.table c.args.page (held_of c.loop-i.held) ps) (slots_plan (index_pages_of (g.S.EawStore.view c.args.pages.now.store).shape) c.args.slots c.args.table c.args.page None (pairs_said c.args.bytes.now)) (g.S.EawStore.view c.args.pages.now.store) (g.S.EawStore.view c.loop-i.pages.store)) (from_step c.args.bytes.now c.loop-i.i c.args.count c.loop-i-test.true) c.loop-i.invariant.tests) tt c.check_slot.new.held
           (subst (λ (n : ℕ). Tries g.S.EawStore.tells (g.S.EawStore.calls c.loop-i.pages.store) (g.S.EawStore.calls c.check_slot.new.pages.store) (slot_plan n c.args.slots c.args.table c.args.page (held_of c.loop-i.held) (pair_said c.args.bytes.now c.loop-i.i) (held_after r c.check_slot.new.held)) (g.S.EawStore.view c.loop-i.pages.store) (g.S.EawStore.view c.check_slot.new.pages.store) r) (ap index_pages_of c.loop-i.invariant.looks.shape)
-          (subst (λ (p : Pair). Tries g.S.EawStore.tells (g.S.EawStore.calls c.loop-i.pages.store) (g.S.EawStore.calls c.check_slot.new.pages.store) (slot_plan (index_pages_of (g.S.EawStore.view c.loop-i.pages.store).shape) c.args.slots c.args.table c.args.page (held_of c.loop-i.held) p (held_after r c.check_slot.new.held)) (g.S.EawStore.view c.loop-i.pages.store) (g.S.EawStore.view c.check_slot.new.pages.store) r) c.read_pair-pair.ensures.pair c.in-Ok.ensures.tests)));
+          (subst (λ (p : Pair). Tries g.S.EawStore.tells (g.S.EawStore.calls c.loop-i.pages.store) (g.S.EawStore.calls c.check_slot.new.pages.store) (slot_plan (index_pages_of (g.S.EawStore.view c.loop-i.pages.store).shape) c.args.slots c.args.table c.args.page (held_of c.loop-i.held) p (held_after r c.check_slot.new.held)) (g.S.EawStore.view c.loop-i.pages.store) (g.S.EawStore.view c.check_slot.new.pages.store) r) c.read_pair-pair.ensures.pair c.in_ok-check_slot.ensures.tests)));
     }
 
 pub returns-clause-cause : goal.returns-clause-cause
@@ -109,18 +112,22 @@ returns-clause-rows g c = λ told.
     left_none view.state.bytes c.args.rows.now (pairs_said c.args.bytes.now) c.loop-i.rows
     (subst (λ (ps : List Pair). RowsLeft view.state.bytes c.args.rows.now (pairs_said c.args.bytes.now) c.loop-i.rows ps) (from_end c.args.bytes.now c.loop-i.i c.args.count c.loop-i-test.false) (c.loop-i.invariant.rows told))
 
-pub returns-in-Err-clause-looks : goal.returns-in-Err-clause-looks
-returns-in-Err-clause-looks g c =
+pub returns-in_err-check_slot-clause-looks : goal.returns-in_err-check_slot-clause-looks
+returns-in_err-check_slot-clause-looks g c =
+    let exit = err_from_is_err_and c.from_residual.result c.from_residual.ensures.1 in
+    rw (exit.1, exit.2) (
     looks_next g.S.EawStore.tells g.S.EawStore.opens _ (pages_of (g.S.EawStore.view c.args.pages.now.store) c.args.pages.now) (pages_of (g.S.EawStore.view c.loop-i.pages.store) c.loop-i.pages)
-    (pages_of (g.S.EawStore.view c.check_slot.new.pages.store) c.check_slot.new.pages) c.loop-i.invariant.looks c.in-Err.ensures.looks
+    (pages_of (g.S.EawStore.view c.check_slot.new.pages.store) c.check_slot.new.pages) c.loop-i.invariant.looks c.in_err-check_slot.ensures.looks)
 
-pub returns-in-Err-clause-tests : goal.returns-in-Err-clause-tests
-returns-in-Err-clause-tests g c =
-    let r : Result (Unit {0}) CheckFault = Err c.in-Err.fault in
+pub returns-in_err-check_slot-clause-tests : goal.returns-in_err-check_slot-clause-tests
+returns-in_err-check_slot-clause-tests g c =
+    let exit = err_from_is_err_and c.from_residual.result c.from_residual.ensures.1 in
+    rw (exit.1, exit.2) (
+    let r : Result (Unit {0}) CheckFault = Err c.in_err-check_slot.field-0.0 in
     so_slot_err (index_pages_of (g.S.EawStore.view c.args.pages.now.store).shape) c.args.slots c.args.table c.args.page (held_of c.loop-i.held) (pair_said c.args.bytes.now c.loop-i.i) (λ (now : Option Reading). slots_plan (index_pages_of (g.S.EawStore.view c.args.pages.now.store).shape) c.args.slots c.args.table c.args.page now (pairs_from c.args.bytes.now (suc c.loop-i.i) (c.args.count - suc c.loop-i.i))) (c.loop-i.invariant.looks.still refl) c.loop-i.invariant.looks.shape
-    (subst (λ (ps : List Pair). SoFar g.S.EawStore.tells (g.S.EawStore.calls c.args.pages.now.store) (g.S.EawStore.calls c.loop-i.pages.store) (slots_plan (index_pages_of (g.S.EawStore.view c.args.pages.now.store).shape) c.args.slots c.args.table c.args.page (held_of c.loop-i.held) ps) (slots_plan (index_pages_of (g.S.EawStore.view c.args.pages.now.store).shape) c.args.slots c.args.table c.args.page None (pairs_said c.args.bytes.now)) (g.S.EawStore.view c.args.pages.now.store) (g.S.EawStore.view c.loop-i.pages.store)) (from_step c.args.bytes.now c.loop-i.i c.args.count c.loop-i-test.true) c.loop-i.invariant.tests) c.in-Err.fault (λ now. slots_stop _ _ _ _ _ now)
+    (subst (λ (ps : List Pair). SoFar g.S.EawStore.tells (g.S.EawStore.calls c.args.pages.now.store) (g.S.EawStore.calls c.loop-i.pages.store) (slots_plan (index_pages_of (g.S.EawStore.view c.args.pages.now.store).shape) c.args.slots c.args.table c.args.page (held_of c.loop-i.held) ps) (slots_plan (index_pages_of (g.S.EawStore.view c.args.pages.now.store).shape) c.args.slots c.args.table c.args.page None (pairs_said c.args.bytes.now)) (g.S.EawStore.view c.args.pages.now.store) (g.S.EawStore.view c.loop-i.pages.store)) (from_step c.args.bytes.now c.loop-i.i c.args.count c.loop-i-test.true) c.loop-i.invariant.tests) c.in_err-check_slot.field-0.0 (λ now. slots_stop _ _ _ _ _ now)
     (subst (λ (n : ℕ). Tries g.S.EawStore.tells (g.S.EawStore.calls c.loop-i.pages.store) (g.S.EawStore.calls c.check_slot.new.pages.store) (slot_plan n c.args.slots c.args.table c.args.page (held_of c.loop-i.held) (pair_said c.args.bytes.now c.loop-i.i) (held_after r c.check_slot.new.held)) (g.S.EawStore.view c.loop-i.pages.store) (g.S.EawStore.view c.check_slot.new.pages.store) r) (ap index_pages_of c.loop-i.invariant.looks.shape)
-    (subst (λ (p : Pair). Tries g.S.EawStore.tells (g.S.EawStore.calls c.loop-i.pages.store) (g.S.EawStore.calls c.check_slot.new.pages.store) (slot_plan (index_pages_of (g.S.EawStore.view c.loop-i.pages.store).shape) c.args.slots c.args.table c.args.page (held_of c.loop-i.held) p (held_after r c.check_slot.new.held)) (g.S.EawStore.view c.loop-i.pages.store) (g.S.EawStore.view c.check_slot.new.pages.store) r) c.read_pair-pair.ensures.pair c.in-Err.ensures.tests))
+    (subst (λ (p : Pair). Tries g.S.EawStore.tells (g.S.EawStore.calls c.loop-i.pages.store) (g.S.EawStore.calls c.check_slot.new.pages.store) (slot_plan (index_pages_of (g.S.EawStore.view c.loop-i.pages.store).shape) c.args.slots c.args.table c.args.page (held_of c.loop-i.held) p (held_after r c.check_slot.new.held)) (g.S.EawStore.view c.loop-i.pages.store) (g.S.EawStore.view c.check_slot.new.pages.store) r) c.read_pair-pair.ensures.pair c.in_err-check_slot.ensures.tests)))
 
 pub returns-clause-tests : goal.returns-clause-tests
 returns-clause-tests g c =

@@ -15,7 +15,7 @@ use Rattle.page_store.specs.Works.{WorksFrom, is_done, blamed_index, insertion_l
 use Rattle.page_store.specs.declared.leaf_page.LeafPage.{LeafPage}
 use Rattle.page_store.specs.declared.index_fault.IndexFault.{IndexFault}
 use Rattle.page_store.specs.declared.index_fault.IndexFault.TheVariants as index
-use Rattle.index_pages.specs.Faults.{as_index}
+use Rattle.page_store.specs.Faults.{as_index}
 use Rattle.index_pages.specs.Fetched.{IsFront}
 use Rattle.index_pages.specs.Page.{level_of, page_pairs}
 use Rattle.index_pages.proofs.Looking.{looks_next}
@@ -32,10 +32,13 @@ use Rattle.btree_pages.specs.Writes.{IsRead}
 use Rattle.index_pages.proofs.Faulting.{test_of_index, dead_fault, dead_test, not_slots, not_damage, room_for, full_with}
 use Rattle.btree_pages.proofs.Rooted.{slot_there, super_err, slots_full, root_out, alive_yet, bytes_yet, sound_yet, named_yet, absent_yet, says_yet, root_reached, root_read}
 use Rattle.btree_pages.proofs.Whole.{root_err, looked_then, root_then, place_then, place_reached, place_due, room_due}
+use Rattle.std.proofs.lemmas.Result.{err_from_is_err_and}
 use Rattle.btree_pages.proofs.insertion.insert.Goals as goal
 
-pub returns-in-Err-clause-inserts : goal.returns-in-Err-clause-inserts
-returns-in-Err-clause-inserts g c =
+pub returns-in_err-front-clause-inserts : goal.returns-in_err-front-clause-inserts
+returns-in_err-front-clause-inserts g c =
+    let exit = err_from_is_err_and c.from_residual.result c.from_residual.ensures.1 in
+    rw (exit.1) (
     let T = g.S.EawStore.tells in
     let V = g.S.EawStore.view in
     let E = g.S.EawStore.opens in
@@ -45,11 +48,13 @@ returns-in-Err-clause-inserts g c =
     let v0 = pages_of (V c.args.pages.now.store) c.args.pages.now in
     let n = c.index_page_count-count.ensures in
     let vs = pages_of (V c.fetch_super.new.pages.store) c.fetch_super.new.pages in
-    subst (λ (f : IndexFault). (let r : Result ℕ IndexFault = Err f in Inserts T (E v0.store.shape) tree t root.page root.table key v0 vs r)) (sym c.index_fault.ensures) (super_err T E t root key v0 c.requires.sound c.requires.named vs c.in-Err.fault c.in-Err.ensures.looks c.in-Err.ensures.cause)
+    subst (λ (f : IndexFault). (let r : Result ℕ IndexFault = Err f in Inserts T (E v0.store.shape) tree t root.page root.table key v0 vs r)) (sym exit.2) (super_err T E t root key v0 c.requires.sound c.requires.named vs c.in_err-front.field-0.0 c.in_err-front.ensures.looks c.in_err-front.ensures.cause))
 
-pub returns-in-Err-clause-dead : goal.returns-in-Err-clause-dead
-returns-in-Err-clause-dead g c =
-    λ told. c.in-Err.ensures.dead (ap Err (dead_fault c.in-Err.fault c.index_fault.result (test_of_index Super g.S.EawStore.tells (IsSuper 1 (g.S.EawStore.view c.args.pages.now.store).state.bytes) 0 (g.S.EawStore.view c.args.pages.now.store) c.in-Err.fault c.in-Err.ensures.cause) c.index_fault.ensures told))
+pub returns-in_err-front-clause-dead : goal.returns-in_err-front-clause-dead
+returns-in_err-front-clause-dead g c =
+    let exit = err_from_is_err_and c.from_residual.result c.from_residual.ensures.1 in
+    rw (exit.1) (
+    λ told. c.in_err-front.ensures.dead (ap Err (dead_fault c.in_err-front.field-0.0 exit.0 (test_of_index Super g.S.EawStore.tells (IsSuper 1 (g.S.EawStore.view c.args.pages.now.store).state.bytes) 0 (g.S.EawStore.view c.args.pages.now.store) c.in_err-front.field-0.0 c.in_err-front.ensures.cause) exit.2 told)))
 
 pub returns-then-not-is_slot_left-clause-inserts : goal.returns-then-not-is_slot_left-clause-inserts
 returns-then-not-is_slot_left-clause-inserts g c =
@@ -62,8 +67,8 @@ returns-then-not-is_slot_left-clause-inserts g c =
     let v0 = pages_of (V c.args.pages.now.store) c.args.pages.now in
     let n = c.index_page_count-count.ensures in
     let vs = pages_of (V c.fetch_super.new.pages.store) c.fetch_super.new.pages in
-    let front = c.in-Ok.front in
-    slots_full T E t root key v0 c.requires.sound c.requires.named vs c.in-Ok.ensures.looks c.in-Ok.ensures.cause c.index_page_count-count.result front n.all c.in-Ok.ensures.front (λ has. false≢true (c.if-not-is_slot_left.ensures.1 has)) c.in-Ok.ensures.says
+    let front = c.in_ok-front.front in
+    slots_full T E t root key v0 c.requires.sound c.requires.named vs c.in_ok-front.ensures.looks c.in_ok-front.ensures.cause c.index_page_count-count.result front n.all c.in_ok-front.ensures.front (λ has. false≢true (c.if-not-is_slot_left.ensures.1 has)) c.in_ok-front.ensures.says
 
 pub returns-then-not-is_slot_left-clause-dead : goal.returns-then-not-is_slot_left-clause-dead
 returns-then-not-is_slot_left-clause-dead g c =
@@ -80,9 +85,9 @@ returns-then-not-is_index_page-clause-inserts g c =
     let v0 = pages_of (V c.args.pages.now.store) c.args.pages.now in
     let n = c.index_page_count-count.ensures in
     let vs = pages_of (V c.fetch_super.new.pages.store) c.fetch_super.new.pages in
-    let front = c.in-Ok.front in
+    let front = c.in_ok-front.front in
     let long = λ (told : IsTrue g.S.EawStore.tells). g.met.S.EawStore.long c.args.pages.now.store told in
-    root_out T E t root key v0 c.requires.sound c.requires.named vs c.in-Ok.ensures.looks c.in-Ok.ensures.cause c.index_page_count-count.result n.count (λ told. (let e : first_slot_page (g.S.EawStore.view c.args.pages.now.store).state.bytes ≡ c.index_page_count-count.result = omega (arith, index_pages_are v0.store.shape v0.store.state.bytes (long told), n.count) in e))
+    root_out T E t root key v0 c.requires.sound c.requires.named vs c.in_ok-front.ensures.looks c.in_ok-front.ensures.cause c.index_page_count-count.result n.count (λ told. (let e : first_slot_page (g.S.EawStore.view c.args.pages.now.store).state.bytes ≡ c.index_page_count-count.result = omega (arith, index_pages_are v0.store.shape v0.store.state.bytes (long told), n.count) in e))
     (λ some less. false≢true (c.if-not-is_index_page.ensures.1 (some, less)))
 
 pub returns-then-not-is_index_page-clause-dead : goal.returns-then-not-is_index_page-clause-dead
@@ -94,11 +99,13 @@ fetch_node-requires g c =
     let inside = c.if-not-is_index_page.ensures.0 refl in
     record {
       some = inside.0;
-      inside = subst (λ (k : ℕ). c.args.root.page < k) (c.index_page_count-count.ensures.count ∙ ap index_pages_of (sym c.in-Ok.ensures.looks.shape)) inside.1;
+      inside = subst (λ (k : ℕ). c.args.root.page < k) (c.index_page_count-count.ensures.count ∙ ap index_pages_of (sym c.in_ok-front.ensures.looks.shape)) inside.1;
     }
 
-pub returns-in-Err-fetch_node-clause-inserts : goal.returns-in-Err-fetch_node-clause-inserts
-returns-in-Err-fetch_node-clause-inserts g c =
+pub returns-in_err-top-clause-inserts : goal.returns-in_err-top-clause-inserts
+returns-in_err-top-clause-inserts g c =
+    let exit = err_from_is_err_and c.from_residual-in_err-top.result c.from_residual-in_err-top.ensures.1 in
+    rw (exit.1) (
     let T = g.S.EawStore.tells in
     let V = g.S.EawStore.view in
     let E = g.S.EawStore.opens in
@@ -108,14 +115,16 @@ returns-in-Err-fetch_node-clause-inserts g c =
     let v0 = pages_of (V c.args.pages.now.store) c.args.pages.now in
     let n = c.index_page_count-count.ensures in
     let vs = pages_of (V c.fetch_super.new.pages.store) c.fetch_super.new.pages in
-    let front = c.in-Ok.front in
+    let front = c.in_ok-front.front in
     let v1 = pages_of (V c.fetch_node.new.pages.store) c.fetch_node.new.pages in
     let small : c.args.key < 2 ^ 64 = omega arith in
-    subst (λ (f : IndexFault). (let r : Result ℕ IndexFault = Err f in Inserts T (E v0.store.shape) tree t root.page root.table key v0 v1 r)) (sym c.index_fault-in-Err-fetch_node.ensures)
-    (root_err T E t root key v0 vs c.requires.sound c.requires.named small c.in-Ok.ensures.looks v1 c.in-Err-fetch_node.fault (c.in-Err-fetch_node.ensures.looks, c.in-Err-fetch_node.ensures.cause))
+    subst (λ (f : IndexFault). (let r : Result ℕ IndexFault = Err f in Inserts T (E v0.store.shape) tree t root.page root.table key v0 v1 r)) (sym exit.2)
+    (root_err T E t root key v0 vs c.requires.sound c.requires.named small c.in_ok-front.ensures.looks v1 c.in_err-top.field-0.0 (c.in_err-top.ensures.looks, c.in_err-top.ensures.cause)))
 
-pub returns-in-Err-fetch_node-clause-dead : goal.returns-in-Err-fetch_node-clause-dead
-returns-in-Err-fetch_node-clause-dead g c =
+pub returns-in_err-top-clause-dead : goal.returns-in_err-top-clause-dead
+returns-in_err-top-clause-dead g c =
+    let exit = err_from_is_err_and c.from_residual-in_err-top.result c.from_residual-in_err-top.ensures.1 in
+    rw (exit.1) (
     let T = g.S.EawStore.tells in
     let V = g.S.EawStore.view in
     let E = g.S.EawStore.opens in
@@ -125,11 +134,11 @@ returns-in-Err-fetch_node-clause-dead g c =
     let v0 = pages_of (V c.args.pages.now.store) c.args.pages.now in
     let n = c.index_page_count-count.ensures in
     let vs = pages_of (V c.fetch_super.new.pages.store) c.fetch_super.new.pages in
-    let front = c.in-Ok.front in
+    let front = c.in_ok-front.front in
     let at = root.page in
     let good = IsNode (page_bytes vs.store.state.bytes c.args.root.page) in
-    λ told. dead_test Node T good at vs.store c.in-Err-fetch_node.fault ((c.in-Ok.ensures.looks.still refl).dead ∙ c.in-Ok.ensures.cause)
-    (dead_fault c.in-Err-fetch_node.fault c.index_fault-in-Err-fetch_node.result (test_of_index Node T good at vs.store c.in-Err-fetch_node.fault c.in-Err-fetch_node.ensures.cause) c.index_fault-in-Err-fetch_node.ensures told) c.in-Err-fetch_node.ensures.cause
+    λ told. dead_test Node T good at vs.store c.in_err-top.field-0.0 ((c.in_ok-front.ensures.looks.still refl).dead ∙ c.in_ok-front.ensures.cause)
+    (dead_fault c.in_err-top.field-0.0 exit.0 (test_of_index Node T good at vs.store c.in_err-top.field-0.0 c.in_err-top.ensures.cause) exit.2 told) c.in_err-top.ensures.cause)
 
 pub insert_below-requires-then-len-lt-PAIRS_MAX : goal.insert_below-requires-then-len-lt-PAIRS_MAX
 insert_below-requires-then-len-lt-PAIRS_MAX g c =
@@ -142,31 +151,31 @@ insert_below-requires-then-len-lt-PAIRS_MAX g c =
     let v0 = pages_of (V c.args.pages.now.store) c.args.pages.now in
     let n = c.index_page_count-count.ensures in
     let vs = pages_of (V c.fetch_super.new.pages.store) c.fetch_super.new.pages in
-    let front = c.in-Ok.front in
+    let front = c.in_ok-front.front in
     let v1 = pages_of (V c.fetch_node.new.pages.store) c.fetch_node.new.pages in
     let small : c.args.key < 2 ^ 64 = omega arith in
-    let looks = looks_next T E false v0 vs v1 c.in-Ok.ensures.looks c.in-Ok-fetch_node.ensures.looks in
-    let still = c.in-Ok.ensures.looks.still refl in
-    let top = c.in-Ok-fetch_node.top in
-    let read = subst (λ (sh : Shape). IsRead sh c.args.root.page c.in-Ok-fetch_node.top.level c.in-Ok-fetch_node.top.pairs.items) c.in-Ok.ensures.looks.shape c.in-Ok-fetch_node.ensures.read in
-    let level = λ (told : IsTrue g.S.EawStore.tells). c.in-Ok-fetch_node.ensures.level told ∙ ap (λ (st : State). level_of st.bytes c.args.root.page) (still.state told) in
-    let pairs = λ (told : IsTrue g.S.EawStore.tells). c.in-Ok-fetch_node.ensures.pairs told ∙ ap (λ (st : State). page_pairs st.bytes c.args.root.page) (still.state told) in
-    let room : length c.in-Ok-fetch_node.top.pairs.items < 30 = room_for c.in-Ok-fetch_node.top.pairs.items c.len.result c.len.ensures.value c.if-len-lt-PAIRS_MAX.true in
+    let looks = looks_next T E false v0 vs v1 c.in_ok-front.ensures.looks c.in_ok-top.ensures.looks in
+    let still = c.in_ok-front.ensures.looks.still refl in
+    let top = c.in_ok-top.top in
+    let read = subst (λ (sh : Shape). IsRead sh c.args.root.page c.in_ok-top.top.level c.in_ok-top.top.pairs.items) c.in_ok-front.ensures.looks.shape c.in_ok-top.ensures.read in
+    let level = λ (told : IsTrue g.S.EawStore.tells). c.in_ok-top.ensures.level told ∙ ap (λ (st : State). level_of st.bytes c.args.root.page) (still.state told) in
+    let pairs = λ (told : IsTrue g.S.EawStore.tells). c.in_ok-top.ensures.pairs told ∙ ap (λ (st : State). page_pairs st.bytes c.args.root.page) (still.state told) in
+    let room : length c.in_ok-top.top.pairs.items < 30 = room_for c.in_ok-top.top.pairs.items c.len.result c.len.ensures.value c.if-len-lt-PAIRS_MAX.true in
     record {
       tid = subst (λ (sh : Shape). c.args.tid < sh.numbers) (sym looks.shape) c.requires.tid;
       table = c.requires.table;
-      closed = ap (λ (f : ℕ → Option ℕ). f c.args.tid) (c.in-Ok-fetch_node.ensures.looks.tops ∙ c.in-Ok.ensures.looks.tops) ∙ c.requires.closed c.in-Ok.ensures.cause;
-      alive = alive_yet T E t root key v0 c.requires.sound c.requires.named v1 looks c.in-Ok.ensures.cause;
-      sound = sound_yet T E t root key v0 c.requires.sound c.requires.named v1 looks c.in-Ok.ensures.cause;
-      named = named_yet T E t root key v0 c.requires.sound c.requires.named v1 looks c.in-Ok.ensures.cause;
-      absent = absent_yet T E t root key v0 c.requires.sound c.requires.named v1 looks c.in-Ok.ensures.cause c.requires.absent;
-      front = subst (λ (sh : Shape). IsFront sh c.in-Ok.front) (sym looks.shape) c.in-Ok.ensures.front;
-      slot = λ none. subst (λ (sh : Shape). c.in-Ok.front.next_slot < slots_of sh) (sym looks.shape) ((slot_there v0.store.shape c.index_page_count-count.result front n.all c.in-Ok.ensures.front (c.if-not-is_slot_left.ensures.0 refl)) none);
-      says = says_yet T E t root key v0 c.requires.sound c.requires.named v1 looks c.in-Ok.ensures.cause front c.in-Ok.ensures.says;
-      read = root_read T E t root key v0 c.requires.sound c.requires.named v1 looks c.in-Ok.ensures.cause top.page top.level top.pairs.items c.in-Ok-fetch_node.ensures.page read;
-      some = c.in-Ok-fetch_node.ensures.some;
+      closed = ap (λ (f : ℕ → Option ℕ). f c.args.tid) (c.in_ok-top.ensures.looks.tops ∙ c.in_ok-front.ensures.looks.tops) ∙ c.requires.closed c.in_ok-front.ensures.cause;
+      alive = alive_yet T E t root key v0 c.requires.sound c.requires.named v1 looks c.in_ok-front.ensures.cause;
+      sound = sound_yet T E t root key v0 c.requires.sound c.requires.named v1 looks c.in_ok-front.ensures.cause;
+      named = named_yet T E t root key v0 c.requires.sound c.requires.named v1 looks c.in_ok-front.ensures.cause;
+      absent = absent_yet T E t root key v0 c.requires.sound c.requires.named v1 looks c.in_ok-front.ensures.cause c.requires.absent;
+      front = subst (λ (sh : Shape). IsFront sh c.in_ok-front.front) (sym looks.shape) c.in_ok-front.ensures.front;
+      slot = λ none. subst (λ (sh : Shape). c.in_ok-front.front.next_slot < slots_of sh) (sym looks.shape) ((slot_there v0.store.shape c.index_page_count-count.result front n.all c.in_ok-front.ensures.front (c.if-not-is_slot_left.ensures.0 refl)) none);
+      says = says_yet T E t root key v0 c.requires.sound c.requires.named v1 looks c.in_ok-front.ensures.cause front c.in_ok-front.ensures.says;
+      read = root_read T E t root key v0 c.requires.sound c.requires.named v1 looks c.in_ok-front.ensures.cause top.page top.level top.pairs.items c.in_ok-top.ensures.page read;
+      some = c.in_ok-top.ensures.some;
       room = room;
-      reached = root_reached T E t root key v0 c.requires.sound c.requires.named v1 looks c.in-Ok.ensures.cause top.page top.level top.pairs.items c.in-Ok-fetch_node.ensures.page level pairs;
+      reached = root_reached T E t root key v0 c.requires.sound c.requires.named v1 looks c.in_ok-front.ensures.cause top.page top.level top.pairs.items c.in_ok-top.ensures.page level pairs;
     }
 
 pub returns-then-len-lt-PAIRS_MAX-clause-inserts : goal.returns-then-len-lt-PAIRS_MAX-clause-inserts
@@ -180,18 +189,18 @@ returns-then-len-lt-PAIRS_MAX-clause-inserts g c =
     let v0 = pages_of (V c.args.pages.now.store) c.args.pages.now in
     let n = c.index_page_count-count.ensures in
     let vs = pages_of (V c.fetch_super.new.pages.store) c.fetch_super.new.pages in
-    let front = c.in-Ok.front in
+    let front = c.in_ok-front.front in
     let v1 = pages_of (V c.fetch_node.new.pages.store) c.fetch_node.new.pages in
     let small : c.args.key < 2 ^ 64 = omega arith in
-    let looks = looks_next T E false v0 vs v1 c.in-Ok.ensures.looks c.in-Ok-fetch_node.ensures.looks in
-    let still = c.in-Ok.ensures.looks.still refl in
-    let top = c.in-Ok-fetch_node.top in
-    let read = subst (λ (sh : Shape). IsRead sh c.args.root.page c.in-Ok-fetch_node.top.level c.in-Ok-fetch_node.top.pairs.items) c.in-Ok.ensures.looks.shape c.in-Ok-fetch_node.ensures.read in
-    let level = λ (told : IsTrue g.S.EawStore.tells). c.in-Ok-fetch_node.ensures.level told ∙ ap (λ (st : State). level_of st.bytes c.args.root.page) (still.state told) in
-    let pairs = λ (told : IsTrue g.S.EawStore.tells). c.in-Ok-fetch_node.ensures.pairs told ∙ ap (λ (st : State). page_pairs st.bytes c.args.root.page) (still.state told) in
-    let room : length c.in-Ok-fetch_node.top.pairs.items < 30 = room_for c.in-Ok-fetch_node.top.pairs.items c.len.result c.len.ensures.value c.if-len-lt-PAIRS_MAX.true in
+    let looks = looks_next T E false v0 vs v1 c.in_ok-front.ensures.looks c.in_ok-top.ensures.looks in
+    let still = c.in_ok-front.ensures.looks.still refl in
+    let top = c.in_ok-top.top in
+    let read = subst (λ (sh : Shape). IsRead sh c.args.root.page c.in_ok-top.top.level c.in_ok-top.top.pairs.items) c.in_ok-front.ensures.looks.shape c.in_ok-top.ensures.read in
+    let level = λ (told : IsTrue g.S.EawStore.tells). c.in_ok-top.ensures.level told ∙ ap (λ (st : State). level_of st.bytes c.args.root.page) (still.state told) in
+    let pairs = λ (told : IsTrue g.S.EawStore.tells). c.in_ok-top.ensures.pairs told ∙ ap (λ (st : State). page_pairs st.bytes c.args.root.page) (still.state told) in
+    let room : length c.in_ok-top.top.pairs.items < 30 = room_for c.in_ok-top.top.pairs.items c.len.result c.len.ensures.value c.if-len-lt-PAIRS_MAX.true in
     let v2 = pages_of (V c.insert_below-then-len-lt-PAIRS_MAX.new.pages.store) c.insert_below-then-len-lt-PAIRS_MAX.new.pages in
-    root_then T E t root key v0 v1 c.requires.sound c.requires.named small looks c.in-Ok.ensures.cause front top.page top.level top.pairs.items c.in-Ok.ensures.says c.in-Ok-fetch_node.ensures.page c.in-Ok-fetch_node.ensures.read.level_most level pairs room v2 c.insert_below-then-len-lt-PAIRS_MAX.result c.insert_below-then-len-lt-PAIRS_MAX.ensures.inserts
+    root_then T E t root key v0 v1 c.requires.sound c.requires.named small looks c.in_ok-front.ensures.cause front top.page top.level top.pairs.items c.in_ok-front.ensures.says c.in_ok-top.ensures.page c.in_ok-top.ensures.read.level_most level pairs room v2 c.insert_below-then-len-lt-PAIRS_MAX.result c.insert_below-then-len-lt-PAIRS_MAX.ensures.inserts
 
 pub returns-then-len-lt-PAIRS_MAX-clause-dead : goal.returns-then-len-lt-PAIRS_MAX-clause-dead
 returns-then-len-lt-PAIRS_MAX-clause-dead g c =
@@ -208,32 +217,32 @@ insert_above-requires g c =
     let v0 = pages_of (V c.args.pages.now.store) c.args.pages.now in
     let n = c.index_page_count-count.ensures in
     let vs = pages_of (V c.fetch_super.new.pages.store) c.fetch_super.new.pages in
-    let front = c.in-Ok.front in
+    let front = c.in_ok-front.front in
     let v1 = pages_of (V c.fetch_node.new.pages.store) c.fetch_node.new.pages in
     let small : c.args.key < 2 ^ 64 = omega arith in
-    let looks = looks_next T E false v0 vs v1 c.in-Ok.ensures.looks c.in-Ok-fetch_node.ensures.looks in
-    let still = c.in-Ok.ensures.looks.still refl in
-    let top = c.in-Ok-fetch_node.top in
-    let read = subst (λ (sh : Shape). IsRead sh c.args.root.page c.in-Ok-fetch_node.top.level c.in-Ok-fetch_node.top.pairs.items) c.in-Ok.ensures.looks.shape c.in-Ok-fetch_node.ensures.read in
-    let level = λ (told : IsTrue g.S.EawStore.tells). c.in-Ok-fetch_node.ensures.level told ∙ ap (λ (st : State). level_of st.bytes c.args.root.page) (still.state told) in
-    let pairs = λ (told : IsTrue g.S.EawStore.tells). c.in-Ok-fetch_node.ensures.pairs told ∙ ap (λ (st : State). page_pairs st.bytes c.args.root.page) (still.state told) in
-    let full : length c.in-Ok-fetch_node.top.pairs.items ≡ 30 = full_with c.in-Ok-fetch_node.top.pairs.items c.len.result c.len.ensures.value c.if-len-lt-PAIRS_MAX.false c.in-Ok-fetch_node.ensures.read.most in
+    let looks = looks_next T E false v0 vs v1 c.in_ok-front.ensures.looks c.in_ok-top.ensures.looks in
+    let still = c.in_ok-front.ensures.looks.still refl in
+    let top = c.in_ok-top.top in
+    let read = subst (λ (sh : Shape). IsRead sh c.args.root.page c.in_ok-top.top.level c.in_ok-top.top.pairs.items) c.in_ok-front.ensures.looks.shape c.in_ok-top.ensures.read in
+    let level = λ (told : IsTrue g.S.EawStore.tells). c.in_ok-top.ensures.level told ∙ ap (λ (st : State). level_of st.bytes c.args.root.page) (still.state told) in
+    let pairs = λ (told : IsTrue g.S.EawStore.tells). c.in_ok-top.ensures.pairs told ∙ ap (λ (st : State). page_pairs st.bytes c.args.root.page) (still.state told) in
+    let full : length c.in_ok-top.top.pairs.items ≡ 30 = full_with c.in_ok-top.top.pairs.items c.len.result c.len.ensures.value c.if-len-lt-PAIRS_MAX.false c.in_ok-top.ensures.read.most in
     record {
       tid = subst (λ (sh : Shape). c.args.tid < sh.numbers) (sym looks.shape) c.requires.tid;
       table = c.requires.table;
-      closed = ap (λ (f : ℕ → Option ℕ). f c.args.tid) (c.in-Ok-fetch_node.ensures.looks.tops ∙ c.in-Ok.ensures.looks.tops) ∙ c.requires.closed c.in-Ok.ensures.cause;
-      alive = alive_yet T E t root key v0 c.requires.sound c.requires.named v1 looks c.in-Ok.ensures.cause;
-      sound = sound_yet T E t root key v0 c.requires.sound c.requires.named v1 looks c.in-Ok.ensures.cause;
-      named = named_yet T E t root key v0 c.requires.sound c.requires.named v1 looks c.in-Ok.ensures.cause;
-      absent = absent_yet T E t root key v0 c.requires.sound c.requires.named v1 looks c.in-Ok.ensures.cause c.requires.absent;
-      front = subst (λ (sh : Shape). IsFront sh c.in-Ok.front) (sym looks.shape) c.in-Ok.ensures.front;
-      slot = λ none. subst (λ (sh : Shape). c.in-Ok.front.next_slot < slots_of sh) (sym looks.shape) ((slot_there v0.store.shape c.index_page_count-count.result front n.all c.in-Ok.ensures.front (c.if-not-is_slot_left.ensures.0 refl)) none);
-      says = says_yet T E t root key v0 c.requires.sound c.requires.named v1 looks c.in-Ok.ensures.cause front c.in-Ok.ensures.says;
-      page = c.in-Ok-fetch_node.ensures.page;
-      read = root_read T E t root key v0 c.requires.sound c.requires.named v1 looks c.in-Ok.ensures.cause top.page top.level top.pairs.items c.in-Ok-fetch_node.ensures.page read;
+      closed = ap (λ (f : ℕ → Option ℕ). f c.args.tid) (c.in_ok-top.ensures.looks.tops ∙ c.in_ok-front.ensures.looks.tops) ∙ c.requires.closed c.in_ok-front.ensures.cause;
+      alive = alive_yet T E t root key v0 c.requires.sound c.requires.named v1 looks c.in_ok-front.ensures.cause;
+      sound = sound_yet T E t root key v0 c.requires.sound c.requires.named v1 looks c.in_ok-front.ensures.cause;
+      named = named_yet T E t root key v0 c.requires.sound c.requires.named v1 looks c.in_ok-front.ensures.cause;
+      absent = absent_yet T E t root key v0 c.requires.sound c.requires.named v1 looks c.in_ok-front.ensures.cause c.requires.absent;
+      front = subst (λ (sh : Shape). IsFront sh c.in_ok-front.front) (sym looks.shape) c.in_ok-front.ensures.front;
+      slot = λ none. subst (λ (sh : Shape). c.in_ok-front.front.next_slot < slots_of sh) (sym looks.shape) ((slot_there v0.store.shape c.index_page_count-count.result front n.all c.in_ok-front.ensures.front (c.if-not-is_slot_left.ensures.0 refl)) none);
+      says = says_yet T E t root key v0 c.requires.sound c.requires.named v1 looks c.in_ok-front.ensures.cause front c.in_ok-front.ensures.says;
+      page = c.in_ok-top.ensures.page;
+      read = root_read T E t root key v0 c.requires.sound c.requires.named v1 looks c.in_ok-front.ensures.cause top.page top.level top.pairs.items c.in_ok-top.ensures.page read;
       full = full;
-      level = bytes_yet T E t root key v0 c.requires.sound c.requires.named v1 looks c.in-Ok.ensures.cause (λ (b : List ℕ). c.in-Ok-fetch_node.top.level ≡ level_of b c.args.root.page) level;
-      pairs = bytes_yet T E t root key v0 c.requires.sound c.requires.named v1 looks c.in-Ok.ensures.cause (λ (b : List ℕ). c.in-Ok-fetch_node.top.pairs.items ≡ page_pairs b c.args.root.page) pairs;
+      level = bytes_yet T E t root key v0 c.requires.sound c.requires.named v1 looks c.in_ok-front.ensures.cause (λ (b : List ℕ). c.in_ok-top.top.level ≡ level_of b c.args.root.page) level;
+      pairs = bytes_yet T E t root key v0 c.requires.sound c.requires.named v1 looks c.in_ok-front.ensures.cause (λ (b : List ℕ). c.in_ok-top.top.pairs.items ≡ page_pairs b c.args.root.page) pairs;
     }
 
 pub returns-clause-inserts : goal.returns-clause-inserts
@@ -247,24 +256,26 @@ returns-clause-inserts g c =
     let v0 = pages_of (V c.args.pages.now.store) c.args.pages.now in
     let n = c.index_page_count-count.ensures in
     let vs = pages_of (V c.fetch_super.new.pages.store) c.fetch_super.new.pages in
-    let front = c.in-Ok.front in
+    let front = c.in_ok-front.front in
     let v1 = pages_of (V c.fetch_node.new.pages.store) c.fetch_node.new.pages in
     let small : c.args.key < 2 ^ 64 = omega arith in
-    let looks = looks_next T E false v0 vs v1 c.in-Ok.ensures.looks c.in-Ok-fetch_node.ensures.looks in
-    let still = c.in-Ok.ensures.looks.still refl in
-    let top = c.in-Ok-fetch_node.top in
-    let read = subst (λ (sh : Shape). IsRead sh c.args.root.page c.in-Ok-fetch_node.top.level c.in-Ok-fetch_node.top.pairs.items) c.in-Ok.ensures.looks.shape c.in-Ok-fetch_node.ensures.read in
-    let level = λ (told : IsTrue g.S.EawStore.tells). c.in-Ok-fetch_node.ensures.level told ∙ ap (λ (st : State). level_of st.bytes c.args.root.page) (still.state told) in
-    let pairs = λ (told : IsTrue g.S.EawStore.tells). c.in-Ok-fetch_node.ensures.pairs told ∙ ap (λ (st : State). page_pairs st.bytes c.args.root.page) (still.state told) in
+    let looks = looks_next T E false v0 vs v1 c.in_ok-front.ensures.looks c.in_ok-top.ensures.looks in
+    let still = c.in_ok-front.ensures.looks.still refl in
+    let top = c.in_ok-top.top in
+    let read = subst (λ (sh : Shape). IsRead sh c.args.root.page c.in_ok-top.top.level c.in_ok-top.top.pairs.items) c.in_ok-front.ensures.looks.shape c.in_ok-top.ensures.read in
+    let level = λ (told : IsTrue g.S.EawStore.tells). c.in_ok-top.ensures.level told ∙ ap (λ (st : State). level_of st.bytes c.args.root.page) (still.state told) in
+    let pairs = λ (told : IsTrue g.S.EawStore.tells). c.in_ok-top.ensures.pairs told ∙ ap (λ (st : State). page_pairs st.bytes c.args.root.page) (still.state told) in
     let v2 = pages_of (V c.insert_above.new.pages.store) c.insert_above.new.pages in
-    looked_then T E t root key v0 v1 c.requires.sound c.requires.named small looks c.in-Ok.ensures.cause v2 c.insert_above.result c.insert_above.ensures.inserts
+    looked_then T E t root key v0 v1 c.requires.sound c.requires.named small looks c.in_ok-front.ensures.cause v2 c.insert_above.result c.insert_above.ensures.inserts
 
 pub returns-clause-dead : goal.returns-clause-dead
 returns-clause-dead g c =
     λ told. absurd (c.insert_above.ensures.dead told)
 
-pub returns-in-Err-clause-works : goal.returns-in-Err-clause-works
-returns-in-Err-clause-works g c =
+pub returns-in_err-front-clause-works : goal.returns-in_err-front-clause-works
+returns-in_err-front-clause-works g c =
+    let exit = err_from_is_err_and c.from_residual.result c.from_residual.ensures.1 in
+    rw (exit.1) (
     let T = g.S.EawStore.tells in
     let V = g.S.EawStore.view in
     let E = g.S.EawStore.opens in
@@ -275,9 +286,9 @@ returns-in-Err-clause-works g c =
     let n = c.index_page_count-count.ensures in
     let vs = pages_of (V c.fetch_super.new.pages.store) c.fetch_super.new.pages in
     let some : 0 < page_count (V c.args.pages.now.store).shape = omega (arith, n.some, n.all) in
-    works_left _ (told_left c.in-Err.fault c.index_fault.result c.index_fault.ensures)
-    (subst (λ (f : IndexFault). (let r : Result ℕ IndexFault = Err f in WorksFrom [] (IsTrue T) T (is_done r) V g.S.EawStore.calls t (down root.page key) (insertion_limits (is_some c.args.place) (tree_finding root.page key) v0.store.shape) (tree_actions v0.store.state.bytes root.page key) (blamed_index r) v0.store vs.store)) (sym c.index_fault.ensures)
-    (works_super_err T V g.S.EawStore.calls t key root.page (tree_actions v0.store.state.bytes root.page key) c.args.pages.now.store (insertion_limits (is_some c.args.place) (tree_finding root.page key) v0.store.shape) (once_of (is_some c.args.place) root.page key v0.store.shape) Super (IsSuper 1 v0.store.state.bytes) c.fetch_super.new.pages.store c.in-Err.ensures.reads.0 (page_bytes v0.store.state.bytes 0) c.in-Err.fault some c.in-Err.ensures.cause c.in-Err.ensures.reads.1))
+    works_left _ (told_left c.in_err-front.field-0.0 exit.0 exit.2)
+    (subst (λ (f : IndexFault). (let r : Result ℕ IndexFault = Err f in WorksFrom [] (IsTrue T) T (is_done r) V g.S.EawStore.calls t (down root.page key) (insertion_limits (is_some c.args.place) (tree_finding root.page key) v0.store.shape) (tree_actions v0.store.state.bytes root.page key) (blamed_index r) v0.store vs.store)) (sym exit.2)
+    (works_super_err T V g.S.EawStore.calls t key root.page (tree_actions v0.store.state.bytes root.page key) c.args.pages.now.store (insertion_limits (is_some c.args.place) (tree_finding root.page key) v0.store.shape) (once_of (is_some c.args.place) root.page key v0.store.shape) Super (IsSuper 1 v0.store.state.bytes) c.fetch_super.new.pages.store c.in_err-front.ensures.reads.0 (page_bytes v0.store.state.bytes 0) c.in_err-front.field-0.0 some c.in_err-front.ensures.cause c.in_err-front.ensures.reads.1)))
 
 pub returns-then-not-is_slot_left-clause-works : goal.returns-then-not-is_slot_left-clause-works
 returns-then-not-is_slot_left-clause-works g c =
@@ -291,7 +302,7 @@ returns-then-not-is_slot_left-clause-works g c =
     let n = c.index_page_count-count.ensures in
     let vs = pages_of (V c.fetch_super.new.pages.store) c.fetch_super.new.pages in
     let some : 0 < page_count (V c.args.pages.now.store).shape = omega (arith, n.some, n.all) in
-    works_front_err T V g.S.EawStore.calls t key root.page (tree_actions v0.store.state.bytes root.page key) c.args.pages.now.store (unless_full true (insertion_limits (is_some c.args.place) (tree_finding root.page key) v0.store.shape)) (once_of (is_some c.args.place) root.page key v0.store.shape) c.fetch_super.new.pages.store c.in-Ok.ensures.reads.0 c.in-Ok.ensures.looks.shape c.in-Ok.ensures.reads.1 (index.SlotsFull c.in-Ok.front.next_slot) tt
+    works_front_err T V g.S.EawStore.calls t key root.page (tree_actions v0.store.state.bytes root.page key) c.args.pages.now.store (unless_full true (insertion_limits (is_some c.args.place) (tree_finding root.page key) v0.store.shape)) (once_of (is_some c.args.place) root.page key v0.store.shape) c.fetch_super.new.pages.store c.in_ok-front.ensures.reads.0 c.in_ok-front.ensures.looks.shape c.in_ok-front.ensures.reads.1 (index.SlotsFull c.in_ok-front.front.next_slot) tt
 
 pub returns-then-not-is_index_page-clause-works : goal.returns-then-not-is_index_page-clause-works
 returns-then-not-is_index_page-clause-works g c =
@@ -307,10 +318,12 @@ returns-then-not-is_index_page-clause-works g c =
     let some : 0 < page_count (V c.args.pages.now.store).shape = omega (arith, n.some, n.all) in
     let r : Result ℕ IndexFault = Err (index.Damaged 0) in
     subst (λ (b : Bool). WorksFrom [] (IsTrue T) T (is_done r) V g.S.EawStore.calls t (down root.page key) (insertion_limits b (tree_finding root.page key) v0.store.shape) (tree_actions v0.store.state.bytes root.page key) (blamed_index r) v0.store vs.store) (sym (ap (λ (o : Option LeafPage). is_some o) c.in_default.is))
-    (works_front_err T V g.S.EawStore.calls t key root.page (tree_actions v0.store.state.bytes root.page key) c.args.pages.now.store (insertion_limits false (tree_finding root.page key) v0.store.shape) (omega arith) c.fetch_super.new.pages.store c.in-Ok.ensures.reads.0 c.in-Ok.ensures.looks.shape c.in-Ok.ensures.reads.1 (index.Damaged 0) (some, refl))
+    (works_front_err T V g.S.EawStore.calls t key root.page (tree_actions v0.store.state.bytes root.page key) c.args.pages.now.store (insertion_limits false (tree_finding root.page key) v0.store.shape) (omega arith) c.fetch_super.new.pages.store c.in_ok-front.ensures.reads.0 c.in_ok-front.ensures.looks.shape c.in_ok-front.ensures.reads.1 (index.Damaged 0) (some, refl))
 
-pub returns-in-Err-fetch_node-clause-works : goal.returns-in-Err-fetch_node-clause-works
-returns-in-Err-fetch_node-clause-works g c =
+pub returns-in_err-top-clause-works : goal.returns-in_err-top-clause-works
+returns-in_err-top-clause-works g c =
+    let exit = err_from_is_err_and c.from_residual-in_err-top.result c.from_residual-in_err-top.ensures.1 in
+    rw (exit.1) (
     let T = g.S.EawStore.tells in
     let V = g.S.EawStore.view in
     let E = g.S.EawStore.opens in
@@ -323,11 +336,11 @@ returns-in-Err-fetch_node-clause-works g c =
     let some : 0 < page_count (V c.args.pages.now.store).shape = omega (arith, n.some, n.all) in
     let v1 = pages_of (V c.fetch_node.new.pages.store) c.fetch_node.new.pages in
     let there : c.args.root.page < page_count (V c.args.pages.now.store).shape = omega (arith, (c.if-not-is_index_page.ensures.0 refl).1, n.all) in
-    works_left _ (told_left c.in-Err-fetch_node.fault c.index_fault-in-Err-fetch_node.result c.index_fault-in-Err-fetch_node.ensures)
-    (subst (λ (f : IndexFault). (let r : Result ℕ IndexFault = Err f in WorksFrom [] (IsTrue T) T (is_done r) V g.S.EawStore.calls t (down root.page key) (insertion_limits (is_some c.args.place) (tree_finding root.page key) v0.store.shape) (tree_actions v0.store.state.bytes root.page key) (blamed_index r) v0.store v1.store)) (sym c.index_fault-in-Err-fetch_node.ensures)
-    (let r : Result ℕ IndexFault = Err (as_index c.in-Err-fetch_node.fault) in
+    works_left _ (told_left c.in_err-top.field-0.0 exit.0 exit.2)
+    (subst (λ (f : IndexFault). (let r : Result ℕ IndexFault = Err f in WorksFrom [] (IsTrue T) T (is_done r) V g.S.EawStore.calls t (down root.page key) (insertion_limits (is_some c.args.place) (tree_finding root.page key) v0.store.shape) (tree_actions v0.store.state.bytes root.page key) (blamed_index r) v0.store v1.store)) (sym exit.2)
+    (let r : Result ℕ IndexFault = Err (as_index c.in_err-top.field-0.0) in
     subst (λ (b : Bool). WorksFrom [] (IsTrue T) T (is_done r) V g.S.EawStore.calls t (down root.page key) (insertion_limits b (tree_finding root.page key) v0.store.shape) (tree_actions v0.store.state.bytes root.page key) (blamed_index r) v0.store v1.store) (sym (ap (λ (o : Option LeafPage). is_some o) c.in_default.is))
-    (works_root_err T V g.S.EawStore.calls t key root.page (tree_actions v0.store.state.bytes root.page key) c.args.pages.now.store (insertion_limits false (tree_finding root.page key) v0.store.shape) (omega arith) c.fetch_super.new.pages.store c.in-Ok.ensures.reads.0 c.in-Ok.ensures.looks.shape there c.in-Ok.ensures.reads.1 (omega arith) Node (IsNode (page_bytes vs.store.state.bytes root.page)) c.fetch_node.new.pages.store c.in-Err-fetch_node.ensures.reads.0 (page_bytes vs.store.state.bytes root.page) c.in-Err-fetch_node.fault c.in-Err-fetch_node.ensures.cause c.in-Err-fetch_node.ensures.reads.1)))
+    (works_root_err T V g.S.EawStore.calls t key root.page (tree_actions v0.store.state.bytes root.page key) c.args.pages.now.store (insertion_limits false (tree_finding root.page key) v0.store.shape) (omega arith) c.fetch_super.new.pages.store c.in_ok-front.ensures.reads.0 c.in_ok-front.ensures.looks.shape there c.in_ok-front.ensures.reads.1 (omega arith) Node (IsNode (page_bytes vs.store.state.bytes root.page)) c.fetch_node.new.pages.store c.in_err-top.ensures.reads.0 (page_bytes vs.store.state.bytes root.page) c.in_err-top.field-0.0 c.in_err-top.ensures.cause c.in_err-top.ensures.reads.1))))
 
 pub returns-then-len-lt-PAIRS_MAX-clause-works : goal.returns-then-len-lt-PAIRS_MAX-clause-works
 returns-then-len-lt-PAIRS_MAX-clause-works g c =
@@ -343,20 +356,20 @@ returns-then-len-lt-PAIRS_MAX-clause-works g c =
     let some : 0 < page_count (V c.args.pages.now.store).shape = omega (arith, n.some, n.all) in
     let v1 = pages_of (V c.fetch_node.new.pages.store) c.fetch_node.new.pages in
     let there : c.args.root.page < page_count (V c.args.pages.now.store).shape = omega (arith, (c.if-not-is_index_page.ensures.0 refl).1, n.all) in
-    let top = c.in-Ok-fetch_node.top in
-    let looks = looks_next T E false v0 vs v1 c.in-Ok.ensures.looks c.in-Ok-fetch_node.ensures.looks in
-    let still = c.in-Ok.ensures.looks.still refl in
-    let level = λ (told : IsTrue g.S.EawStore.tells). c.in-Ok-fetch_node.ensures.level told ∙ ap (λ (st : State). level_of st.bytes c.args.root.page) (still.state told) in
-    let pairs = λ (told : IsTrue g.S.EawStore.tells). c.in-Ok-fetch_node.ensures.pairs told ∙ ap (λ (st : State). page_pairs st.bytes c.args.root.page) (still.state told) in
+    let top = c.in_ok-top.top in
+    let looks = looks_next T E false v0 vs v1 c.in_ok-front.ensures.looks c.in_ok-top.ensures.looks in
+    let still = c.in_ok-front.ensures.looks.still refl in
+    let level = λ (told : IsTrue g.S.EawStore.tells). c.in_ok-top.ensures.level told ∙ ap (λ (st : State). level_of st.bytes c.args.root.page) (still.state told) in
+    let pairs = λ (told : IsTrue g.S.EawStore.tells). c.in_ok-top.ensures.pairs told ∙ ap (λ (st : State). page_pairs st.bytes c.args.root.page) (still.state told) in
     let small : c.args.key < 2 ^ 64 = omega arith in
-    let room : length c.in-Ok-fetch_node.top.pairs.items < 30 = room_for c.in-Ok-fetch_node.top.pairs.items c.len.result c.len.ensures.value c.if-len-lt-PAIRS_MAX.true in
+    let room : length c.in_ok-top.top.pairs.items < 30 = room_for c.in_ok-top.top.pairs.items c.len.result c.len.ensures.value c.if-len-lt-PAIRS_MAX.true in
     let v2 = pages_of (V c.insert_below-then-len-lt-PAIRS_MAX.new.pages.store) c.insert_below-then-len-lt-PAIRS_MAX.new.pages in
-    let low : c.in-Ok-fetch_node.top.level ≤ 7 = c.in-Ok-fetch_node.ensures.read.level_most in
+    let low : c.in_ok-top.top.level ≤ 7 = c.in_ok-top.ensures.read.level_most in
     works_left _ (c.insert_below-then-len-lt-PAIRS_MAX.ensures.left)
     (subst (λ (b : Bool). WorksFrom [] (IsTrue T) T (is_done c.insert_below-then-len-lt-PAIRS_MAX.result) V g.S.EawStore.calls t (down root.page key) (insertion_limits b (tree_finding root.page key) v0.store.shape) (tree_actions v0.store.state.bytes root.page key) (blamed_index c.insert_below-then-len-lt-PAIRS_MAX.result) v0.store v2.store) (sym (ap (λ (o : Option LeafPage). is_some o) c.in_default.is))
-    (works_root T V g.S.EawStore.calls t key root.page (tree_actions v0.store.state.bytes root.page key) c.args.pages.now.store (insertion_limits false (tree_finding root.page key) v0.store.shape) (omega arith) c.fetch_super.new.pages.store c.fetch_node.new.pages.store c.in-Ok.ensures.reads.0 c.in-Ok-fetch_node.ensures.reads.0 c.in-Ok.ensures.looks.shape c.in-Ok-fetch_node.ensures.looks.shape there c.in-Ok.ensures.reads.1 c.in-Ok-fetch_node.ensures.reads.1 top.level top.pairs.items c.in-Ok-fetch_node.ensures.reads.2.level c.in-Ok-fetch_node.ensures.reads.2.pairs (limits_below top.level) refl (omega (arith, low)) (omega (arith, low)) (omega (arith, low)) (known_from top.level top.page)
-    (λ p known. root_known (known_two top.level top.page p known) c.in-Ok-fetch_node.ensures.page) (actions_below top.level v1.store.state.bytes top.page top.page 0 key)
-    (room_due T E t root key v0 v1 c.requires.sound c.requires.named small looks c.in-Ok.ensures.cause top.page top.level top.pairs.items c.in-Ok-fetch_node.ensures.page level pairs room) c.insert_below-then-len-lt-PAIRS_MAX.new.pages.store c.insert_below-then-len-lt-PAIRS_MAX.result c.insert_below-then-len-lt-PAIRS_MAX.ensures.works))
+    (works_root T V g.S.EawStore.calls t key root.page (tree_actions v0.store.state.bytes root.page key) c.args.pages.now.store (insertion_limits false (tree_finding root.page key) v0.store.shape) (omega arith) c.fetch_super.new.pages.store c.fetch_node.new.pages.store c.in_ok-front.ensures.reads.0 c.in_ok-top.ensures.reads.0 c.in_ok-front.ensures.looks.shape c.in_ok-top.ensures.looks.shape there c.in_ok-front.ensures.reads.1 c.in_ok-top.ensures.reads.1 top.level top.pairs.items c.in_ok-top.ensures.reads.2.level c.in_ok-top.ensures.reads.2.pairs (limits_below top.level) refl (omega (arith, low)) (omega (arith, low)) (omega (arith, low)) (known_from top.level top.page)
+    (λ p known. root_known (known_two top.level top.page p known) c.in_ok-top.ensures.page) (actions_below top.level v1.store.state.bytes top.page top.page 0 key)
+    (room_due T E t root key v0 v1 c.requires.sound c.requires.named small looks c.in_ok-front.ensures.cause top.page top.level top.pairs.items c.in_ok-top.ensures.page level pairs room) c.insert_below-then-len-lt-PAIRS_MAX.new.pages.store c.insert_below-then-len-lt-PAIRS_MAX.result c.insert_below-then-len-lt-PAIRS_MAX.ensures.works))
 
 pub returns-clause-works : goal.returns-clause-works
 returns-clause-works g c =
@@ -372,17 +385,17 @@ returns-clause-works g c =
     let some : 0 < page_count (V c.args.pages.now.store).shape = omega (arith, n.some, n.all) in
     let v1 = pages_of (V c.fetch_node.new.pages.store) c.fetch_node.new.pages in
     let there : c.args.root.page < page_count (V c.args.pages.now.store).shape = omega (arith, (c.if-not-is_index_page.ensures.0 refl).1, n.all) in
-    let top = c.in-Ok-fetch_node.top in
-    let looks = looks_next T E false v0 vs v1 c.in-Ok.ensures.looks c.in-Ok-fetch_node.ensures.looks in
-    let still = c.in-Ok.ensures.looks.still refl in
-    let level = λ (told : IsTrue g.S.EawStore.tells). c.in-Ok-fetch_node.ensures.level told ∙ ap (λ (st : State). level_of st.bytes c.args.root.page) (still.state told) in
-    let pairs = λ (told : IsTrue g.S.EawStore.tells). c.in-Ok-fetch_node.ensures.pairs told ∙ ap (λ (st : State). page_pairs st.bytes c.args.root.page) (still.state told) in
+    let top = c.in_ok-top.top in
+    let looks = looks_next T E false v0 vs v1 c.in_ok-front.ensures.looks c.in_ok-top.ensures.looks in
+    let still = c.in_ok-front.ensures.looks.still refl in
+    let level = λ (told : IsTrue g.S.EawStore.tells). c.in_ok-top.ensures.level told ∙ ap (λ (st : State). level_of st.bytes c.args.root.page) (still.state told) in
+    let pairs = λ (told : IsTrue g.S.EawStore.tells). c.in_ok-top.ensures.pairs told ∙ ap (λ (st : State). page_pairs st.bytes c.args.root.page) (still.state told) in
     let small : c.args.key < 2 ^ 64 = omega arith in
     let v2 = pages_of (V c.insert_above.new.pages.store) c.insert_above.new.pages in
-    let low : c.in-Ok-fetch_node.top.level ≤ 7 = c.in-Ok-fetch_node.ensures.read.level_most in
+    let low : c.in_ok-top.top.level ≤ 7 = c.in_ok-top.ensures.read.level_most in
     works_left _ (c.insert_above.ensures.left)
     (subst (λ (b : Bool). WorksFrom [] (IsTrue T) T (is_done c.insert_above.result) V g.S.EawStore.calls t (down root.page key) (insertion_limits b (tree_finding root.page key) v0.store.shape) (tree_actions v0.store.state.bytes root.page key) (blamed_index c.insert_above.result) v0.store v2.store) (sym (ap (λ (o : Option LeafPage). is_some o) c.in_default.is))
-    (works_root T V g.S.EawStore.calls t key root.page (tree_actions v0.store.state.bytes root.page key) c.args.pages.now.store (insertion_limits false (tree_finding root.page key) v0.store.shape) (omega arith) c.fetch_super.new.pages.store c.fetch_node.new.pages.store c.in-Ok.ensures.reads.0 c.in-Ok-fetch_node.ensures.reads.0 c.in-Ok.ensures.looks.shape c.in-Ok-fetch_node.ensures.looks.shape there c.in-Ok.ensures.reads.1 c.in-Ok-fetch_node.ensures.reads.1 top.level top.pairs.items c.in-Ok-fetch_node.ensures.reads.2.level c.in-Ok-fetch_node.ensures.reads.2.pairs (limits_above top.level) refl (omega (arith, low)) (omega (arith, low)) (omega (arith, low)) (0 ∷ root.page ∷ [])
+    (works_root T V g.S.EawStore.calls t key root.page (tree_actions v0.store.state.bytes root.page key) c.args.pages.now.store (insertion_limits false (tree_finding root.page key) v0.store.shape) (omega arith) c.fetch_super.new.pages.store c.fetch_node.new.pages.store c.in_ok-front.ensures.reads.0 c.in_ok-top.ensures.reads.0 c.in_ok-front.ensures.looks.shape c.in_ok-top.ensures.looks.shape there c.in_ok-front.ensures.reads.1 c.in_ok-top.ensures.reads.1 top.level top.pairs.items c.in_ok-top.ensures.reads.2.level c.in_ok-top.ensures.reads.2.pairs (limits_above top.level) refl (omega (arith, low)) (omega (arith, low)) (omega (arith, low)) (0 ∷ root.page ∷ [])
     (λ p known. pair_known p root.page known) (tree_actions v1.store.state.bytes root.page key)
     (λ told. ap (λ (st : State). tree_actions st.bytes root.page key) ((looks.still refl).state told)) c.insert_above.new.pages.store c.insert_above.result c.insert_above.ensures.works))
 
@@ -398,14 +411,14 @@ insert_below-requires g c =
     let n = c.index_page_count-count.ensures in
     let vs = pages_of (V c.fetch_super.new.pages.store) c.fetch_super.new.pages in
     let some : 0 < page_count (V c.args.pages.now.store).shape = omega (arith, n.some, n.all) in
-    let looks = c.in-Ok.ensures.looks in
+    let looks = c.in_ok-front.ensures.looks in
     let leaf = c.in-Some.leaf in
     let node = c.node_of.result in
     let made = c.node_of.ensures in
     let place : IsPlaceIn (V c.args.pages.now.store).shape c.in-Some.leaf.page c.in-Some.leaf.pairs.items = subst (λ (o : Option LeafPage). IfSome o (λ l. IsPlaceIn (V c.args.pages.now.store).shape l.page l.pairs.items)) c.in-Some.is c.requires.place in
     let opens = λ (told : IsTrue g.S.EawStore.tells). subst (λ (p : ℕ). IsOpenLeaf (V c.args.pages.now.store).state.bytes c.args.root.page c.args.key p c.node_of.result.pairs.items) (sym c.node_of.ensures.page)
     (subst (λ (ps : List Pair). IsOpenLeaf (V c.args.pages.now.store).state.bytes c.args.root.page c.args.key c.in-Some.leaf.page ps) (sym c.node_of.ensures.pairs)
-    (subst (λ (o : Option LeafPage). IfSome o (λ l. IsOpenLeaf (V c.args.pages.now.store).state.bytes c.args.root.page c.args.key l.page l.pairs.items)) c.in-Some.is (c.requires.fits told c.in-Ok.ensures.cause))) in
+    (subst (λ (o : Option LeafPage). IfSome o (λ l. IsOpenLeaf (V c.args.pages.now.store).state.bytes c.args.root.page c.args.key l.page l.pairs.items)) c.in-Some.is (c.requires.fits told c.in_ok-front.ensures.cause))) in
     let read : IsRead (V c.args.pages.now.store).shape c.node_of.result.page c.node_of.result.level c.node_of.result.pairs.items =
     record {
       some = subst (λ (p : ℕ). 1 ≤ p) (sym c.node_of.ensures.page) place.some;
@@ -418,18 +431,18 @@ insert_below-requires g c =
     record {
       tid = subst (λ (sh : Shape). c.args.tid < sh.numbers) (sym looks.shape) c.requires.tid;
       table = c.requires.table;
-      closed = ap (λ (f : ℕ → Option ℕ). f c.args.tid) c.in-Ok.ensures.looks.tops ∙ c.requires.closed c.in-Ok.ensures.cause;
-      alive = alive_yet T E t root key v0 c.requires.sound c.requires.named vs looks c.in-Ok.ensures.cause;
-      sound = sound_yet T E t root key v0 c.requires.sound c.requires.named vs looks c.in-Ok.ensures.cause;
-      named = named_yet T E t root key v0 c.requires.sound c.requires.named vs looks c.in-Ok.ensures.cause;
-      absent = absent_yet T E t root key v0 c.requires.sound c.requires.named vs looks c.in-Ok.ensures.cause c.requires.absent;
-      front = subst (λ (sh : Shape). IsFront sh c.in-Ok.front) (sym looks.shape) c.in-Ok.ensures.front;
-      slot = λ none. subst (λ (sh : Shape). c.in-Ok.front.next_slot < slots_of sh) (sym looks.shape) ((slot_there v0.store.shape c.index_page_count-count.result c.in-Ok.front n.all c.in-Ok.ensures.front (c.if-not-is_slot_left.ensures.0 refl)) none);
-      says = says_yet T E t root key v0 c.requires.sound c.requires.named vs looks c.in-Ok.ensures.cause c.in-Ok.front c.in-Ok.ensures.says;
+      closed = ap (λ (f : ℕ → Option ℕ). f c.args.tid) c.in_ok-front.ensures.looks.tops ∙ c.requires.closed c.in_ok-front.ensures.cause;
+      alive = alive_yet T E t root key v0 c.requires.sound c.requires.named vs looks c.in_ok-front.ensures.cause;
+      sound = sound_yet T E t root key v0 c.requires.sound c.requires.named vs looks c.in_ok-front.ensures.cause;
+      named = named_yet T E t root key v0 c.requires.sound c.requires.named vs looks c.in_ok-front.ensures.cause;
+      absent = absent_yet T E t root key v0 c.requires.sound c.requires.named vs looks c.in_ok-front.ensures.cause c.requires.absent;
+      front = subst (λ (sh : Shape). IsFront sh c.in_ok-front.front) (sym looks.shape) c.in_ok-front.ensures.front;
+      slot = λ none. subst (λ (sh : Shape). c.in_ok-front.front.next_slot < slots_of sh) (sym looks.shape) ((slot_there v0.store.shape c.index_page_count-count.result c.in_ok-front.front n.all c.in_ok-front.ensures.front (c.if-not-is_slot_left.ensures.0 refl)) none);
+      says = says_yet T E t root key v0 c.requires.sound c.requires.named vs looks c.in_ok-front.ensures.cause c.in_ok-front.front c.in_ok-front.ensures.says;
       read = subst (λ (sh : Shape). IsRead sh c.node_of.result.page c.node_of.result.level c.node_of.result.pairs.items) (sym looks.shape) read;
       some = λ inner. absurd (inner made.level);
       room = subst (λ (ps : List Pair). length ps < 30) (sym made.pairs) place.room;
-      reached = place_reached T E t root key v0 vs c.requires.sound c.requires.named small looks c.in-Ok.ensures.cause node.page node.level node.pairs.items made.level opens;
+      reached = place_reached T E t root key v0 vs c.requires.sound c.requires.named small looks c.in_ok-front.ensures.cause node.page node.level node.pairs.items made.level opens;
     }
 
 pub returns-in-Some-clause-inserts : goal.returns-in-Some-clause-inserts
@@ -448,10 +461,10 @@ returns-in-Some-clause-inserts g c =
     let made = c.node_of.ensures in
     let opens = λ (told : IsTrue g.S.EawStore.tells). subst (λ (p : ℕ). IsOpenLeaf (V c.args.pages.now.store).state.bytes c.args.root.page c.args.key p c.node_of.result.pairs.items) (sym c.node_of.ensures.page)
     (subst (λ (ps : List Pair). IsOpenLeaf (V c.args.pages.now.store).state.bytes c.args.root.page c.args.key c.in-Some.leaf.page ps) (sym c.node_of.ensures.pairs)
-    (subst (λ (o : Option LeafPage). IfSome o (λ l. IsOpenLeaf (V c.args.pages.now.store).state.bytes c.args.root.page c.args.key l.page l.pairs.items)) c.in-Some.is (c.requires.fits told c.in-Ok.ensures.cause))) in
+    (subst (λ (o : Option LeafPage). IfSome o (λ l. IsOpenLeaf (V c.args.pages.now.store).state.bytes c.args.root.page c.args.key l.page l.pairs.items)) c.in-Some.is (c.requires.fits told c.in_ok-front.ensures.cause))) in
     let small : c.args.key < 2 ^ 64 = omega arith in
     let v2 = pages_of (V c.insert_below.new.pages.store) c.insert_below.new.pages in
-    place_then T E t root key v0 vs c.requires.sound c.requires.named small c.in-Ok.ensures.looks c.in-Ok.ensures.cause c.in-Ok.front node.page node.level node.pairs.items made.level c.in-Ok.ensures.says opens v2 c.insert_below.result c.insert_below.ensures.inserts
+    place_then T E t root key v0 vs c.requires.sound c.requires.named small c.in_ok-front.ensures.looks c.in_ok-front.ensures.cause c.in_ok-front.front node.page node.level node.pairs.items made.level c.in_ok-front.ensures.says opens v2 c.insert_below.result c.insert_below.ensures.inserts
 
 pub returns-in-Some-clause-works : goal.returns-in-Some-clause-works
 returns-in-Some-clause-works g c =
@@ -469,27 +482,31 @@ returns-in-Some-clause-works g c =
     let made = c.node_of.ensures in
     let opens = λ (told : IsTrue g.S.EawStore.tells). subst (λ (p : ℕ). IsOpenLeaf (V c.args.pages.now.store).state.bytes c.args.root.page c.args.key p c.node_of.result.pairs.items) (sym c.node_of.ensures.page)
     (subst (λ (ps : List Pair). IsOpenLeaf (V c.args.pages.now.store).state.bytes c.args.root.page c.args.key c.in-Some.leaf.page ps) (sym c.node_of.ensures.pairs)
-    (subst (λ (o : Option LeafPage). IfSome o (λ l. IsOpenLeaf (V c.args.pages.now.store).state.bytes c.args.root.page c.args.key l.page l.pairs.items)) c.in-Some.is (c.requires.fits told c.in-Ok.ensures.cause))) in
+    (subst (λ (o : Option LeafPage). IfSome o (λ l. IsOpenLeaf (V c.args.pages.now.store).state.bytes c.args.root.page c.args.key l.page l.pairs.items)) c.in-Some.is (c.requires.fits told c.in_ok-front.ensures.cause))) in
     let small : c.args.key < 2 ^ 64 = omega arith in
     let v2 = pages_of (V c.insert_below.new.pages.store) c.insert_below.new.pages in
     let works = subst (λ (m : ℕ). WorksFrom (known_from m c.node_of.result.page) (IsTrue g.S.EawStore.tells) g.S.EawStore.tells (is_done c.insert_below.result) g.S.EawStore.view g.S.EawStore.calls c.args.tid (below c.args.key m c.node_of.result.pairs.items) (limits_below m)
     (actions_below m (g.S.EawStore.view c.fetch_super.new.pages.store).state.bytes c.node_of.result.page c.node_of.result.page 0 c.args.key) (blamed_index c.insert_below.result) (g.S.EawStore.view c.fetch_super.new.pages.store) (g.S.EawStore.view c.insert_below.new.pages.store)) c.node_of.ensures.level c.insert_below.ensures.works in
     works_left _ (c.insert_below.ensures.left)
     (subst (λ (b : Bool). WorksFrom [] (IsTrue T) T (is_done c.insert_below.result) V g.S.EawStore.calls t (down root.page key) (insertion_limits b (tree_finding root.page key) v0.store.shape) (tree_actions v0.store.state.bytes root.page key) (blamed_index c.insert_below.result) v0.store v2.store) (sym (ap (λ (o : Option LeafPage). is_some o) c.in-Some.is))
-    (works_placed T V g.S.EawStore.calls t key root.page (tree_actions v0.store.state.bytes root.page key) c.args.pages.now.store (insertion_limits true (tree_finding root.page key) v0.store.shape) (omega arith) c.fetch_super.new.pages.store c.in-Ok.ensures.reads.0 c.in-Ok.ensures.looks.shape c.in-Ok.ensures.reads.1 node.page node.pairs.items (omega arith) (omega arith) (actions_below 0 vs.store.state.bytes node.page node.page 0 key)
-    (place_due T E t root key v0 vs c.requires.sound c.requires.named small c.in-Ok.ensures.looks c.in-Ok.ensures.cause node.page node.pairs.items opens) c.insert_below.new.pages.store c.insert_below.result works))
+    (works_placed T V g.S.EawStore.calls t key root.page (tree_actions v0.store.state.bytes root.page key) c.args.pages.now.store (insertion_limits true (tree_finding root.page key) v0.store.shape) (omega arith) c.fetch_super.new.pages.store c.in_ok-front.ensures.reads.0 c.in_ok-front.ensures.looks.shape c.in_ok-front.ensures.reads.1 node.page node.pairs.items (omega arith) (omega arith) (actions_below 0 vs.store.state.bytes node.page node.page 0 key)
+    (place_due T E t root key v0 vs c.requires.sound c.requires.named small c.in_ok-front.ensures.looks c.in_ok-front.ensures.cause node.page node.pairs.items opens) c.insert_below.new.pages.store c.insert_below.result works))
 
-pub returns-in-Err-clause-full : goal.returns-in-Err-clause-full
-returns-in-Err-clause-full g c = λ full. not_filled _ (told_left c.in-Err.fault c.index_fault.result c.index_fault.ensures) full
+pub returns-in_err-front-clause-full : goal.returns-in_err-front-clause-full
+returns-in_err-front-clause-full g c =
+    let exit = err_from_is_err_and c.from_residual.result c.from_residual.ensures.1 in
+    rw (exit.1) (λ full. not_filled _ (told_left c.in_err-front.field-0.0 exit.0 exit.2) full)
 
 pub returns-then-not-is_slot_left-clause-full : goal.returns-then-not-is_slot_left-clause-full
-returns-then-not-is_slot_left-clause-full g c = λ full. c.in-Ok.ensures.looks
+returns-then-not-is_slot_left-clause-full g c = λ full. c.in_ok-front.ensures.looks
 
 pub returns-then-not-is_index_page-clause-full : goal.returns-then-not-is_index_page-clause-full
 returns-then-not-is_index_page-clause-full g c = λ full. not_filled _ refl full
 
-pub returns-in-Err-fetch_node-clause-full : goal.returns-in-Err-fetch_node-clause-full
-returns-in-Err-fetch_node-clause-full g c = λ full. not_filled _ (told_left c.in-Err-fetch_node.fault c.index_fault-in-Err-fetch_node.result c.index_fault-in-Err-fetch_node.ensures) full
+pub returns-in_err-top-clause-full : goal.returns-in_err-top-clause-full
+returns-in_err-top-clause-full g c =
+    let exit = err_from_is_err_and c.from_residual-in_err-top.result c.from_residual-in_err-top.ensures.1 in
+    rw (exit.1) (λ full. not_filled _ (told_left c.in_err-top.field-0.0 exit.0 exit.2) full)
 
 pub returns-then-len-lt-PAIRS_MAX-clause-full : goal.returns-then-len-lt-PAIRS_MAX-clause-full
 returns-then-len-lt-PAIRS_MAX-clause-full g c = λ full. not_filled _ c.insert_below-then-len-lt-PAIRS_MAX.ensures.left full

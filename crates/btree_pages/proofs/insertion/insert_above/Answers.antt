@@ -34,6 +34,7 @@ use Rattle.btree_pages.proofs.Below.{half_read}
 use Rattle.index_pages.proofs.Faulting.{look_of_index, act_of_index, dead_fault, dead_act, not_full, two_some}
 use Rattle.btree_pages.proofs.Rooted.{below_most, half_some, half_room, read_half, take_err}
 use Rattle.btree_pages.proofs.Whole.{root_high, root_full, grow_err, going3, living3, sound3, named3, absent3, says3, reached3, grown_then, takes_two, root_due, root_leads, root_rest}
+use Rattle.std.proofs.lemmas.Result.{err_from_is_err_and}
 use Rattle.btree_pages.proofs.insertion.insert_above.Goals as goal
 
 pub returns-then-top-eq-LEVEL_MAX-clause-inserts : goal.returns-then-top-eq-LEVEL_MAX-clause-inserts
@@ -105,8 +106,10 @@ take_page-requires g c =
       sound = λ told. free_pages_pass v0.store.state.bytes c.args.front (whole_of v0.store.state.bytes (c.requires.sound told)).pages (c.requires.says told);
     }
 
-pub returns-in-Err-clause-inserts : goal.returns-in-Err-clause-inserts
-returns-in-Err-clause-inserts g c =
+pub returns-in_err-left-clause-inserts : goal.returns-in_err-left-clause-inserts
+returns-in_err-left-clause-inserts g c =
+    let exit = err_from_is_err_and c.from_residual.result c.from_residual.ensures.1 in
+    rw (exit.1) (
     let T = g.S.EawStore.tells in
     let V = g.S.EawStore.view in
     let E = g.S.EawStore.opens in
@@ -121,12 +124,14 @@ returns-in-Err-clause-inserts g c =
     let long = λ (told : IsTrue g.S.EawStore.tells). g.met.S.EawStore.long c.args.pages.now.store told in
     let read = subst (λ (p : ℕ). IsRead (g.S.EawStore.view c.args.pages.now.store).shape p c.args.top.level c.args.top.pairs.items) c.requires.page c.requires.read in
     let v1 = pages_of (V c.take_page.new.pages.store) c.take_page.new.pages in
-    subst (λ (f : IndexFault). (let r : Result ℕ IndexFault = Err f in Inserts T (E v0.store.shape) tree t root.page root.table key v0 v1 r)) (sym c.index_fault.ensures)
-    (take_err T E t root key v0 c.requires.sound v0 (looks_none T (E v0.store.shape) v0) v1 c.in-Err.fault (c.in-Err.ensures.looks, c.in-Err.ensures.cause))
+    subst (λ (f : IndexFault). (let r : Result ℕ IndexFault = Err f in Inserts T (E v0.store.shape) tree t root.page root.table key v0 v1 r)) (sym exit.2)
+    (take_err T E t root key v0 c.requires.sound v0 (looks_none T (E v0.store.shape) v0) v1 c.in_err-left.field-0.0 (c.in_err-left.ensures.looks, c.in_err-left.ensures.cause)))
 
-pub returns-in-Err-clause-dead : goal.returns-in-Err-clause-dead
-returns-in-Err-clause-dead g c =
-    λ told. c.in-Err.ensures.dead (ap Err (dead_fault c.in-Err.fault c.index_fault.result (look_of_index Claim g.S.EawStore.tells (g.S.EawStore.view c.args.pages.now.store) c.in-Err.fault c.in-Err.ensures.cause) c.index_fault.ensures told))
+pub returns-in_err-left-clause-dead : goal.returns-in_err-left-clause-dead
+returns-in_err-left-clause-dead g c =
+    let exit = err_from_is_err_and c.from_residual.result c.from_residual.ensures.1 in
+    rw (exit.1) (
+    λ told. c.in_err-left.ensures.dead (ap Err (dead_fault c.in_err-left.field-0.0 exit.0 (look_of_index Claim g.S.EawStore.tells (g.S.EawStore.view c.args.pages.now.store) c.in_err-left.field-0.0 c.in_err-left.ensures.cause) exit.2 told)))
 
 pub take_page-requires-2 : goal.take_page-requires-2
 take_page-requires-2 g c =
@@ -144,19 +149,21 @@ take_page-requires-2 g c =
     let long = λ (told : IsTrue g.S.EawStore.tells). g.met.S.EawStore.long c.args.pages.now.store told in
     let read = subst (λ (p : ℕ). IsRead (g.S.EawStore.view c.args.pages.now.store).shape p c.args.top.level c.args.top.pairs.items) c.requires.page c.requires.read in
     let v1 = pages_of (V c.take_page.new.pages.store) c.take_page.new.pages in
-    let left = c.in-Ok.left in
+    let left = c.in_ok-left.left in
     let two : 2 ≤ c.args.front.free_pages + (c.index_page_count-count.result - c.args.front.next_page) = c.if-not-are_pages_left.ensures.0 refl in
-    let counts = c.in-Ok.ensures.pages in
+    let counts = c.in_ok-left.ensures.pages in
     record {
-      alive = (c.in-Ok.ensures.looks.still refl).dead ∙ c.requires.alive;
-      front = subst (λ (sh : Shape). IsFront sh c.in-Ok.left.front) (sym c.in-Ok.ensures.looks.shape) c.in-Ok.ensures.front;
-      left = λ none. subst (λ (sh : Shape). c.in-Ok.left.front.next_page < index_pages_of sh) (sym c.in-Ok.ensures.looks.shape) (omega (arith, two, none, n.count, counts, c.requires.front.pages));
-      sound = λ told. subst (λ (st : State). list_check (free_page_of st.bytes) (λ page. page) 2 c.in-Ok.left.front.next_page c.in-Ok.left.front.free_pages c.in-Ok.left.front.free_page 0 None) (sym ((c.in-Ok.ensures.looks.still refl).state told))
-          (next_pass v0.store.state.bytes c.args.front c.in-Ok.left.number c.in-Ok.left.front (whole_of v0.store.state.bytes (c.requires.sound told)).pages (c.requires.says told) (c.in-Ok.ensures.takes told));
+      alive = (c.in_ok-left.ensures.looks.still refl).dead ∙ c.requires.alive;
+      front = subst (λ (sh : Shape). IsFront sh c.in_ok-left.left.front) (sym c.in_ok-left.ensures.looks.shape) c.in_ok-left.ensures.front;
+      left = λ none. subst (λ (sh : Shape). c.in_ok-left.left.front.next_page < index_pages_of sh) (sym c.in_ok-left.ensures.looks.shape) (omega (arith, two, none, n.count, counts, c.requires.front.pages));
+      sound = λ told. subst (λ (st : State). list_check (free_page_of st.bytes) (λ page. page) 2 c.in_ok-left.left.front.next_page c.in_ok-left.left.front.free_pages c.in_ok-left.left.front.free_page 0 None) (sym ((c.in_ok-left.ensures.looks.still refl).state told))
+          (next_pass v0.store.state.bytes c.args.front c.in_ok-left.left.number c.in_ok-left.left.front (whole_of v0.store.state.bytes (c.requires.sound told)).pages (c.requires.says told) (c.in_ok-left.ensures.takes told));
     }
 
-pub returns-in-Err-take_page-clause-inserts : goal.returns-in-Err-take_page-clause-inserts
-returns-in-Err-take_page-clause-inserts g c =
+pub returns-in_err-right-clause-inserts : goal.returns-in_err-right-clause-inserts
+returns-in_err-right-clause-inserts g c =
+    let exit = err_from_is_err_and c.from_residual-in_err-right.result c.from_residual-in_err-right.ensures.1 in
+    rw (exit.1) (
     let T = g.S.EawStore.tells in
     let V = g.S.EawStore.view in
     let E = g.S.EawStore.opens in
@@ -171,14 +178,16 @@ returns-in-Err-take_page-clause-inserts g c =
     let long = λ (told : IsTrue g.S.EawStore.tells). g.met.S.EawStore.long c.args.pages.now.store told in
     let read = subst (λ (p : ℕ). IsRead (g.S.EawStore.view c.args.pages.now.store).shape p c.args.top.level c.args.top.pairs.items) c.requires.page c.requires.read in
     let v1 = pages_of (V c.take_page.new.pages.store) c.take_page.new.pages in
-    let left = c.in-Ok.left in
+    let left = c.in_ok-left.left in
     let v2 = pages_of (V c.take_page-2.new.pages.store) c.take_page-2.new.pages in
-    subst (λ (f : IndexFault). (let r : Result ℕ IndexFault = Err f in Inserts T (E v0.store.shape) tree t root.page root.table key v0 v2 r)) (sym c.index_fault-in-Err-take_page.ensures)
-    (take_err T E t root key v0 c.requires.sound v1 c.in-Ok.ensures.looks v2 c.in-Err-take_page.fault (c.in-Err-take_page.ensures.looks, c.in-Err-take_page.ensures.cause))
+    subst (λ (f : IndexFault). (let r : Result ℕ IndexFault = Err f in Inserts T (E v0.store.shape) tree t root.page root.table key v0 v2 r)) (sym exit.2)
+    (take_err T E t root key v0 c.requires.sound v1 c.in_ok-left.ensures.looks v2 c.in_err-right.field-0.0 (c.in_err-right.ensures.looks, c.in_err-right.ensures.cause)))
 
-pub returns-in-Err-take_page-clause-dead : goal.returns-in-Err-take_page-clause-dead
-returns-in-Err-take_page-clause-dead g c =
-    λ told. c.in-Err-take_page.ensures.dead (ap Err (dead_fault c.in-Err-take_page.fault c.index_fault-in-Err-take_page.result (look_of_index Claim g.S.EawStore.tells (g.S.EawStore.view c.take_page.new.pages.store) c.in-Err-take_page.fault c.in-Err-take_page.ensures.cause) c.index_fault-in-Err-take_page.ensures told))
+pub returns-in_err-right-clause-dead : goal.returns-in_err-right-clause-dead
+returns-in_err-right-clause-dead g c =
+    let exit = err_from_is_err_and c.from_residual-in_err-right.result c.from_residual-in_err-right.ensures.1 in
+    rw (exit.1) (
+    λ told. c.in_err-right.ensures.dead (ap Err (dead_fault c.in_err-right.field-0.0 exit.0 (look_of_index Claim g.S.EawStore.tells (g.S.EawStore.view c.take_page.new.pages.store) c.in_err-right.field-0.0 c.in_err-right.ensures.cause) exit.2 told)))
 
 pub grow_root-requires : goal.grow_root-requires
 grow_root-requires g c =
@@ -196,24 +205,26 @@ grow_root-requires g c =
     let long = λ (told : IsTrue g.S.EawStore.tells). g.met.S.EawStore.long c.args.pages.now.store told in
     let read = subst (λ (p : ℕ). IsRead (g.S.EawStore.view c.args.pages.now.store).shape p c.args.top.level c.args.top.pairs.items) c.requires.page c.requires.read in
     let v1 = pages_of (V c.take_page.new.pages.store) c.take_page.new.pages in
-    let left = c.in-Ok.left in
+    let left = c.in_ok-left.left in
     let v2 = pages_of (V c.take_page-2.new.pages.store) c.take_page-2.new.pages in
-    let right = c.in-Ok-take_page.right in
-    let looks = looks_next T E false v0 v1 v2 c.in-Ok.ensures.looks c.in-Ok-take_page.ensures.looks in
-    let one = λ (told : IsTrue g.S.EawStore.tells). subst (λ (st : State). TakesPage st.bytes c.args.front c.in-Ok.left.number c.in-Ok.left.front) (sym ((c.in-Ok.ensures.looks.still refl).state told) ∙ sym ((c.in-Ok-take_page.ensures.looks.still refl).state told)) (c.in-Ok.ensures.takes told) in
-    let other = λ (told : IsTrue g.S.EawStore.tells). subst (λ (st : State). TakesPage st.bytes c.in-Ok.left.front c.in-Ok-take_page.right.number c.in-Ok-take_page.right.front) (sym ((c.in-Ok-take_page.ensures.looks.still refl).state told)) (c.in-Ok-take_page.ensures.takes told) in
+    let right = c.in_ok-right.right in
+    let looks = looks_next T E false v0 v1 v2 c.in_ok-left.ensures.looks c.in_ok-right.ensures.looks in
+    let one = λ (told : IsTrue g.S.EawStore.tells). subst (λ (st : State). TakesPage st.bytes c.args.front c.in_ok-left.left.number c.in_ok-left.left.front) (sym ((c.in_ok-left.ensures.looks.still refl).state told) ∙ sym ((c.in_ok-right.ensures.looks.still refl).state told)) (c.in_ok-left.ensures.takes told) in
+    let other = λ (told : IsTrue g.S.EawStore.tells). subst (λ (st : State). TakesPage st.bytes c.in_ok-left.left.front c.in_ok-right.right.number c.in_ok-right.right.front) (sym ((c.in_ok-right.ensures.looks.still refl).state told)) (c.in_ok-right.ensures.takes told) in
     record {
       tid = subst (λ (sh : Shape). c.args.tid < sh.numbers) (sym looks.shape) c.requires.tid;
-      closed = λ running. ap (λ (f : ℕ → Option ℕ). f c.args.tid) (c.in-Ok-take_page.ensures.looks.tops ∙ c.in-Ok.ensures.looks.tops) ∙ c.requires.closed;
+      closed = λ running. ap (λ (f : ℕ → Option ℕ). f c.args.tid) (c.in_ok-right.ensures.looks.tops ∙ c.in_ok-left.ensures.looks.tops) ∙ c.requires.closed;
       root = subst (λ (sh : Shape). IsRead sh c.args.top.page c.args.top.level c.args.top.pairs.items) (sym looks.shape) c.requires.read;
       level = below_most c.args.top.level c.if-top-eq-LEVEL_MAX.false c.requires.read.level_most;
       full = c.requires.full;
-      left = subst (λ (sh : Shape). c.in-Ok.left.number < index_pages_of sh) (sym looks.shape) c.in-Ok.ensures.inside.1;
-      right = subst (λ (sh : Shape). c.in-Ok-take_page.right.number < index_pages_of sh) (sym c.in-Ok-take_page.ensures.looks.shape) c.in-Ok-take_page.ensures.inside.1;
+      left = subst (λ (sh : Shape). c.in_ok-left.left.number < index_pages_of sh) (sym looks.shape) c.in_ok-left.ensures.inside.1;
+      right = subst (λ (sh : Shape). c.in_ok-right.right.number < index_pages_of sh) (sym c.in_ok-right.ensures.looks.shape) c.in_ok-right.ensures.inside.1;
     }
 
-pub returns-in-Err-grow_root-clause-inserts : goal.returns-in-Err-grow_root-clause-inserts
-returns-in-Err-grow_root-clause-inserts g c =
+pub returns-in_err-grow_root-clause-inserts : goal.returns-in_err-grow_root-clause-inserts
+returns-in_err-grow_root-clause-inserts g c =
+    let exit = err_from_is_err_and c.from_residual-in_err-grow_root.result c.from_residual-in_err-grow_root.ensures.1 in
+    rw (exit.1) (
     let T = g.S.EawStore.tells in
     let V = g.S.EawStore.view in
     let E = g.S.EawStore.opens in
@@ -228,22 +239,24 @@ returns-in-Err-grow_root-clause-inserts g c =
     let long = λ (told : IsTrue g.S.EawStore.tells). g.met.S.EawStore.long c.args.pages.now.store told in
     let read = subst (λ (p : ℕ). IsRead (g.S.EawStore.view c.args.pages.now.store).shape p c.args.top.level c.args.top.pairs.items) c.requires.page c.requires.read in
     let v1 = pages_of (V c.take_page.new.pages.store) c.take_page.new.pages in
-    let left = c.in-Ok.left in
+    let left = c.in_ok-left.left in
     let v2 = pages_of (V c.take_page-2.new.pages.store) c.take_page-2.new.pages in
-    let right = c.in-Ok-take_page.right in
-    let looks = looks_next T E false v0 v1 v2 c.in-Ok.ensures.looks c.in-Ok-take_page.ensures.looks in
-    let one = λ (told : IsTrue g.S.EawStore.tells). subst (λ (st : State). TakesPage st.bytes c.args.front c.in-Ok.left.number c.in-Ok.left.front) (sym ((c.in-Ok.ensures.looks.still refl).state told) ∙ sym ((c.in-Ok-take_page.ensures.looks.still refl).state told)) (c.in-Ok.ensures.takes told) in
-    let other = λ (told : IsTrue g.S.EawStore.tells). subst (λ (st : State). TakesPage st.bytes c.in-Ok.left.front c.in-Ok-take_page.right.number c.in-Ok-take_page.right.front) (sym ((c.in-Ok-take_page.ensures.looks.still refl).state told)) (c.in-Ok-take_page.ensures.takes told) in
+    let right = c.in_ok-right.right in
+    let looks = looks_next T E false v0 v1 v2 c.in_ok-left.ensures.looks c.in_ok-right.ensures.looks in
+    let one = λ (told : IsTrue g.S.EawStore.tells). subst (λ (st : State). TakesPage st.bytes c.args.front c.in_ok-left.left.number c.in_ok-left.left.front) (sym ((c.in_ok-left.ensures.looks.still refl).state told) ∙ sym ((c.in_ok-right.ensures.looks.still refl).state told)) (c.in_ok-left.ensures.takes told) in
+    let other = λ (told : IsTrue g.S.EawStore.tells). subst (λ (st : State). TakesPage st.bytes c.in_ok-left.left.front c.in_ok-right.right.number c.in_ok-right.right.front) (sym ((c.in_ok-right.ensures.looks.still refl).state told)) (c.in_ok-right.ensures.takes told) in
     let v3 = pages_of (V c.grow_root.new.pages.store) c.grow_root.new.pages in
-    let acts = λ (r : Result (Unit {0}) PageFault) (a : Acts g.S.EawStore.tells (g.S.EawStore.opens (g.S.EawStore.view c.take_page-2.new.pages.store).shape) c.args.tid (growing_pages c.in-Ok.left.number c.in-Ok-take_page.right.number c.args.top.page) (growing_parts c.in-Ok-take_page.right.front c.in-Ok.left.number c.in-Ok-take_page.right.number c.args.top.page c.args.top.level c.args.top.pairs.items)
+    let acts = λ (r : Result (Unit {0}) PageFault) (a : Acts g.S.EawStore.tells (g.S.EawStore.opens (g.S.EawStore.view c.take_page-2.new.pages.store).shape) c.args.tid (growing_pages c.in_ok-left.left.number c.in_ok-right.right.number c.args.top.page) (growing_parts c.in_ok-right.right.front c.in_ok-left.left.number c.in_ok-right.right.number c.args.top.page c.args.top.level c.args.top.pairs.items)
     (pages_of (g.S.EawStore.view c.take_page-2.new.pages.store) c.take_page-2.new.pages) (pages_of (g.S.EawStore.view c.grow_root.new.pages.store) c.grow_root.new.pages) r).
-    subst (λ (p : ℕ). Acts g.S.EawStore.tells (g.S.EawStore.opens (g.S.EawStore.view c.take_page-2.new.pages.store).shape) c.args.tid (growing_pages c.in-Ok.left.number c.in-Ok-take_page.right.number p) (growing_parts c.in-Ok-take_page.right.front c.in-Ok.left.number c.in-Ok-take_page.right.number p c.args.top.level c.args.top.pairs.items)
+    subst (λ (p : ℕ). Acts g.S.EawStore.tells (g.S.EawStore.opens (g.S.EawStore.view c.take_page-2.new.pages.store).shape) c.args.tid (growing_pages c.in_ok-left.left.number c.in_ok-right.right.number p) (growing_parts c.in_ok-right.right.front c.in_ok-left.left.number c.in_ok-right.right.number p c.args.top.level c.args.top.pairs.items)
     (pages_of (g.S.EawStore.view c.take_page-2.new.pages.store) c.take_page-2.new.pages) (pages_of (g.S.EawStore.view c.grow_root.new.pages.store) c.grow_root.new.pages) r) c.requires.page a in
-    subst (λ (f : IndexFault). (let r : Result ℕ IndexFault = Err f in Inserts T (E v0.store.shape) tree t root.page root.table key v0 v3 r)) (sym c.index_fault-in-Err-grow_root.ensures)
-    (grow_err T E t root key v0 c.index_page_count-count.result n.count n.all n.most n.some small c.requires.sound c.requires.named c.requires.absent long c.requires.alive front c.requires.front c.requires.slot c.requires.says top.level top.pairs.items read c.requires.level c.requires.pairs c.requires.full c.if-top-eq-LEVEL_MAX.false (c.if-not-are_pages_left.ensures.0 refl) v2 looks left.number right.number left.front right.front one other v3 c.in-Err-grow_root.fault (acts (Err c.in-Err-grow_root.fault) c.in-Err-grow_root.ensures.acts))
+    subst (λ (f : IndexFault). (let r : Result ℕ IndexFault = Err f in Inserts T (E v0.store.shape) tree t root.page root.table key v0 v3 r)) (sym exit.2)
+    (grow_err T E t root key v0 c.index_page_count-count.result n.count n.all n.most n.some small c.requires.sound c.requires.named c.requires.absent long c.requires.alive front c.requires.front c.requires.slot c.requires.says top.level top.pairs.items read c.requires.level c.requires.pairs c.requires.full c.if-top-eq-LEVEL_MAX.false (c.if-not-are_pages_left.ensures.0 refl) v2 looks left.number right.number left.front right.front one other v3 c.in_err-grow_root.field-0.0 (acts (Err c.in_err-grow_root.field-0.0) c.in_err-grow_root.ensures.acts)))
 
-pub returns-in-Err-grow_root-clause-dead : goal.returns-in-Err-grow_root-clause-dead
-returns-in-Err-grow_root-clause-dead g c =
+pub returns-in_err-grow_root-clause-dead : goal.returns-in_err-grow_root-clause-dead
+returns-in_err-grow_root-clause-dead g c =
+    let exit = err_from_is_err_and c.from_residual-in_err-grow_root.result c.from_residual-in_err-grow_root.ensures.1 in
+    rw (exit.1) (
     let T = g.S.EawStore.tells in
     let V = g.S.EawStore.view in
     let E = g.S.EawStore.opens in
@@ -258,15 +271,15 @@ returns-in-Err-grow_root-clause-dead g c =
     let long = λ (told : IsTrue g.S.EawStore.tells). g.met.S.EawStore.long c.args.pages.now.store told in
     let read = subst (λ (p : ℕ). IsRead (g.S.EawStore.view c.args.pages.now.store).shape p c.args.top.level c.args.top.pairs.items) c.requires.page c.requires.read in
     let v1 = pages_of (V c.take_page.new.pages.store) c.take_page.new.pages in
-    let left = c.in-Ok.left in
+    let left = c.in_ok-left.left in
     let v2 = pages_of (V c.take_page-2.new.pages.store) c.take_page-2.new.pages in
-    let right = c.in-Ok-take_page.right in
-    let looks = looks_next T E false v0 v1 v2 c.in-Ok.ensures.looks c.in-Ok-take_page.ensures.looks in
-    let one = λ (told : IsTrue g.S.EawStore.tells). subst (λ (st : State). TakesPage st.bytes c.args.front c.in-Ok.left.number c.in-Ok.left.front) (sym ((c.in-Ok.ensures.looks.still refl).state told) ∙ sym ((c.in-Ok-take_page.ensures.looks.still refl).state told)) (c.in-Ok.ensures.takes told) in
-    let other = λ (told : IsTrue g.S.EawStore.tells). subst (λ (st : State). TakesPage st.bytes c.in-Ok.left.front c.in-Ok-take_page.right.number c.in-Ok-take_page.right.front) (sym ((c.in-Ok-take_page.ensures.looks.still refl).state told)) (c.in-Ok-take_page.ensures.takes told) in
-    let ps = growing_pages c.in-Ok.left.number c.in-Ok-take_page.right.number c.args.top.page in
-    λ told. dead_act v2.store t ps c.in-Err-grow_root.fault ((looks.still refl).dead ∙ c.requires.alive)
-    (dead_fault c.in-Err-grow_root.fault c.index_fault-in-Err-grow_root.result (act_of_index v2.store t ps c.in-Err-grow_root.fault c.in-Err-grow_root.ensures.acts.cause) c.index_fault-in-Err-grow_root.ensures told) c.in-Err-grow_root.ensures.acts.cause
+    let right = c.in_ok-right.right in
+    let looks = looks_next T E false v0 v1 v2 c.in_ok-left.ensures.looks c.in_ok-right.ensures.looks in
+    let one = λ (told : IsTrue g.S.EawStore.tells). subst (λ (st : State). TakesPage st.bytes c.args.front c.in_ok-left.left.number c.in_ok-left.left.front) (sym ((c.in_ok-left.ensures.looks.still refl).state told) ∙ sym ((c.in_ok-right.ensures.looks.still refl).state told)) (c.in_ok-left.ensures.takes told) in
+    let other = λ (told : IsTrue g.S.EawStore.tells). subst (λ (st : State). TakesPage st.bytes c.in_ok-left.left.front c.in_ok-right.right.number c.in_ok-right.right.front) (sym ((c.in_ok-right.ensures.looks.still refl).state told)) (c.in_ok-right.ensures.takes told) in
+    let ps = growing_pages c.in_ok-left.left.number c.in_ok-right.right.number c.args.top.page in
+    λ told. dead_act v2.store t ps c.in_err-grow_root.field-0.0 ((looks.still refl).dead ∙ c.requires.alive)
+    (dead_fault c.in_err-grow_root.field-0.0 exit.0 (act_of_index v2.store t ps c.in_err-grow_root.field-0.0 c.in_err-grow_root.ensures.acts.cause) exit.2 told) c.in_err-grow_root.ensures.acts.cause)
 
 pub half_of-half-requires : goal.half_of-half-requires
 half_of-half-requires g c =
@@ -288,40 +301,40 @@ insert_below-requires g c =
     let long = λ (told : IsTrue g.S.EawStore.tells). g.met.S.EawStore.long c.args.pages.now.store told in
     let read = subst (λ (p : ℕ). IsRead (g.S.EawStore.view c.args.pages.now.store).shape p c.args.top.level c.args.top.pairs.items) c.requires.page c.requires.read in
     let v1 = pages_of (V c.take_page.new.pages.store) c.take_page.new.pages in
-    let left = c.in-Ok.left in
+    let left = c.in_ok-left.left in
     let v2 = pages_of (V c.take_page-2.new.pages.store) c.take_page-2.new.pages in
-    let right = c.in-Ok-take_page.right in
-    let looks = looks_next T E false v0 v1 v2 c.in-Ok.ensures.looks c.in-Ok-take_page.ensures.looks in
-    let one = λ (told : IsTrue g.S.EawStore.tells). subst (λ (st : State). TakesPage st.bytes c.args.front c.in-Ok.left.number c.in-Ok.left.front) (sym ((c.in-Ok.ensures.looks.still refl).state told) ∙ sym ((c.in-Ok-take_page.ensures.looks.still refl).state told)) (c.in-Ok.ensures.takes told) in
-    let other = λ (told : IsTrue g.S.EawStore.tells). subst (λ (st : State). TakesPage st.bytes c.in-Ok.left.front c.in-Ok-take_page.right.number c.in-Ok-take_page.right.front) (sym ((c.in-Ok-take_page.ensures.looks.still refl).state told)) (c.in-Ok-take_page.ensures.takes told) in
+    let right = c.in_ok-right.right in
+    let looks = looks_next T E false v0 v1 v2 c.in_ok-left.ensures.looks c.in_ok-right.ensures.looks in
+    let one = λ (told : IsTrue g.S.EawStore.tells). subst (λ (st : State). TakesPage st.bytes c.args.front c.in_ok-left.left.number c.in_ok-left.left.front) (sym ((c.in_ok-left.ensures.looks.still refl).state told) ∙ sym ((c.in_ok-right.ensures.looks.still refl).state told)) (c.in_ok-left.ensures.takes told) in
+    let other = λ (told : IsTrue g.S.EawStore.tells). subst (λ (st : State). TakesPage st.bytes c.in_ok-left.left.front c.in_ok-right.right.number c.in_ok-right.right.front) (sym ((c.in_ok-right.ensures.looks.still refl).state told)) (c.in_ok-right.ensures.takes told) in
     let v3 = pages_of (V c.grow_root.new.pages.store) c.grow_root.new.pages in
-    let acts = λ (r : Result (Unit {0}) PageFault) (a : Acts g.S.EawStore.tells (g.S.EawStore.opens (g.S.EawStore.view c.take_page-2.new.pages.store).shape) c.args.tid (growing_pages c.in-Ok.left.number c.in-Ok-take_page.right.number c.args.top.page) (growing_parts c.in-Ok-take_page.right.front c.in-Ok.left.number c.in-Ok-take_page.right.number c.args.top.page c.args.top.level c.args.top.pairs.items)
+    let acts = λ (r : Result (Unit {0}) PageFault) (a : Acts g.S.EawStore.tells (g.S.EawStore.opens (g.S.EawStore.view c.take_page-2.new.pages.store).shape) c.args.tid (growing_pages c.in_ok-left.left.number c.in_ok-right.right.number c.args.top.page) (growing_parts c.in_ok-right.right.front c.in_ok-left.left.number c.in_ok-right.right.number c.args.top.page c.args.top.level c.args.top.pairs.items)
     (pages_of (g.S.EawStore.view c.take_page-2.new.pages.store) c.take_page-2.new.pages) (pages_of (g.S.EawStore.view c.grow_root.new.pages.store) c.grow_root.new.pages) r).
-    subst (λ (p : ℕ). Acts g.S.EawStore.tells (g.S.EawStore.opens (g.S.EawStore.view c.take_page-2.new.pages.store).shape) c.args.tid (growing_pages c.in-Ok.left.number c.in-Ok-take_page.right.number p) (growing_parts c.in-Ok-take_page.right.front c.in-Ok.left.number c.in-Ok-take_page.right.number p c.args.top.level c.args.top.pairs.items)
+    subst (λ (p : ℕ). Acts g.S.EawStore.tells (g.S.EawStore.opens (g.S.EawStore.view c.take_page-2.new.pages.store).shape) c.args.tid (growing_pages c.in_ok-left.left.number c.in_ok-right.right.number p) (growing_parts c.in_ok-right.right.front c.in_ok-left.left.number c.in_ok-right.right.number p c.args.top.level c.args.top.pairs.items)
     (pages_of (g.S.EawStore.view c.take_page-2.new.pages.store) c.take_page-2.new.pages) (pages_of (g.S.EawStore.view c.grow_root.new.pages.store) c.grow_root.new.pages) r) c.requires.page a in
     let half = c.half_of-half in
-    let shape3 = c.in-Ok-grow_root.ensures.acts.shape ∙ looks.shape in
-    let left_in = c.in-Ok.ensures.inside in
-    let right_in = subst (λ (sh : Shape). c.in-Ok-take_page.right.number < index_pages_of sh) c.in-Ok.ensures.looks.shape c.in-Ok-take_page.ensures.inside.1 in
-    let half_is = half_read v0.store.shape top.pairs.items left.number right.number key half.result.page half.result.pairs.items c.requires.full read.small (two_some left.number left_in.0) left_in.1 (two_some right.number c.in-Ok-take_page.ensures.inside.0) right_in half.ensures.page half.ensures.pairs in
-    let slots = c.in-Ok.ensures.slots in
-    let slots2 = c.in-Ok-take_page.ensures.slots in
+    let shape3 = c.in_ok-grow_root.ensures.acts.shape ∙ looks.shape in
+    let left_in = c.in_ok-left.ensures.inside in
+    let right_in = subst (λ (sh : Shape). c.in_ok-right.right.number < index_pages_of sh) c.in_ok-left.ensures.looks.shape c.in_ok-right.ensures.inside.1 in
+    let half_is = half_read v0.store.shape top.pairs.items left.number right.number key half.result.page half.result.pairs.items c.requires.full read.small (two_some left.number left_in.0) left_in.1 (two_some right.number c.in_ok-right.ensures.inside.0) right_in half.ensures.page half.ensures.pairs in
+    let slots = c.in_ok-left.ensures.slots in
+    let slots2 = c.in_ok-right.ensures.slots in
     record {
       tid = subst (λ (sh : Shape). c.args.tid < sh.numbers) (sym shape3) c.requires.tid;
       table = c.requires.table;
-      closed = ap (λ (f : ℕ → Option ℕ). f c.args.tid) (going3 T E t root key v0 c.index_page_count-count.result n.count n.all n.most n.some small c.requires.sound c.requires.named c.requires.absent long c.requires.alive front c.requires.front c.requires.slot c.requires.says top.level top.pairs.items read c.requires.level c.requires.pairs c.requires.full c.if-top-eq-LEVEL_MAX.false (c.if-not-are_pages_left.ensures.0 refl) v2 looks left.number right.number left.front right.front one other v3 (acts (Ok tt) c.in-Ok-grow_root.ensures.acts)).logs.tops ∙ c.requires.closed;
-      alive = living3 T E t root key v0 c.index_page_count-count.result n.count n.all n.most n.some small c.requires.sound c.requires.named c.requires.absent long c.requires.alive front c.requires.front c.requires.slot c.requires.says top.level top.pairs.items read c.requires.level c.requires.pairs c.requires.full c.if-top-eq-LEVEL_MAX.false (c.if-not-are_pages_left.ensures.0 refl) v2 looks left.number right.number left.front right.front one other v3 (acts (Ok tt) c.in-Ok-grow_root.ensures.acts);
-      sound = sound3 T E t root key v0 c.index_page_count-count.result n.count n.all n.most n.some small c.requires.sound c.requires.named c.requires.absent long c.requires.alive front c.requires.front c.requires.slot c.requires.says top.level top.pairs.items read c.requires.level c.requires.pairs c.requires.full c.if-top-eq-LEVEL_MAX.false (c.if-not-are_pages_left.ensures.0 refl) v2 looks left.number right.number left.front right.front one other v3 (acts (Ok tt) c.in-Ok-grow_root.ensures.acts);
-      named = named3 T E t root key v0 c.index_page_count-count.result n.count n.all n.most n.some small c.requires.sound c.requires.named c.requires.absent long c.requires.alive front c.requires.front c.requires.slot c.requires.says top.level top.pairs.items read c.requires.level c.requires.pairs c.requires.full c.if-top-eq-LEVEL_MAX.false (c.if-not-are_pages_left.ensures.0 refl) v2 looks left.number right.number left.front right.front one other v3 (acts (Ok tt) c.in-Ok-grow_root.ensures.acts);
-      absent = absent3 T E t root key v0 c.index_page_count-count.result n.count n.all n.most n.some small c.requires.sound c.requires.named c.requires.absent long c.requires.alive front c.requires.front c.requires.slot c.requires.says top.level top.pairs.items read c.requires.level c.requires.pairs c.requires.full c.if-top-eq-LEVEL_MAX.false (c.if-not-are_pages_left.ensures.0 refl) v2 looks left.number right.number left.front right.front one other v3 (acts (Ok tt) c.in-Ok-grow_root.ensures.acts);
-      front = subst (λ (sh : Shape). IsFront sh c.in-Ok-take_page.right.front) (sym (c.in-Ok-grow_root.ensures.acts.shape ∙ c.in-Ok-take_page.ensures.looks.shape)) c.in-Ok-take_page.ensures.front;
-      slot = λ none. subst (λ (sh : Shape). c.in-Ok-take_page.right.front.next_slot < slots_of sh) (sym shape3)
+      closed = ap (λ (f : ℕ → Option ℕ). f c.args.tid) (going3 T E t root key v0 c.index_page_count-count.result n.count n.all n.most n.some small c.requires.sound c.requires.named c.requires.absent long c.requires.alive front c.requires.front c.requires.slot c.requires.says top.level top.pairs.items read c.requires.level c.requires.pairs c.requires.full c.if-top-eq-LEVEL_MAX.false (c.if-not-are_pages_left.ensures.0 refl) v2 looks left.number right.number left.front right.front one other v3 (acts (Ok tt) c.in_ok-grow_root.ensures.acts)).logs.tops ∙ c.requires.closed;
+      alive = living3 T E t root key v0 c.index_page_count-count.result n.count n.all n.most n.some small c.requires.sound c.requires.named c.requires.absent long c.requires.alive front c.requires.front c.requires.slot c.requires.says top.level top.pairs.items read c.requires.level c.requires.pairs c.requires.full c.if-top-eq-LEVEL_MAX.false (c.if-not-are_pages_left.ensures.0 refl) v2 looks left.number right.number left.front right.front one other v3 (acts (Ok tt) c.in_ok-grow_root.ensures.acts);
+      sound = sound3 T E t root key v0 c.index_page_count-count.result n.count n.all n.most n.some small c.requires.sound c.requires.named c.requires.absent long c.requires.alive front c.requires.front c.requires.slot c.requires.says top.level top.pairs.items read c.requires.level c.requires.pairs c.requires.full c.if-top-eq-LEVEL_MAX.false (c.if-not-are_pages_left.ensures.0 refl) v2 looks left.number right.number left.front right.front one other v3 (acts (Ok tt) c.in_ok-grow_root.ensures.acts);
+      named = named3 T E t root key v0 c.index_page_count-count.result n.count n.all n.most n.some small c.requires.sound c.requires.named c.requires.absent long c.requires.alive front c.requires.front c.requires.slot c.requires.says top.level top.pairs.items read c.requires.level c.requires.pairs c.requires.full c.if-top-eq-LEVEL_MAX.false (c.if-not-are_pages_left.ensures.0 refl) v2 looks left.number right.number left.front right.front one other v3 (acts (Ok tt) c.in_ok-grow_root.ensures.acts);
+      absent = absent3 T E t root key v0 c.index_page_count-count.result n.count n.all n.most n.some small c.requires.sound c.requires.named c.requires.absent long c.requires.alive front c.requires.front c.requires.slot c.requires.says top.level top.pairs.items read c.requires.level c.requires.pairs c.requires.full c.if-top-eq-LEVEL_MAX.false (c.if-not-are_pages_left.ensures.0 refl) v2 looks left.number right.number left.front right.front one other v3 (acts (Ok tt) c.in_ok-grow_root.ensures.acts);
+      front = subst (λ (sh : Shape). IsFront sh c.in_ok-right.right.front) (sym (c.in_ok-grow_root.ensures.acts.shape ∙ c.in_ok-right.ensures.looks.shape)) c.in_ok-right.ensures.front;
+      slot = λ none. subst (λ (sh : Shape). c.in_ok-right.right.front.next_slot < slots_of sh) (sym shape3)
           (subst (λ (k : ℕ). k < slots_of (g.S.EawStore.view c.args.pages.now.store).shape) (sym (slots2.0 ∙ slots.0)) (c.requires.slot (sym (slots2.1 ∙ slots.1) ∙ none)));
-      says = says3 T E t root key v0 c.index_page_count-count.result n.count n.all n.most n.some small c.requires.sound c.requires.named c.requires.absent long c.requires.alive front c.requires.front c.requires.slot c.requires.says top.level top.pairs.items read c.requires.level c.requires.pairs c.requires.full c.if-top-eq-LEVEL_MAX.false (c.if-not-are_pages_left.ensures.0 refl) v2 looks left.number right.number left.front right.front one other v3 (acts (Ok tt) c.in-Ok-grow_root.ensures.acts);
+      says = says3 T E t root key v0 c.index_page_count-count.result n.count n.all n.most n.some small c.requires.sound c.requires.named c.requires.absent long c.requires.alive front c.requires.front c.requires.slot c.requires.says top.level top.pairs.items read c.requires.level c.requires.pairs c.requires.full c.if-top-eq-LEVEL_MAX.false (c.if-not-are_pages_left.ensures.0 refl) v2 looks left.number right.number left.front right.front one other v3 (acts (Ok tt) c.in_ok-grow_root.ensures.acts);
       read = subst (λ (sh : Shape). IsRead sh half.result.page half.result.level half.result.pairs.items) (sym shape3) (read_half v0.store.shape top.level root.page half.result.page half.result.level top.pairs.items half.result.pairs.items read half_is half.ensures.level);
       some = λ inner. half_some half.result.pairs.items half_is.many;
       room = half_room half.result.pairs.items half_is.many;
-      reached = reached3 T E t root key v0 c.index_page_count-count.result n.count n.all n.most n.some small c.requires.sound c.requires.named c.requires.absent long c.requires.alive front c.requires.front c.requires.slot c.requires.says top.level top.pairs.items read c.requires.level c.requires.pairs c.requires.full c.if-top-eq-LEVEL_MAX.false (c.if-not-are_pages_left.ensures.0 refl) v2 looks left.number right.number left.front right.front one other v3 (acts (Ok tt) c.in-Ok-grow_root.ensures.acts) half.result.page half.result.pairs.items half.ensures.page half.ensures.pairs half.result.level half.ensures.level;
+      reached = reached3 T E t root key v0 c.index_page_count-count.result n.count n.all n.most n.some small c.requires.sound c.requires.named c.requires.absent long c.requires.alive front c.requires.front c.requires.slot c.requires.says top.level top.pairs.items read c.requires.level c.requires.pairs c.requires.full c.if-top-eq-LEVEL_MAX.false (c.if-not-are_pages_left.ensures.0 refl) v2 looks left.number right.number left.front right.front one other v3 (acts (Ok tt) c.in_ok-grow_root.ensures.acts) half.result.page half.result.pairs.items half.ensures.page half.ensures.pairs half.result.level half.ensures.level;
     }
 
 pub returns-clause-inserts : goal.returns-clause-inserts
@@ -340,20 +353,20 @@ returns-clause-inserts g c =
     let long = λ (told : IsTrue g.S.EawStore.tells). g.met.S.EawStore.long c.args.pages.now.store told in
     let read = subst (λ (p : ℕ). IsRead (g.S.EawStore.view c.args.pages.now.store).shape p c.args.top.level c.args.top.pairs.items) c.requires.page c.requires.read in
     let v1 = pages_of (V c.take_page.new.pages.store) c.take_page.new.pages in
-    let left = c.in-Ok.left in
+    let left = c.in_ok-left.left in
     let v2 = pages_of (V c.take_page-2.new.pages.store) c.take_page-2.new.pages in
-    let right = c.in-Ok-take_page.right in
-    let looks = looks_next T E false v0 v1 v2 c.in-Ok.ensures.looks c.in-Ok-take_page.ensures.looks in
-    let one = λ (told : IsTrue g.S.EawStore.tells). subst (λ (st : State). TakesPage st.bytes c.args.front c.in-Ok.left.number c.in-Ok.left.front) (sym ((c.in-Ok.ensures.looks.still refl).state told) ∙ sym ((c.in-Ok-take_page.ensures.looks.still refl).state told)) (c.in-Ok.ensures.takes told) in
-    let other = λ (told : IsTrue g.S.EawStore.tells). subst (λ (st : State). TakesPage st.bytes c.in-Ok.left.front c.in-Ok-take_page.right.number c.in-Ok-take_page.right.front) (sym ((c.in-Ok-take_page.ensures.looks.still refl).state told)) (c.in-Ok-take_page.ensures.takes told) in
+    let right = c.in_ok-right.right in
+    let looks = looks_next T E false v0 v1 v2 c.in_ok-left.ensures.looks c.in_ok-right.ensures.looks in
+    let one = λ (told : IsTrue g.S.EawStore.tells). subst (λ (st : State). TakesPage st.bytes c.args.front c.in_ok-left.left.number c.in_ok-left.left.front) (sym ((c.in_ok-left.ensures.looks.still refl).state told) ∙ sym ((c.in_ok-right.ensures.looks.still refl).state told)) (c.in_ok-left.ensures.takes told) in
+    let other = λ (told : IsTrue g.S.EawStore.tells). subst (λ (st : State). TakesPage st.bytes c.in_ok-left.left.front c.in_ok-right.right.number c.in_ok-right.right.front) (sym ((c.in_ok-right.ensures.looks.still refl).state told)) (c.in_ok-right.ensures.takes told) in
     let v3 = pages_of (V c.grow_root.new.pages.store) c.grow_root.new.pages in
-    let acts = λ (r : Result (Unit {0}) PageFault) (a : Acts g.S.EawStore.tells (g.S.EawStore.opens (g.S.EawStore.view c.take_page-2.new.pages.store).shape) c.args.tid (growing_pages c.in-Ok.left.number c.in-Ok-take_page.right.number c.args.top.page) (growing_parts c.in-Ok-take_page.right.front c.in-Ok.left.number c.in-Ok-take_page.right.number c.args.top.page c.args.top.level c.args.top.pairs.items)
+    let acts = λ (r : Result (Unit {0}) PageFault) (a : Acts g.S.EawStore.tells (g.S.EawStore.opens (g.S.EawStore.view c.take_page-2.new.pages.store).shape) c.args.tid (growing_pages c.in_ok-left.left.number c.in_ok-right.right.number c.args.top.page) (growing_parts c.in_ok-right.right.front c.in_ok-left.left.number c.in_ok-right.right.number c.args.top.page c.args.top.level c.args.top.pairs.items)
     (pages_of (g.S.EawStore.view c.take_page-2.new.pages.store) c.take_page-2.new.pages) (pages_of (g.S.EawStore.view c.grow_root.new.pages.store) c.grow_root.new.pages) r).
-    subst (λ (p : ℕ). Acts g.S.EawStore.tells (g.S.EawStore.opens (g.S.EawStore.view c.take_page-2.new.pages.store).shape) c.args.tid (growing_pages c.in-Ok.left.number c.in-Ok-take_page.right.number p) (growing_parts c.in-Ok-take_page.right.front c.in-Ok.left.number c.in-Ok-take_page.right.number p c.args.top.level c.args.top.pairs.items)
+    subst (λ (p : ℕ). Acts g.S.EawStore.tells (g.S.EawStore.opens (g.S.EawStore.view c.take_page-2.new.pages.store).shape) c.args.tid (growing_pages c.in_ok-left.left.number c.in_ok-right.right.number p) (growing_parts c.in_ok-right.right.front c.in_ok-left.left.number c.in_ok-right.right.number p c.args.top.level c.args.top.pairs.items)
     (pages_of (g.S.EawStore.view c.take_page-2.new.pages.store) c.take_page-2.new.pages) (pages_of (g.S.EawStore.view c.grow_root.new.pages.store) c.grow_root.new.pages) r) c.requires.page a in
     let half = c.half_of-half in
     let v4 = pages_of (V c.insert_below.new.pages.store) c.insert_below.new.pages in
-    grown_then T E t root key v0 c.index_page_count-count.result n.count n.all n.most n.some small c.requires.sound c.requires.named c.requires.absent long c.requires.alive front c.requires.front c.requires.slot c.requires.says top.level top.pairs.items read c.requires.level c.requires.pairs c.requires.full c.if-top-eq-LEVEL_MAX.false (c.if-not-are_pages_left.ensures.0 refl) v2 looks left.number right.number left.front right.front one other v3 (acts (Ok tt) c.in-Ok-grow_root.ensures.acts) half.result.page half.result.pairs.items half.ensures.page half.ensures.pairs half.result.level half.ensures.level v4 c.insert_below.result c.insert_below.ensures.inserts
+    grown_then T E t root key v0 c.index_page_count-count.result n.count n.all n.most n.some small c.requires.sound c.requires.named c.requires.absent long c.requires.alive front c.requires.front c.requires.slot c.requires.says top.level top.pairs.items read c.requires.level c.requires.pairs c.requires.full c.if-top-eq-LEVEL_MAX.false (c.if-not-are_pages_left.ensures.0 refl) v2 looks left.number right.number left.front right.front one other v3 (acts (Ok tt) c.in_ok-grow_root.ensures.acts) half.result.page half.result.pairs.items half.ensures.page half.ensures.pairs half.result.level half.ensures.level v4 c.insert_below.result c.insert_below.ensures.inserts
 
 pub returns-clause-dead : goal.returns-clause-dead
 returns-clause-dead g c =
@@ -393,8 +406,10 @@ returns-then-not-are_pages_left-clause-works g c =
     let read = subst (λ (p : ℕ). IsRead (g.S.EawStore.view c.args.pages.now.store).shape p c.args.top.level c.args.top.pairs.items) c.requires.page c.requires.read in
     works_none T V g.S.EawStore.calls t key root.page top.level top.pairs.items (tree_actions v0.store.state.bytes root.page key) c.args.pages.now.store (index.PagesFull (c.index_page_count-count.result - 1)) refl
 
-pub returns-in-Err-clause-works : goal.returns-in-Err-clause-works
-returns-in-Err-clause-works g c =
+pub returns-in_err-left-clause-works : goal.returns-in_err-left-clause-works
+returns-in_err-left-clause-works g c =
+    let exit = err_from_is_err_and c.from_residual.result c.from_residual.ensures.1 in
+    rw (exit.1) (
     let T = g.S.EawStore.tells in
     let V = g.S.EawStore.view in
     let E = g.S.EawStore.opens in
@@ -409,11 +424,13 @@ returns-in-Err-clause-works g c =
     let long = λ (told : IsTrue g.S.EawStore.tells). g.met.S.EawStore.long c.args.pages.now.store told in
     let read = subst (λ (p : ℕ). IsRead (g.S.EawStore.view c.args.pages.now.store).shape p c.args.top.level c.args.top.pairs.items) c.requires.page c.requires.read in
     let v1 = pages_of (V c.take_page.new.pages.store) c.take_page.new.pages in
-    subst (λ (f : IndexFault). (let r : Result ℕ IndexFault = Err f in WorksFrom (0 ∷ root.page ∷ []) (IsTrue T) T (is_done r) V g.S.EawStore.calls t (below key top.level top.pairs.items) (limits_above top.level) (tree_actions v0.store.state.bytes root.page key) (blamed_index r) v0.store v1.store)) (sym c.index_fault.ensures)
-    (works_first_err T V g.S.EawStore.calls t key root.page top.level top.pairs.items (tree_actions v0.store.state.bytes root.page key) c.args.pages.now.store Claim c.take_page.new.pages.store c.in-Err.fault c.in-Err.ensures.peeks)
+    subst (λ (f : IndexFault). (let r : Result ℕ IndexFault = Err f in WorksFrom (0 ∷ root.page ∷ []) (IsTrue T) T (is_done r) V g.S.EawStore.calls t (below key top.level top.pairs.items) (limits_above top.level) (tree_actions v0.store.state.bytes root.page key) (blamed_index r) v0.store v1.store)) (sym exit.2)
+    (works_first_err T V g.S.EawStore.calls t key root.page top.level top.pairs.items (tree_actions v0.store.state.bytes root.page key) c.args.pages.now.store Claim c.take_page.new.pages.store c.in_err-left.field-0.0 c.in_err-left.ensures.peeks))
 
-pub returns-in-Err-take_page-clause-works : goal.returns-in-Err-take_page-clause-works
-returns-in-Err-take_page-clause-works g c =
+pub returns-in_err-right-clause-works : goal.returns-in_err-right-clause-works
+returns-in_err-right-clause-works g c =
+    let exit = err_from_is_err_and c.from_residual-in_err-right.result c.from_residual-in_err-right.ensures.1 in
+    rw (exit.1) (
     let T = g.S.EawStore.tells in
     let V = g.S.EawStore.view in
     let E = g.S.EawStore.opens in
@@ -428,13 +445,15 @@ returns-in-Err-take_page-clause-works g c =
     let long = λ (told : IsTrue g.S.EawStore.tells). g.met.S.EawStore.long c.args.pages.now.store told in
     let read = subst (λ (p : ℕ). IsRead (g.S.EawStore.view c.args.pages.now.store).shape p c.args.top.level c.args.top.pairs.items) c.requires.page c.requires.read in
     let v1 = pages_of (V c.take_page.new.pages.store) c.take_page.new.pages in
-    let left = c.in-Ok.left in
+    let left = c.in_ok-left.left in
     let v2 = pages_of (V c.take_page-2.new.pages.store) c.take_page-2.new.pages in
-    subst (λ (f : IndexFault). (let r : Result ℕ IndexFault = Err f in WorksFrom (0 ∷ root.page ∷ []) (IsTrue T) T (is_done r) V g.S.EawStore.calls t (below key top.level top.pairs.items) (limits_above top.level) (tree_actions v0.store.state.bytes root.page key) (blamed_index r) v0.store v2.store)) (sym c.index_fault-in-Err-take_page.ensures)
-    (works_second_err T V g.S.EawStore.calls t key root.page top.level top.pairs.items (tree_actions v0.store.state.bytes root.page key) c.args.pages.now.store Claim c.take_page.new.pages.store left c.in-Ok.ensures.peeks c.in-Ok.ensures.looks.shape (takes_two T E t root key v0 c.index_page_count-count.result n.count n.all n.most n.some small c.requires.sound c.requires.named c.requires.absent long c.requires.alive front c.requires.front c.requires.slot c.requires.says top.level top.pairs.items read c.requires.level c.requires.pairs c.requires.full c.if-top-eq-LEVEL_MAX.false) c.take_page-2.new.pages.store c.in-Err-take_page.fault c.in-Err-take_page.ensures.peeks)
+    subst (λ (f : IndexFault). (let r : Result ℕ IndexFault = Err f in WorksFrom (0 ∷ root.page ∷ []) (IsTrue T) T (is_done r) V g.S.EawStore.calls t (below key top.level top.pairs.items) (limits_above top.level) (tree_actions v0.store.state.bytes root.page key) (blamed_index r) v0.store v2.store)) (sym exit.2)
+    (works_second_err T V g.S.EawStore.calls t key root.page top.level top.pairs.items (tree_actions v0.store.state.bytes root.page key) c.args.pages.now.store Claim c.take_page.new.pages.store left c.in_ok-left.ensures.peeks c.in_ok-left.ensures.looks.shape (takes_two T E t root key v0 c.index_page_count-count.result n.count n.all n.most n.some small c.requires.sound c.requires.named c.requires.absent long c.requires.alive front c.requires.front c.requires.slot c.requires.says top.level top.pairs.items read c.requires.level c.requires.pairs c.requires.full c.if-top-eq-LEVEL_MAX.false) c.take_page-2.new.pages.store c.in_err-right.field-0.0 c.in_err-right.ensures.peeks))
 
-pub returns-in-Err-grow_root-clause-works : goal.returns-in-Err-grow_root-clause-works
-returns-in-Err-grow_root-clause-works g c =
+pub returns-in_err-grow_root-clause-works : goal.returns-in_err-grow_root-clause-works
+returns-in_err-grow_root-clause-works g c =
+    let exit = err_from_is_err_and c.from_residual-in_err-grow_root.result c.from_residual-in_err-grow_root.ensures.1 in
+    rw (exit.1) (
     let T = g.S.EawStore.tells in
     let V = g.S.EawStore.view in
     let E = g.S.EawStore.opens in
@@ -449,26 +468,26 @@ returns-in-Err-grow_root-clause-works g c =
     let long = λ (told : IsTrue g.S.EawStore.tells). g.met.S.EawStore.long c.args.pages.now.store told in
     let read = subst (λ (p : ℕ). IsRead (g.S.EawStore.view c.args.pages.now.store).shape p c.args.top.level c.args.top.pairs.items) c.requires.page c.requires.read in
     let v1 = pages_of (V c.take_page.new.pages.store) c.take_page.new.pages in
-    let left = c.in-Ok.left in
+    let left = c.in_ok-left.left in
     let v2 = pages_of (V c.take_page-2.new.pages.store) c.take_page-2.new.pages in
-    let right = c.in-Ok-take_page.right in
-    let looks = looks_next T E false v0 v1 v2 c.in-Ok.ensures.looks c.in-Ok-take_page.ensures.looks in
-    let one = λ (told : IsTrue g.S.EawStore.tells). subst (λ (st : State). TakesPage st.bytes c.args.front c.in-Ok.left.number c.in-Ok.left.front) (sym ((c.in-Ok.ensures.looks.still refl).state told) ∙ sym ((c.in-Ok-take_page.ensures.looks.still refl).state told)) (c.in-Ok.ensures.takes told) in
-    let other = λ (told : IsTrue g.S.EawStore.tells). subst (λ (st : State). TakesPage st.bytes c.in-Ok.left.front c.in-Ok-take_page.right.number c.in-Ok-take_page.right.front) (sym ((c.in-Ok-take_page.ensures.looks.still refl).state told)) (c.in-Ok-take_page.ensures.takes told) in
+    let right = c.in_ok-right.right in
+    let looks = looks_next T E false v0 v1 v2 c.in_ok-left.ensures.looks c.in_ok-right.ensures.looks in
+    let one = λ (told : IsTrue g.S.EawStore.tells). subst (λ (st : State). TakesPage st.bytes c.args.front c.in_ok-left.left.number c.in_ok-left.left.front) (sym ((c.in_ok-left.ensures.looks.still refl).state told) ∙ sym ((c.in_ok-right.ensures.looks.still refl).state told)) (c.in_ok-left.ensures.takes told) in
+    let other = λ (told : IsTrue g.S.EawStore.tells). subst (λ (st : State). TakesPage st.bytes c.in_ok-left.left.front c.in_ok-right.right.number c.in_ok-right.right.front) (sym ((c.in_ok-right.ensures.looks.still refl).state told)) (c.in_ok-right.ensures.takes told) in
     let v3 = pages_of (V c.grow_root.new.pages.store) c.grow_root.new.pages in
-    let acts = λ (r : Result (Unit {0}) PageFault) (a : Acts g.S.EawStore.tells (g.S.EawStore.opens (g.S.EawStore.view c.take_page-2.new.pages.store).shape) c.args.tid (growing_pages c.in-Ok.left.number c.in-Ok-take_page.right.number c.args.top.page) (growing_parts c.in-Ok-take_page.right.front c.in-Ok.left.number c.in-Ok-take_page.right.number c.args.top.page c.args.top.level c.args.top.pairs.items)
+    let acts = λ (r : Result (Unit {0}) PageFault) (a : Acts g.S.EawStore.tells (g.S.EawStore.opens (g.S.EawStore.view c.take_page-2.new.pages.store).shape) c.args.tid (growing_pages c.in_ok-left.left.number c.in_ok-right.right.number c.args.top.page) (growing_parts c.in_ok-right.right.front c.in_ok-left.left.number c.in_ok-right.right.number c.args.top.page c.args.top.level c.args.top.pairs.items)
     (pages_of (g.S.EawStore.view c.take_page-2.new.pages.store) c.take_page-2.new.pages) (pages_of (g.S.EawStore.view c.grow_root.new.pages.store) c.grow_root.new.pages) r).
-    subst (λ (p : ℕ). Acts g.S.EawStore.tells (g.S.EawStore.opens (g.S.EawStore.view c.take_page-2.new.pages.store).shape) c.args.tid (growing_pages c.in-Ok.left.number c.in-Ok-take_page.right.number p) (growing_parts c.in-Ok-take_page.right.front c.in-Ok.left.number c.in-Ok-take_page.right.number p c.args.top.level c.args.top.pairs.items)
+    subst (λ (p : ℕ). Acts g.S.EawStore.tells (g.S.EawStore.opens (g.S.EawStore.view c.take_page-2.new.pages.store).shape) c.args.tid (growing_pages c.in_ok-left.left.number c.in_ok-right.right.number p) (growing_parts c.in_ok-right.right.front c.in_ok-left.left.number c.in_ok-right.right.number p c.args.top.level c.args.top.pairs.items)
     (pages_of (g.S.EawStore.view c.take_page-2.new.pages.store) c.take_page-2.new.pages) (pages_of (g.S.EawStore.view c.grow_root.new.pages.store) c.grow_root.new.pages) r) c.requires.page a in
-    let runs = λ (r : Result (Unit {0}) PageFault) (a : Runs T V g.S.EawStore.calls (acting_of c.args.tid (log_len (V c.take_page-2.new.pages.store) c.args.tid) (growing_parts c.in-Ok-take_page.right.front c.in-Ok.left.number c.in-Ok-take_page.right.number c.args.top.page c.args.top.level c.args.top.pairs.items)) (V c.take_page-2.new.pages.store) (V c.grow_root.new.pages.store) r).
-    subst (λ (p : ℕ). Runs T V g.S.EawStore.calls (acting_of c.args.tid (log_len (V c.take_page-2.new.pages.store) c.args.tid) (growing_parts c.in-Ok-take_page.right.front c.in-Ok.left.number c.in-Ok-take_page.right.number p c.args.top.level c.args.top.pairs.items)) (V c.take_page-2.new.pages.store) (V c.grow_root.new.pages.store) r) c.requires.page a in
-    subst (λ (f : IndexFault). (let r : Result ℕ IndexFault = Err f in WorksFrom (0 ∷ root.page ∷ []) (IsTrue T) T (is_done r) V g.S.EawStore.calls t (below key top.level top.pairs.items) (limits_above top.level) (tree_actions v0.store.state.bytes root.page key) (blamed_index r) v0.store v3.store)) (sym c.index_fault-in-Err-grow_root.ensures)
-    (works_grow_err T V g.S.EawStore.calls t key root.page top.level top.pairs.items (tree_actions v0.store.state.bytes root.page key) c.args.pages.now.store Claim c.take_page.new.pages.store left c.in-Ok.ensures.peeks c.in-Ok.ensures.looks.shape (takes_two T E t root key v0 c.index_page_count-count.result n.count n.all n.most n.some small c.requires.sound c.requires.named c.requires.absent long c.requires.alive front c.requires.front c.requires.slot c.requires.says top.level top.pairs.items read c.requires.level c.requires.pairs c.requires.full c.if-top-eq-LEVEL_MAX.false) c.grow_root.new.pages.store c.take_page-2.new.pages right c.in-Ok-take_page.ensures.peeks (record { pages = growing_pages left.number right.number root.page; takes = 2 })
+    let runs = λ (r : Result (Unit {0}) PageFault) (a : Runs T V g.S.EawStore.calls (acting_of c.args.tid (log_len (V c.take_page-2.new.pages.store) c.args.tid) (growing_parts c.in_ok-right.right.front c.in_ok-left.left.number c.in_ok-right.right.number c.args.top.page c.args.top.level c.args.top.pairs.items)) (V c.take_page-2.new.pages.store) (V c.grow_root.new.pages.store) r).
+    subst (λ (p : ℕ). Runs T V g.S.EawStore.calls (acting_of c.args.tid (log_len (V c.take_page-2.new.pages.store) c.args.tid) (growing_parts c.in_ok-right.right.front c.in_ok-left.left.number c.in_ok-right.right.number p c.args.top.level c.args.top.pairs.items)) (V c.take_page-2.new.pages.store) (V c.grow_root.new.pages.store) r) c.requires.page a in
+    subst (λ (f : IndexFault). (let r : Result ℕ IndexFault = Err f in WorksFrom (0 ∷ root.page ∷ []) (IsTrue T) T (is_done r) V g.S.EawStore.calls t (below key top.level top.pairs.items) (limits_above top.level) (tree_actions v0.store.state.bytes root.page key) (blamed_index r) v0.store v3.store)) (sym exit.2)
+    (works_grow_err T V g.S.EawStore.calls t key root.page top.level top.pairs.items (tree_actions v0.store.state.bytes root.page key) c.args.pages.now.store Claim c.take_page.new.pages.store left c.in_ok-left.ensures.peeks c.in_ok-left.ensures.looks.shape (takes_two T E t root key v0 c.index_page_count-count.result n.count n.all n.most n.some small c.requires.sound c.requires.named c.requires.absent long c.requires.alive front c.requires.front c.requires.slot c.requires.says top.level top.pairs.items read c.requires.level c.requires.pairs c.requires.full c.if-top-eq-LEVEL_MAX.false) c.grow_root.new.pages.store c.take_page-2.new.pages right c.in_ok-right.ensures.peeks (record { pages = growing_pages left.number right.number root.page; takes = 2 })
     (acting_of t (log_len v2.store t) (growing_parts right.front left.number right.number root.page top.level top.pairs.items))
-    (log_len v2.store t, growing_parts right.front left.number right.number root.page top.level top.pairs.items, refl, growing_in right.front left.number right.number root.page top.level top.pairs.items) refl c.in-Err-grow_root.fault (runs (Err c.in-Err-grow_root.fault) c.in-Err-grow_root.ensures.runs)
-    (blamed_same ℕ (Unit {0}) c.in-Err-grow_root.fault ∙ act_blames (Unit {0}) v2.store t (growing_pages left.number right.number top.page) c.in-Err-grow_root.fault c.in-Err-grow_root.ensures.acts.cause)
+    (log_len v2.store t, growing_parts right.front left.number right.number root.page top.level top.pairs.items, refl, growing_in right.front left.number right.number root.page top.level top.pairs.items) refl c.in_err-grow_root.field-0.0 (runs (Err c.in_err-grow_root.field-0.0) c.in_err-grow_root.ensures.runs)
+    (blamed_same ℕ (Unit {0}) c.in_err-grow_root.field-0.0 ∙ act_blames (Unit {0}) v2.store t (growing_pages left.number right.number top.page) c.in_err-grow_root.field-0.0 c.in_err-grow_root.ensures.acts.cause)
     (actions_below (level_of v2.store.state.bytes root.page) v2.store.state.bytes root.page (half_for (page_pairs v2.store.state.bytes root.page) (page_due v2.store.state.bytes 0) (page_due v2.store.state.bytes 1) key) 2 key)
-    (root_due T E t root key v0 c.index_page_count-count.result n.count n.all n.most n.some small c.requires.sound c.requires.named c.requires.absent long c.requires.alive front c.requires.front c.requires.slot c.requires.says top.level top.pairs.items read c.requires.level c.requires.pairs c.requires.full c.if-top-eq-LEVEL_MAX.false (c.if-not-are_pages_left.ensures.0 refl) v2 looks left.number right.number left.front right.front one other))
+    (root_due T E t root key v0 c.index_page_count-count.result n.count n.all n.most n.some small c.requires.sound c.requires.named c.requires.absent long c.requires.alive front c.requires.front c.requires.slot c.requires.says top.level top.pairs.items read c.requires.level c.requires.pairs c.requires.full c.if-top-eq-LEVEL_MAX.false (c.if-not-are_pages_left.ensures.0 refl) v2 looks left.number right.number left.front right.front one other)))
 
 pub returns-clause-works : goal.returns-clause-works
 returns-clause-works g c =
@@ -486,36 +505,42 @@ returns-clause-works g c =
     let long = λ (told : IsTrue g.S.EawStore.tells). g.met.S.EawStore.long c.args.pages.now.store told in
     let read = subst (λ (p : ℕ). IsRead (g.S.EawStore.view c.args.pages.now.store).shape p c.args.top.level c.args.top.pairs.items) c.requires.page c.requires.read in
     let v1 = pages_of (V c.take_page.new.pages.store) c.take_page.new.pages in
-    let left = c.in-Ok.left in
+    let left = c.in_ok-left.left in
     let v2 = pages_of (V c.take_page-2.new.pages.store) c.take_page-2.new.pages in
-    let right = c.in-Ok-take_page.right in
-    let looks = looks_next T E false v0 v1 v2 c.in-Ok.ensures.looks c.in-Ok-take_page.ensures.looks in
-    let one = λ (told : IsTrue g.S.EawStore.tells). subst (λ (st : State). TakesPage st.bytes c.args.front c.in-Ok.left.number c.in-Ok.left.front) (sym ((c.in-Ok.ensures.looks.still refl).state told) ∙ sym ((c.in-Ok-take_page.ensures.looks.still refl).state told)) (c.in-Ok.ensures.takes told) in
-    let other = λ (told : IsTrue g.S.EawStore.tells). subst (λ (st : State). TakesPage st.bytes c.in-Ok.left.front c.in-Ok-take_page.right.number c.in-Ok-take_page.right.front) (sym ((c.in-Ok-take_page.ensures.looks.still refl).state told)) (c.in-Ok-take_page.ensures.takes told) in
+    let right = c.in_ok-right.right in
+    let looks = looks_next T E false v0 v1 v2 c.in_ok-left.ensures.looks c.in_ok-right.ensures.looks in
+    let one = λ (told : IsTrue g.S.EawStore.tells). subst (λ (st : State). TakesPage st.bytes c.args.front c.in_ok-left.left.number c.in_ok-left.left.front) (sym ((c.in_ok-left.ensures.looks.still refl).state told) ∙ sym ((c.in_ok-right.ensures.looks.still refl).state told)) (c.in_ok-left.ensures.takes told) in
+    let other = λ (told : IsTrue g.S.EawStore.tells). subst (λ (st : State). TakesPage st.bytes c.in_ok-left.left.front c.in_ok-right.right.number c.in_ok-right.right.front) (sym ((c.in_ok-right.ensures.looks.still refl).state told)) (c.in_ok-right.ensures.takes told) in
     let v3 = pages_of (V c.grow_root.new.pages.store) c.grow_root.new.pages in
-    let acts = λ (r : Result (Unit {0}) PageFault) (a : Acts g.S.EawStore.tells (g.S.EawStore.opens (g.S.EawStore.view c.take_page-2.new.pages.store).shape) c.args.tid (growing_pages c.in-Ok.left.number c.in-Ok-take_page.right.number c.args.top.page) (growing_parts c.in-Ok-take_page.right.front c.in-Ok.left.number c.in-Ok-take_page.right.number c.args.top.page c.args.top.level c.args.top.pairs.items)
+    let acts = λ (r : Result (Unit {0}) PageFault) (a : Acts g.S.EawStore.tells (g.S.EawStore.opens (g.S.EawStore.view c.take_page-2.new.pages.store).shape) c.args.tid (growing_pages c.in_ok-left.left.number c.in_ok-right.right.number c.args.top.page) (growing_parts c.in_ok-right.right.front c.in_ok-left.left.number c.in_ok-right.right.number c.args.top.page c.args.top.level c.args.top.pairs.items)
     (pages_of (g.S.EawStore.view c.take_page-2.new.pages.store) c.take_page-2.new.pages) (pages_of (g.S.EawStore.view c.grow_root.new.pages.store) c.grow_root.new.pages) r).
-    subst (λ (p : ℕ). Acts g.S.EawStore.tells (g.S.EawStore.opens (g.S.EawStore.view c.take_page-2.new.pages.store).shape) c.args.tid (growing_pages c.in-Ok.left.number c.in-Ok-take_page.right.number p) (growing_parts c.in-Ok-take_page.right.front c.in-Ok.left.number c.in-Ok-take_page.right.number p c.args.top.level c.args.top.pairs.items)
+    subst (λ (p : ℕ). Acts g.S.EawStore.tells (g.S.EawStore.opens (g.S.EawStore.view c.take_page-2.new.pages.store).shape) c.args.tid (growing_pages c.in_ok-left.left.number c.in_ok-right.right.number p) (growing_parts c.in_ok-right.right.front c.in_ok-left.left.number c.in_ok-right.right.number p c.args.top.level c.args.top.pairs.items)
     (pages_of (g.S.EawStore.view c.take_page-2.new.pages.store) c.take_page-2.new.pages) (pages_of (g.S.EawStore.view c.grow_root.new.pages.store) c.grow_root.new.pages) r) c.requires.page a in
     let half = c.half_of-half in
     let v4 = pages_of (V c.insert_below.new.pages.store) c.insert_below.new.pages in
-    let runs = λ (r : Result (Unit {0}) PageFault) (a : Runs T V g.S.EawStore.calls (acting_of c.args.tid (log_len (V c.take_page-2.new.pages.store) c.args.tid) (growing_parts c.in-Ok-take_page.right.front c.in-Ok.left.number c.in-Ok-take_page.right.number c.args.top.page c.args.top.level c.args.top.pairs.items)) (V c.take_page-2.new.pages.store) (V c.grow_root.new.pages.store) r).
-    subst (λ (p : ℕ). Runs T V g.S.EawStore.calls (acting_of c.args.tid (log_len (V c.take_page-2.new.pages.store) c.args.tid) (growing_parts c.in-Ok-take_page.right.front c.in-Ok.left.number c.in-Ok-take_page.right.number p c.args.top.level c.args.top.pairs.items)) (V c.take_page-2.new.pages.store) (V c.grow_root.new.pages.store) r) c.requires.page a in
-    works_grown T V g.S.EawStore.calls t key root.page top.level top.pairs.items (tree_actions v0.store.state.bytes root.page key) c.args.pages.now.store Claim c.take_page.new.pages.store left c.in-Ok.ensures.peeks c.in-Ok.ensures.looks.shape (takes_two T E t root key v0 c.index_page_count-count.result n.count n.all n.most n.some small c.requires.sound c.requires.named c.requires.absent long c.requires.alive front c.requires.front c.requires.slot c.requires.says top.level top.pairs.items read c.requires.level c.requires.pairs c.requires.full c.if-top-eq-LEVEL_MAX.false) c.grow_root.new.pages.store c.take_page-2.new.pages right c.in-Ok-take_page.ensures.peeks (record { pages = growing_pages left.number right.number root.page; takes = 2 })
+    let runs = λ (r : Result (Unit {0}) PageFault) (a : Runs T V g.S.EawStore.calls (acting_of c.args.tid (log_len (V c.take_page-2.new.pages.store) c.args.tid) (growing_parts c.in_ok-right.right.front c.in_ok-left.left.number c.in_ok-right.right.number c.args.top.page c.args.top.level c.args.top.pairs.items)) (V c.take_page-2.new.pages.store) (V c.grow_root.new.pages.store) r).
+    subst (λ (p : ℕ). Runs T V g.S.EawStore.calls (acting_of c.args.tid (log_len (V c.take_page-2.new.pages.store) c.args.tid) (growing_parts c.in_ok-right.right.front c.in_ok-left.left.number c.in_ok-right.right.number p c.args.top.level c.args.top.pairs.items)) (V c.take_page-2.new.pages.store) (V c.grow_root.new.pages.store) r) c.requires.page a in
+    works_grown T V g.S.EawStore.calls t key root.page top.level top.pairs.items (tree_actions v0.store.state.bytes root.page key) c.args.pages.now.store Claim c.take_page.new.pages.store left c.in_ok-left.ensures.peeks c.in_ok-left.ensures.looks.shape (takes_two T E t root key v0 c.index_page_count-count.result n.count n.all n.most n.some small c.requires.sound c.requires.named c.requires.absent long c.requires.alive front c.requires.front c.requires.slot c.requires.says top.level top.pairs.items read c.requires.level c.requires.pairs c.requires.full c.if-top-eq-LEVEL_MAX.false) c.grow_root.new.pages.store c.take_page-2.new.pages right c.in_ok-right.ensures.peeks (record { pages = growing_pages left.number right.number root.page; takes = 2 })
     (acting_of t (log_len v2.store t) (growing_parts right.front left.number right.number root.page top.level top.pairs.items))
-    (log_len v2.store t, growing_parts right.front left.number right.number root.page top.level top.pairs.items, refl, growing_in right.front left.number right.number root.page top.level top.pairs.items) refl (runs (Ok tt) c.in-Ok-grow_root.ensures.runs) (c.in-Ok-grow_root.ensures.acts.shape ∙ looks.shape) half.result.page half.result.level half.result.pairs.items
+    (log_len v2.store t, growing_parts right.front left.number right.number root.page top.level top.pairs.items, refl, growing_in right.front left.number right.number root.page top.level top.pairs.items) refl (runs (Ok tt) c.in_ok-grow_root.ensures.runs) (c.in_ok-grow_root.ensures.acts.shape ∙ looks.shape) half.result.page half.result.level half.result.pairs.items
     (actions_below half.result.level v3.store.state.bytes half.result.page half.result.page 0 key) half.ensures.level
-    (root_leads T E t root key v0 c.index_page_count-count.result n.count n.all n.most n.some small c.requires.sound c.requires.named c.requires.absent long c.requires.alive front c.requires.front c.requires.slot c.requires.says top.level top.pairs.items read c.requires.level c.requires.pairs c.requires.full c.if-top-eq-LEVEL_MAX.false (c.if-not-are_pages_left.ensures.0 refl) v2 looks left.number right.number left.front right.front one other v3 (acts (Ok tt) c.in-Ok-grow_root.ensures.acts) half.result.page half.result.pairs.items half.ensures.page half.ensures.pairs) (root_half_among left.number right.number root.page key half.result.page top.pairs.items half.ensures.page)
-    (root_rest T E t root key v0 c.index_page_count-count.result n.count n.all n.most n.some small c.requires.sound c.requires.named c.requires.absent long c.requires.alive front c.requires.front c.requires.slot c.requires.says top.level top.pairs.items read c.requires.level c.requires.pairs c.requires.full c.if-top-eq-LEVEL_MAX.false (c.if-not-are_pages_left.ensures.0 refl) v2 looks left.number right.number left.front right.front one other v3 (acts (Ok tt) c.in-Ok-grow_root.ensures.acts) half.result.page half.result.pairs.items half.ensures.page half.ensures.pairs half.result.level half.ensures.level) c.insert_below.new.pages.store c.insert_below.result c.insert_below.ensures.works
+    (root_leads T E t root key v0 c.index_page_count-count.result n.count n.all n.most n.some small c.requires.sound c.requires.named c.requires.absent long c.requires.alive front c.requires.front c.requires.slot c.requires.says top.level top.pairs.items read c.requires.level c.requires.pairs c.requires.full c.if-top-eq-LEVEL_MAX.false (c.if-not-are_pages_left.ensures.0 refl) v2 looks left.number right.number left.front right.front one other v3 (acts (Ok tt) c.in_ok-grow_root.ensures.acts) half.result.page half.result.pairs.items half.ensures.page half.ensures.pairs) (root_half_among left.number right.number root.page key half.result.page top.pairs.items half.ensures.page)
+    (root_rest T E t root key v0 c.index_page_count-count.result n.count n.all n.most n.some small c.requires.sound c.requires.named c.requires.absent long c.requires.alive front c.requires.front c.requires.slot c.requires.says top.level top.pairs.items read c.requires.level c.requires.pairs c.requires.full c.if-top-eq-LEVEL_MAX.false (c.if-not-are_pages_left.ensures.0 refl) v2 looks left.number right.number left.front right.front one other v3 (acts (Ok tt) c.in_ok-grow_root.ensures.acts) half.result.page half.result.pairs.items half.ensures.page half.ensures.pairs half.result.level half.ensures.level) c.insert_below.new.pages.store c.insert_below.result c.insert_below.ensures.works
 
-pub returns-in-Err-clause-left : goal.returns-in-Err-clause-left
-returns-in-Err-clause-left g c = told_left c.in-Err.fault c.index_fault.result c.index_fault.ensures
+pub returns-in_err-left-clause-left : goal.returns-in_err-left-clause-left
+returns-in_err-left-clause-left g c =
+    let exit = err_from_is_err_and c.from_residual.result c.from_residual.ensures.1 in
+    rw (exit.1) (told_left c.in_err-left.field-0.0 exit.0 exit.2)
 
-pub returns-in-Err-take_page-clause-left : goal.returns-in-Err-take_page-clause-left
-returns-in-Err-take_page-clause-left g c = told_left c.in-Err-take_page.fault c.index_fault-in-Err-take_page.result c.index_fault-in-Err-take_page.ensures
+pub returns-in_err-right-clause-left : goal.returns-in_err-right-clause-left
+returns-in_err-right-clause-left g c =
+    let exit = err_from_is_err_and c.from_residual-in_err-right.result c.from_residual-in_err-right.ensures.1 in
+    rw (exit.1) (told_left c.in_err-right.field-0.0 exit.0 exit.2)
 
-pub returns-in-Err-grow_root-clause-left : goal.returns-in-Err-grow_root-clause-left
-returns-in-Err-grow_root-clause-left g c = told_left c.in-Err-grow_root.fault c.index_fault-in-Err-grow_root.result c.index_fault-in-Err-grow_root.ensures
+pub returns-in_err-grow_root-clause-left : goal.returns-in_err-grow_root-clause-left
+returns-in_err-grow_root-clause-left g c =
+    let exit = err_from_is_err_and c.from_residual-in_err-grow_root.result c.from_residual-in_err-grow_root.ensures.1 in
+    rw (exit.1) (told_left c.in_err-grow_root.field-0.0 exit.0 exit.2)
 
 pub returns-clause-left : goal.returns-clause-left
 returns-clause-left g c = c.insert_below.ensures.left

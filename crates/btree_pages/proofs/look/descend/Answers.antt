@@ -29,6 +29,7 @@ use Rattle.btree_pages.specs.Trees.{whole_of, table_sound}
 use Rattle.index_pages.proofs.Courses.{on_first, on_step, on_end, on_bad, on_err, on_out}
 use Rattle.btree_pages.specs.Downward.{down, Descended}
 use Rattle.btree_pages.proofs.Turning.{inner_leads, leaf_said}
+use Rattle.std.proofs.lemmas.Result.{err_from_is_err_and}
 use Rattle.btree_pages.proofs.look.descend.Goals as goal
 
 pub loop-step-init : goal.loop-step-init
@@ -47,23 +48,25 @@ loop-step-init g c = record {
   begins = λ told alive. tt;
 }
 
-pub returns-in-Err-clause-cause : goal.returns-in-Err-clause-cause
-returns-in-Err-clause-cause g c =
+pub returns-in_err-head-clause-cause : goal.returns-in_err-head-clause-cause
+returns-in_err-head-clause-cause g c =
+    let exit = err_from_is_err_and c.from_residual.result c.from_residual.ensures.1 in
+    rw (exit.1, exit.2) (
     let view = g.S.EawStore.view c.args.pages.now.store in
     let mid = g.S.EawStore.view c.loop-step.pages.store in
     let still = c.loop-step.invariant.looks.still refl in
-    look_cause Head Leaf g.S.EawStore.tells view mid (IsNode (page_bytes mid.state.bytes c.loop-step.page)) c.loop-step.page c.in-Err.fault still
+    look_cause Head Leaf g.S.EawStore.tells view mid (IsNode (page_bytes mid.state.bytes c.loop-step.page)) c.loop-step.page c.in_err-head.field-0.0 still
     (λ told alive. subst (λ (s : State). IsNode (page_bytes s.bytes c.loop-step.page)) (sym (still.state told))
     (let d = c.loop-step.invariant.down told alive in down_node c.args.root view.state.bytes c.args.start.key d.0 c.loop-step.page d.1 d.4))
-    c.in-Err.ensures.cause
+    c.in_err-head.ensures.cause)
 
 pub returns-then-head-eq0-clause-leaf : goal.returns-then-head-eq0-clause-leaf
 returns-then-head-eq0-clause-leaf g c = λ told.
     let view = g.S.EawStore.view c.args.pages.now.store in
     let still = c.loop-step.invariant.looks.still refl in
-    let alive : IsAlive view = sym still.dead ∙ c.in-Ok.ensures.cause in
-    let buf = c.in-Ok.ensures.bytes told ∙ ap (λ (s : State). page_bytes s.bytes c.loop-step.page) (still.state told) in
-    let level : level_of view.state.bytes c.loop-step.page ≡ 0 = sym (ap level_said buf) ∙ sym c.in-Ok.ensures.head.level ∙ c.if-head-eq0.true in
+    let alive : IsAlive view = sym still.dead ∙ c.in_ok-head.ensures.cause in
+    let buf = c.in_ok-head.ensures.bytes told ∙ ap (λ (s : State). page_bytes s.bytes c.loop-step.page) (still.state told) in
+    let level : level_of view.state.bytes c.loop-step.page ≡ 0 = sym (ap level_said buf) ∙ sym c.in_ok-head.ensures.head.level ∙ c.if-head-eq0.true in
     let d = c.loop-step.invariant.down told alive in
     (d.1, subst (λ (b : List ℕ). AtLeaf c.args.root view.state.bytes c.args.start.key d.1 b) (sym buf) (down_last c.args.root view.state.bytes c.args.start.key d.0 c.loop-step.page d.1 d.4 level), d.3)
 
@@ -71,12 +74,12 @@ pub returns-then-not-are_inside-clause-cause : goal.returns-then-not-are_inside-
 returns-then-not-are_inside-clause-cause g c =
     let view = g.S.EawStore.view c.args.pages.now.store in
     let still = c.loop-step.invariant.looks.still refl in
-    let alive : IsAlive view = sym still.dead ∙ c.in-Ok.ensures.cause in (
+    let alive : IsAlive view = sym still.dead ∙ c.in_ok-head.ensures.cause in (
       alive,
       λ told.
           let bytes = view.state.bytes in
-          let buf = c.in-Ok.ensures.bytes told ∙ ap (λ (s : State). page_bytes s.bytes c.loop-step.page) (still.state told) in
-          let inner : level_of bytes c.loop-step.page ≢ 0 = λ e. c.if-head-eq0.false (c.in-Ok.ensures.head.level ∙ ap level_said buf ∙ e) in
+          let buf = c.in_ok-head.ensures.bytes told ∙ ap (λ (s : State). page_bytes s.bytes c.loop-step.page) (still.state told) in
+          let inner : level_of bytes c.loop-step.page ≢ 0 = λ e. c.if-head-eq0.false (c.in_ok-head.ensures.head.level ∙ ap level_said buf ∙ e) in
           let child : c.child_in-child.result.0 ≡ child_for (page_pairs bytes c.loop-step.page) c.args.start.key = c.child_in-child.ensures.child ∙ ap (λ (b : List ℕ). child_for (pairs_said b) c.args.start.key) buf in
           let entry : c.child_in-child.result.1 ≡ behind_in (page_pairs bytes c.loop-step.page) c.args.start.key = c.child_in-child.ensures.behind ∙ ap (λ (b : List ℕ). behind_in (pairs_said b) c.args.start.key) buf in
           let d = c.loop-step.invariant.down told alive in
@@ -91,8 +94,8 @@ loop-step-preserved g c =
     let view = g.S.EawStore.view c.args.pages.now.store in
     let still = c.loop-step.invariant.looks.still refl in
     let looks = looks_next g.S.EawStore.tells g.S.EawStore.opens false (pages_of view c.args.pages.now) (pages_of (g.S.EawStore.view c.loop-step.pages.store) c.loop-step.pages)
-    (pages_of (g.S.EawStore.view c.read_node.new.pages.store) c.read_node.new.pages) c.loop-step.invariant.looks c.in-Ok.ensures.looks in
-    let alive : IsAlive view = sym still.dead ∙ c.in-Ok.ensures.cause in
+    (pages_of (g.S.EawStore.view c.read_node.new.pages.store) c.read_node.new.pages) c.loop-step.invariant.looks c.in_ok-head.ensures.looks in
+    let alive : IsAlive view = sym still.dead ∙ c.in_ok-head.ensures.cause in
     let alive' : IsAlive (g.S.EawStore.view c.read_node.new.pages.store) = (looks.still refl).dead ∙ alive in
     let inside = c.if-not-are_inside.ensures.0 refl in
     let many : ℕ = c.args.start.most - 1 - c.loop-step.step in
@@ -110,8 +113,8 @@ loop-step-preserved g c =
         on_step g.S.EawStore.tells (g.S.EawStore.calls c.args.pages.now.store) (g.S.EawStore.calls c.loop-step.pages.store) (g.S.EawStore.calls c.read_node.new.pages.store)
             (down c.args.start.page c.args.start.key) c.loop-step.step c.loop-step.page c.loop-step.last view (g.S.EawStore.view c.loop-step.pages.store) (g.S.EawStore.view c.read_node.new.pages.store)
             (c.loop-step.invariant.looks.still refl) c.loop-step.invariant.looks.shape c.loop-step.invariant.on.0
-            c.read_node.new.bytes c.child_in-child.result.0 c.in-Ok.ensures.reads
-            (inner_leads c.args.start.page c.args.start.key c.loop-step.page c.read_node.new.bytes c.in-Ok.head.level c.child_in-child.result.0 c.in-Ok.ensures.head.level c.if-head-eq0.false c.child_in-child.ensures.child),
+            c.read_node.new.bytes c.child_in-child.result.0 c.in_ok-head.ensures.reads
+            (inner_leads c.args.start.page c.args.start.key c.loop-step.page c.read_node.new.bytes c.in_ok-head.head.level c.child_in-child.result.0 c.in_ok-head.ensures.head.level c.if-head-eq0.false c.child_in-child.ensures.child),
         ap entry_of which ∙ entry_or (start_behind (c.args.start.most - 1 - c.loop-step.step) c.child_in-child.result.1) c.loop-step.behind
             ∙ ap (λ (o : Option Pair). option_or o (entry_of c.loop-step.behind)) (entry_behind (c.args.start.most - 1 - c.loop-step.step) c.child_in-child.result.1 ∙ c.child_in-child.ensures.behind)
             ∙ ap (λ (o : Option Pair). option_or (behind_in (pairs_said c.read_node.new.bytes) c.args.start.key) o) c.loop-step.invariant.on.1,
@@ -119,16 +122,16 @@ loop-step-preserved g c =
       few = omega (arith, c.loop-step-test.true);
       crowd = λ told living all.
           let bytes = view.state.bytes in
-          let buf = c.in-Ok.ensures.bytes told ∙ ap (λ (s : State). page_bytes s.bytes c.loop-step.page) (still.state told) in
-          let inner : level_of bytes c.loop-step.page ≢ 0 = λ e. c.if-head-eq0.false (c.in-Ok.ensures.head.level ∙ ap level_said buf ∙ e) in
+          let buf = c.in_ok-head.ensures.bytes told ∙ ap (λ (s : State). page_bytes s.bytes c.loop-step.page) (still.state told) in
+          let inner : level_of bytes c.loop-step.page ≢ 0 = λ e. c.if-head-eq0.false (c.in_ok-head.ensures.head.level ∙ ap level_said buf ∙ e) in
           let child : c.child_in-child.result.0 ≡ child_for (page_pairs bytes c.loop-step.page) c.args.start.key = c.child_in-child.ensures.child ∙ ap (λ (b : List ℕ). child_for (pairs_said b) c.args.start.key) buf in
-          let full : c.or_full-full.result ≡ (c.loop-step.full || is_full bytes c.loop-step.page) = c.or_full-full.ensures ∙ ap (λ (n : ℕ). c.loop-step.full || nat_le 30 n) (c.in-Ok.ensures.head.count ∙ ap count_said buf) in
+          let full : c.or_full-full.result ≡ (c.loop-step.full || is_full bytes c.loop-step.page) = c.or_full-full.ensures ∙ ap (λ (n : ℕ). c.loop-step.full || nat_le 30 n) (c.in_ok-head.ensures.head.count ∙ ap count_said buf) in
           let d = c.loop-step.invariant.down told living in
           crowd_step c.args.root bytes c.args.start.key d.0 c.loop-step.page d.1 d.4 c.loop-step.full (c.loop-step.invariant.crowd told living all) inner c.or_full-full.result full c.child_in-child.result.0 child;
       down = λ told living.
           let bytes = view.state.bytes in
-          let buf = c.in-Ok.ensures.bytes told ∙ ap (λ (s : State). page_bytes s.bytes c.loop-step.page) (still.state told) in
-          let inner : level_of bytes c.loop-step.page ≢ 0 = λ e. c.if-head-eq0.false (c.in-Ok.ensures.head.level ∙ ap level_said buf ∙ e) in
+          let buf = c.in_ok-head.ensures.bytes told ∙ ap (λ (s : State). page_bytes s.bytes c.loop-step.page) (still.state told) in
+          let inner : level_of bytes c.loop-step.page ≢ 0 = λ e. c.if-head-eq0.false (c.in_ok-head.ensures.head.level ∙ ap level_said buf ∙ e) in
           let child : c.child_in-child.result.0 ≡ child_for (page_pairs bytes c.loop-step.page) c.args.start.key = c.child_in-child.ensures.child ∙ ap (λ (b : List ℕ). child_for (pairs_said b) c.args.start.key) buf in
           let entry : c.child_in-child.result.1 ≡ behind_in (page_pairs bytes c.loop-step.page) c.args.start.key = c.child_in-child.ensures.behind ∙ ap (λ (b : List ℕ). behind_in (pairs_said b) c.args.start.key) buf in
           let d = c.loop-step.invariant.down told living in
@@ -144,8 +147,8 @@ loop-step-preserved g c =
           );
       begins = λ told living.
           let bytes = view.state.bytes in
-          let buf = c.in-Ok.ensures.bytes told ∙ ap (λ (s : State). page_bytes s.bytes c.loop-step.page) (still.state told) in
-          let inner : level_of bytes c.loop-step.page ≢ 0 = λ e. c.if-head-eq0.false (c.in-Ok.ensures.head.level ∙ ap level_said buf ∙ e) in
+          let buf = c.in_ok-head.ensures.bytes told ∙ ap (λ (s : State). page_bytes s.bytes c.loop-step.page) (still.state told) in
+          let inner : level_of bytes c.loop-step.page ≢ 0 = λ e. c.if-head-eq0.false (c.in_ok-head.ensures.head.level ∙ ap level_said buf ∙ e) in
           let entry : c.child_in-child.result.1 ≡ behind_in (page_pairs bytes c.loop-step.page) c.args.start.key = c.child_in-child.ensures.behind ∙ ap (λ (b : List ℕ). behind_in (pairs_said b) c.args.start.key) buf in
           let d = c.loop-step.invariant.down told living in
           subst (λ (o : Option Start). IfSome o (IsStart c.args.root bytes)) (sym which)
@@ -154,32 +157,34 @@ loop-step-preserved g c =
           (c.loop-step.invariant.begins told living));
     }
 
-pub returns-in-Err-clause-looks : goal.returns-in-Err-clause-looks
-returns-in-Err-clause-looks g c = looks_next g.S.EawStore.tells g.S.EawStore.opens _ (pages_of (g.S.EawStore.view c.args.pages.now.store) c.args.pages.now) (pages_of (g.S.EawStore.view c.loop-step.pages.store) c.loop-step.pages) (pages_of (g.S.EawStore.view c.read_node.new.pages.store) c.read_node.new.pages) c.loop-step.invariant.looks c.in-Err.ensures.looks
+pub returns-in_err-head-clause-looks : goal.returns-in_err-head-clause-looks
+returns-in_err-head-clause-looks g c =
+    let exit = err_from_is_err_and c.from_residual.result c.from_residual.ensures.1 in
+    rw (exit.1, exit.2) (looks_next g.S.EawStore.tells g.S.EawStore.opens _ (pages_of (g.S.EawStore.view c.args.pages.now.store) c.args.pages.now) (pages_of (g.S.EawStore.view c.loop-step.pages.store) c.loop-step.pages) (pages_of (g.S.EawStore.view c.read_node.new.pages.store) c.read_node.new.pages) c.loop-step.invariant.looks c.in_err-head.ensures.looks)
 
 pub returns-then-head-eq0-clause-looks : goal.returns-then-head-eq0-clause-looks
-returns-then-head-eq0-clause-looks g c = looks_next g.S.EawStore.tells g.S.EawStore.opens _ (pages_of (g.S.EawStore.view c.args.pages.now.store) c.args.pages.now) (pages_of (g.S.EawStore.view c.loop-step.pages.store) c.loop-step.pages) (pages_of (g.S.EawStore.view c.read_node.new.pages.store) c.read_node.new.pages) c.loop-step.invariant.looks c.in-Ok.ensures.looks
+returns-then-head-eq0-clause-looks g c = looks_next g.S.EawStore.tells g.S.EawStore.opens _ (pages_of (g.S.EawStore.view c.args.pages.now.store) c.args.pages.now) (pages_of (g.S.EawStore.view c.loop-step.pages.store) c.loop-step.pages) (pages_of (g.S.EawStore.view c.read_node.new.pages.store) c.read_node.new.pages) c.loop-step.invariant.looks c.in_ok-head.ensures.looks
 
 pub returns-then-head-eq0-clause-cause : goal.returns-then-head-eq0-clause-cause
-returns-then-head-eq0-clause-cause g c = sym (c.loop-step.invariant.looks.still refl).dead ∙ c.in-Ok.ensures.cause
+returns-then-head-eq0-clause-cause g c = sym (c.loop-step.invariant.looks.still refl).dead ∙ c.in_ok-head.ensures.cause
 
 pub returns-then-head-eq0-clause-count : goal.returns-then-head-eq0-clause-count
-returns-then-head-eq0-clause-count g c = c.in-Ok.ensures.head.count
+returns-then-head-eq0-clause-count g c = c.in_ok-head.ensures.head.count
 
 pub returns-then-head-eq0-clause-most : goal.returns-then-head-eq0-clause-most
-returns-then-head-eq0-clause-most g c = subst (λ (n : ℕ). n ≤ 30) (sym c.in-Ok.ensures.head.count) c.in-Ok.ensures.head.node.most
+returns-then-head-eq0-clause-most g c = subst (λ (n : ℕ). n ≤ 30) (sym c.in_ok-head.ensures.head.count) c.in_ok-head.ensures.head.node.most
 
 pub returns-then-head-eq0-clause-dead : goal.returns-then-head-eq0-clause-dead
 returns-then-head-eq0-clause-dead g c = λ told. no_error _ _ told
 
 pub child_in-child-requires-clause-count : goal.child_in-child-requires-clause-count
-child_in-child-requires-clause-count g c = c.in-Ok.ensures.head.count
+child_in-child-requires-clause-count g c = c.in_ok-head.ensures.head.count
 
 pub child_in-child-requires-clause-most : goal.child_in-child-requires-clause-most
-child_in-child-requires-clause-most g c = subst (λ (n : ℕ). n ≤ 30) (sym c.in-Ok.ensures.head.count) c.in-Ok.ensures.head.node.most
+child_in-child-requires-clause-most g c = subst (λ (n : ℕ). n ≤ 30) (sym c.in_ok-head.ensures.head.count) c.in_ok-head.ensures.head.node.most
 
 pub returns-then-not-are_inside-clause-looks : goal.returns-then-not-are_inside-clause-looks
-returns-then-not-are_inside-clause-looks g c = looks_next g.S.EawStore.tells g.S.EawStore.opens _ (pages_of (g.S.EawStore.view c.args.pages.now.store) c.args.pages.now) (pages_of (g.S.EawStore.view c.loop-step.pages.store) c.loop-step.pages) (pages_of (g.S.EawStore.view c.read_node.new.pages.store) c.read_node.new.pages) c.loop-step.invariant.looks c.in-Ok.ensures.looks
+returns-then-not-are_inside-clause-looks g c = looks_next g.S.EawStore.tells g.S.EawStore.opens _ (pages_of (g.S.EawStore.view c.args.pages.now.store) c.args.pages.now) (pages_of (g.S.EawStore.view c.loop-step.pages.store) c.loop-step.pages) (pages_of (g.S.EawStore.view c.read_node.new.pages.store) c.read_node.new.pages) c.loop-step.invariant.looks c.in_ok-head.ensures.looks
 
 pub returns-then-not-are_inside-clause-dead : goal.returns-then-not-are_inside-clause-dead
 returns-then-not-are_inside-clause-dead g c = λ told. not_damaged_page _ told
@@ -194,17 +199,19 @@ pub returns-then-head-eq0-clause-behind : goal.returns-then-head-eq0-clause-behi
 returns-then-head-eq0-clause-behind g c = lasts_later (g.S.EawStore.view c.args.pages.now.store).shape c.args.start c.loop-step.step c.loop-step.behind (omega (arith, c.loop-step-test.true)) c.loop-step.invariant.lasts
 
 pub returns-then-head-eq0-clause-begins : goal.returns-then-head-eq0-clause-begins
-returns-then-head-eq0-clause-begins g c = λ told. c.loop-step.invariant.begins told (sym (c.loop-step.invariant.looks.still refl).dead ∙ c.in-Ok.ensures.cause)
+returns-then-head-eq0-clause-begins g c = λ told. c.loop-step.invariant.begins told (sym (c.loop-step.invariant.looks.still refl).dead ∙ c.in_ok-head.ensures.cause)
 
-pub returns-in-Err-clause-walks : goal.returns-in-Err-clause-walks
-returns-in-Err-clause-walks g c =
+pub returns-in_err-head-clause-walks : goal.returns-in_err-head-clause-walks
+returns-in_err-head-clause-walks g c =
+    let exit = err_from_is_err_and c.from_residual.result c.from_residual.ensures.1 in
+    rw (exit.1, exit.2) (
     let view = g.S.EawStore.view c.args.pages.now.store in
     let mid = g.S.EawStore.view c.loop-step.pages.store in
     on_err g.S.EawStore.tells (g.S.EawStore.calls c.args.pages.now.store) (g.S.EawStore.calls c.loop-step.pages.store) (g.S.EawStore.calls c.read_node.new.pages.store)
     (down c.args.start.page c.args.start.key) c.loop-step.step c.loop-step.page c.loop-step.last view (g.S.EawStore.view c.loop-step.pages.store) (g.S.EawStore.view c.read_node.new.pages.store)
     (c.loop-step.invariant.looks.still refl) c.loop-step.invariant.looks.shape c.loop-step.invariant.on.0 c.args.start.most (Descended c.args.start.key c.read_node.new.bytes)
-    Head (IsNode (page_bytes mid.state.bytes c.loop-step.page)) c.read_node.new.bytes (page_bytes mid.state.bytes c.loop-step.page) c.in-Err.fault
-    (omega (arith, c.loop-step-test.true)) c.in-Err.ensures.reads c.in-Err.ensures.cause
+    Head (IsNode (page_bytes mid.state.bytes c.loop-step.page)) c.read_node.new.bytes (page_bytes mid.state.bytes c.loop-step.page) c.in_err-head.field-0.0
+    (omega (arith, c.loop-step-test.true)) c.in_err-head.ensures.reads c.in_err-head.ensures.cause)
 
 pub returns-then-head-eq0-clause-walks : goal.returns-then-head-eq0-clause-walks
 returns-then-head-eq0-clause-walks g c =
@@ -212,8 +219,8 @@ returns-then-head-eq0-clause-walks g c =
     on_end g.S.EawStore.tells (g.S.EawStore.calls c.args.pages.now.store) (g.S.EawStore.calls c.loop-step.pages.store) (g.S.EawStore.calls c.read_node.new.pages.store)
     (down c.args.start.page c.args.start.key) c.loop-step.step c.loop-step.page c.loop-step.last view (g.S.EawStore.view c.loop-step.pages.store) (g.S.EawStore.view c.read_node.new.pages.store)
     (c.loop-step.invariant.looks.still refl) c.loop-step.invariant.looks.shape c.loop-step.invariant.on.0 c.args.start.most (Descended c.args.start.key c.read_node.new.bytes)
-    c.read_node.new.bytes _ (omega (arith, c.loop-step-test.true)) c.in-Ok.ensures.reads
-    (refl, refl, leaf_said c.read_node.new.bytes c.in-Ok.head.level c.in-Ok.ensures.head.level c.if-head-eq0.true, c.loop-step.invariant.on.1)
+    c.read_node.new.bytes _ (omega (arith, c.loop-step-test.true)) c.in_ok-head.ensures.reads
+    (refl, refl, leaf_said c.read_node.new.bytes c.in_ok-head.head.level c.in_ok-head.ensures.head.level c.if-head-eq0.true, c.loop-step.invariant.on.1)
 
 pub returns-then-not-are_inside-clause-walks : goal.returns-then-not-are_inside-clause-walks
 returns-then-not-are_inside-clause-walks g c =
@@ -221,7 +228,7 @@ returns-then-not-are_inside-clause-walks g c =
     on_bad g.S.EawStore.tells (g.S.EawStore.calls c.args.pages.now.store) (g.S.EawStore.calls c.loop-step.pages.store) (g.S.EawStore.calls c.read_node.new.pages.store)
     (down c.args.start.page c.args.start.key) c.loop-step.step c.loop-step.page c.loop-step.last view (g.S.EawStore.view c.loop-step.pages.store) (g.S.EawStore.view c.read_node.new.pages.store)
     (c.loop-step.invariant.looks.still refl) c.loop-step.invariant.looks.shape c.loop-step.invariant.on.0 c.args.start.most (Descended c.args.start.key c.read_node.new.bytes)
-    c.read_node.new.bytes (omega (arith, c.loop-step-test.true)) c.in-Ok.ensures.reads
+    c.read_node.new.bytes (omega (arith, c.loop-step-test.true)) c.in_ok-head.ensures.reads
 
 pub returns-clause-walks : goal.returns-clause-walks
 returns-clause-walks g c =
@@ -234,9 +241,9 @@ pub returns-then-head-eq0-clause-page : goal.returns-then-head-eq0-clause-page
 returns-then-head-eq0-clause-page g c = λ told.
     let view = g.S.EawStore.view c.args.pages.now.store in
     let still = c.loop-step.invariant.looks.still refl in
-    let alive : IsAlive view = sym still.dead ∙ c.in-Ok.ensures.cause in
-    let buf = c.in-Ok.ensures.bytes told ∙ ap (λ (s : State). page_bytes s.bytes c.loop-step.page) (still.state told) in
-    let level : level_of view.state.bytes c.loop-step.page ≡ 0 = sym (ap level_said buf) ∙ sym c.in-Ok.ensures.head.level ∙ c.if-head-eq0.true in
+    let alive : IsAlive view = sym still.dead ∙ c.in_ok-head.ensures.cause in
+    let buf = c.in_ok-head.ensures.bytes told ∙ ap (λ (s : State). page_bytes s.bytes c.loop-step.page) (still.state told) in
+    let level : level_of view.state.bytes c.loop-step.page ≡ 0 = sym (ap level_said buf) ∙ sym c.in_ok-head.ensures.head.level ∙ c.if-head-eq0.true in
     let d = c.loop-step.invariant.down told alive in
     leaf_here c.args.root view.state.bytes c.args.start.key d.0 c.loop-step.page d.1 d.4 level
 
@@ -244,13 +251,13 @@ pub returns-then-head-eq0-clause-full : goal.returns-then-head-eq0-clause-full
 returns-then-head-eq0-clause-full g c = λ told all.
     let view = g.S.EawStore.view c.args.pages.now.store in
     let still = c.loop-step.invariant.looks.still refl in
-    let alive : IsAlive view = sym still.dead ∙ c.in-Ok.ensures.cause in
+    let alive : IsAlive view = sym still.dead ∙ c.in_ok-head.ensures.cause in
     let bytes = view.state.bytes in
-    let buf = c.in-Ok.ensures.bytes told ∙ ap (λ (s : State). page_bytes s.bytes c.loop-step.page) (still.state told) in
-    let level : level_of view.state.bytes c.loop-step.page ≡ 0 = sym (ap level_said buf) ∙ sym c.in-Ok.ensures.head.level ∙ c.if-head-eq0.true in
-    let full : c.or_full-full.result ≡ (c.loop-step.full || is_full bytes c.loop-step.page) = c.or_full-full.ensures ∙ ap (λ (n : ℕ). c.loop-step.full || nat_le 30 n) (c.in-Ok.ensures.head.count ∙ ap count_said buf) in
+    let buf = c.in_ok-head.ensures.bytes told ∙ ap (λ (s : State). page_bytes s.bytes c.loop-step.page) (still.state told) in
+    let level : level_of view.state.bytes c.loop-step.page ≡ 0 = sym (ap level_said buf) ∙ sym c.in_ok-head.ensures.head.level ∙ c.if-head-eq0.true in
+    let full : c.or_full-full.result ≡ (c.loop-step.full || is_full bytes c.loop-step.page) = c.or_full-full.ensures ∙ ap (λ (n : ℕ). c.loop-step.full || nat_le 30 n) (c.in_ok-head.ensures.head.count ∙ ap count_said buf) in
     let d = c.loop-step.invariant.down told alive in
     crowd_end c.args.root bytes c.args.start.key d.0 c.loop-step.page d.1 d.4 c.loop-step.full (c.loop-step.invariant.crowd told alive all) level c.or_full-full.result full
 
 pub returns-then-head-eq0-clause-room : goal.returns-then-head-eq0-clause-room
-returns-then-head-eq0-clause-room g c = λ is. few_pairs c.in-Ok.head.count (neither c.loop-step.full (nat_le 30 c.in-Ok.head.count) (sym c.or_full-full.ensures ∙ is)).1
+returns-then-head-eq0-clause-room g c = λ is. few_pairs c.in_ok-head.head.count (neither c.loop-step.full (nat_le 30 c.in_ok-head.head.count) (sym c.or_full-full.ensures ∙ is)).1

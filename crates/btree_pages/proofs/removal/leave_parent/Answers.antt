@@ -17,6 +17,7 @@ use Rattle.page_store.specs.Works.{blamed, removal_actions}
 use Rattle.std.proofs.lemmas.Bool.{false≢true}
 use Rattle.index_pages.proofs.Working.{act_blames}
 use Rattle.btree_pages.proofs.Removing.{leaving_in, ends_none, act_alone}
+use Rattle.std.proofs.lemmas.Result.{err_from_is_err_and}
 use Rattle.btree_pages.proofs.removal.leave_parent.Goals as goal
 
 pub returns-in_default-clause-removes : goal.returns-in_default-clause-removes
@@ -28,8 +29,8 @@ returns-in_default-clause-removes g c =
     (λ told. c.in_default.ensures.none (leaf_may c.args.root v0.store.state.bytes c.args.key fits (c.requires.sound told) (c.requires.named told) c.args.parent.page c.args.parent.level c.args.parent.pairs.items c.requires.level (c.requires.reached told)
     c.args.slot.now.number c.args.slot.now.free c.args.slot.now.front (c.requires.released told) c.args.leaf c.requires.leaf_is))
 
-pub returns-in-Ok-clause-removes : goal.returns-in-Ok-clause-removes
-returns-in-Ok-clause-removes g c =
+pub returns-clause-removes : goal.returns-clause-removes
+returns-clause-removes g c =
     let T = g.S.EawStore.tells in
     let V = g.S.EawStore.view in
     let E = g.S.EawStore.opens in
@@ -46,10 +47,12 @@ returns-in-Ok-clause-removes g c =
     c.requires.last c.requires.several freed.free freed.front gives
     (subst (λ (x : ℕ × List Pair). Acts T (E v0.store.shape) c.args.tid (leaving_pages (index_pages_of v0.store.shape) c.args.slot.now.number c.args.parent.page x.0)
     (leaving_parts (index_pages_of v0.store.shape) c.in-Some.freed.front c.args.slot.now.number c.args.slot.now.free c.args.parent.page x.1 x.0 c.in-Some.freed.free) v0 v1 acted)
-    (λ i. (c.in-Some.ensures.gives.0 i, rest i)) c.in-Ok.ensures.acts)
+    (λ i. (c.in-Some.ensures.gives.0 i, rest i)) c.in_ok-drop_leaf.ensures.acts)
 
-pub returns-in-Err-clause-removes : goal.returns-in-Err-clause-removes
-returns-in-Err-clause-removes g c =
+pub returns-in_err-drop_leaf-clause-removes : goal.returns-in_err-drop_leaf-clause-removes
+returns-in_err-drop_leaf-clause-removes g c =
+    let exit = err_from_is_err_and c.from_residual.result c.from_residual.ensures.1 in
+    rw (exit.1, exit.2) (
     let T = g.S.EawStore.tells in
     let V = g.S.EawStore.view in
     let E = g.S.EawStore.opens in
@@ -59,14 +62,14 @@ returns-in-Err-clause-removes g c =
     let freed = c.in-Some.freed in
     let gives = c.in-Some.ensures.gives.1 in
     let rest : c.without_end.result.items ≡ without_last c.args.parent.pairs.items = c.without_end.ensures in
-    let acted : Result (Unit {0}) PageFault = Err c.in-Err.fault in
+    let acted : Result (Unit {0}) PageFault = Err c.in_err-drop_leaf.field-0.0 in
     leave_err T E c.args.tid c.args.root c.args.key v0 fits c.requires.alive (λ told. g.met.S.EawStore.long c.args.pages.now.store told) c.requires.sound c.requires.named
     c.args.slot.now.number c.args.slot.now.free c.args.slot.now.front c.requires.released v1 c.requires.finds
     c.args.leaf c.args.parent.page c.args.parent.level c.args.parent.pairs.items c.requires.leaf_is c.requires.alone c.requires.parent c.requires.level c.requires.reached
-    c.requires.last c.requires.several freed.free freed.front gives c.in-Err.fault
+    c.requires.last c.requires.several freed.free freed.front gives c.in_err-drop_leaf.field-0.0
     (subst (λ (x : ℕ × List Pair). Acts T (E v0.store.shape) c.args.tid (leaving_pages (index_pages_of v0.store.shape) c.args.slot.now.number c.args.parent.page x.0)
     (leaving_parts (index_pages_of v0.store.shape) c.in-Some.freed.front c.args.slot.now.number c.args.slot.now.free c.args.parent.page x.1 x.0 c.in-Some.freed.free) v0 v1 acted)
-    (λ i. (c.in-Some.ensures.gives.0 i, rest i)) c.in-Err.ensures.acts)
+    (λ i. (c.in-Some.ensures.gives.0 i, rest i)) c.in_err-drop_leaf.ensures.acts))
 
 pub returns-in_default-clause-works : goal.returns-in_default-clause-works
 returns-in_default-clause-works g c =
@@ -75,8 +78,8 @@ returns-in_default-clause-works g c =
     let due = removal_actions (tree_removal v0.store.state.bytes c.args.root.page c.args.key) in
     ends_none g.S.EawStore.tells V g.S.EawStore.calls c.args.tid due (Some c.args.leaf) false c.args.key (c.args.leaf ∷ []) v0.store (omega (arith, c.requires.leaf), inl refl) (λ told yes. absurd (false≢true yes))
 
-pub returns-in-Ok-clause-works : goal.returns-in-Ok-clause-works
-returns-in-Ok-clause-works g c =
+pub returns-clause-works : goal.returns-clause-works
+returns-clause-works g c =
     let V = g.S.EawStore.view in
     let v0 = pages_of (V c.args.pages.now.store) c.args.pages.now in
     let due = removal_actions (tree_removal v0.store.state.bytes c.args.root.page c.args.key) in
@@ -93,10 +96,12 @@ returns-in-Ok-clause-works g c =
     let is = λ (told : IsTrue g.S.EawStore.tells). (λ i. (let a : Action = record { pages = leaving_pages half slot.number parent.page (gives.0 i); takes = 0 } in a ∷ [])) ∙ ap removal_actions (sym (leave_takes_told g.S.EawStore.tells g.S.EawStore.opens c.args.tid c.args.root c.args.key v0 fits c.requires.alive (λ tell. g.met.S.EawStore.long c.args.pages.now.store tell) c.requires.sound c.requires.named
     slot.number slot.free slot.front c.requires.released v1 c.requires.finds c.args.leaf parent.page parent.level parent.pairs.items c.requires.leaf_is c.requires.alone c.requires.parent c.requires.level c.requires.reached c.requires.last c.requires.several freed.free freed.front gives.1 told)) in
     let r : Result (Unit {0}) PageFault = Ok tt in
-    act_alone g.S.EawStore.tells V g.S.EawStore.calls c.args.tid due (None) c.args.key (c.args.leaf ∷ []) c.args.pages.now action (acting_of c.args.tid mark parts) (mark, parts, refl, leaving_in half freed.front slot.number slot.free parent.page c.without_end.result.items freed.number freed.free) refl is r v0.store v1.store c.in-Ok.ensures.runs
+    act_alone g.S.EawStore.tells V g.S.EawStore.calls c.args.tid due (None) c.args.key (c.args.leaf ∷ []) c.args.pages.now action (acting_of c.args.tid mark parts) (mark, parts, refl, leaving_in half freed.front slot.number slot.free parent.page c.without_end.result.items freed.number freed.free) refl is r v0.store v1.store c.in_ok-drop_leaf.ensures.runs
 
-pub returns-in-Err-clause-works : goal.returns-in-Err-clause-works
-returns-in-Err-clause-works g c =
+pub returns-in_err-drop_leaf-clause-works : goal.returns-in_err-drop_leaf-clause-works
+returns-in_err-drop_leaf-clause-works g c =
+    let exit = err_from_is_err_and c.from_residual.result c.from_residual.ensures.1 in
+    rw (exit.1, exit.2) (
     let V = g.S.EawStore.view in
     let v0 = pages_of (V c.args.pages.now.store) c.args.pages.now in
     let due = removal_actions (tree_removal v0.store.state.bytes c.args.root.page c.args.key) in
@@ -112,6 +117,6 @@ returns-in-Err-clause-works g c =
     let parts = leaving_parts half freed.front slot.number slot.free parent.page c.without_end.result.items freed.number freed.free in
     let is = λ (told : IsTrue g.S.EawStore.tells). (λ i. (let a : Action = record { pages = leaving_pages half slot.number parent.page (gives.0 i); takes = 0 } in a ∷ [])) ∙ ap removal_actions (sym (leave_takes_told g.S.EawStore.tells g.S.EawStore.opens c.args.tid c.args.root c.args.key v0 fits c.requires.alive (λ tell. g.met.S.EawStore.long c.args.pages.now.store tell) c.requires.sound c.requires.named
     slot.number slot.free slot.front c.requires.released v1 c.requires.finds c.args.leaf parent.page parent.level parent.pairs.items c.requires.leaf_is c.requires.alone c.requires.parent c.requires.level c.requires.reached c.requires.last c.requires.several freed.free freed.front gives.1 told)) in
-    let r : Result (Unit {0}) PageFault = Err c.in-Err.fault in
-    let s : Result Bool PageFault = Err c.in-Err.fault in
-    act_alone g.S.EawStore.tells V g.S.EawStore.calls c.args.tid due (blamed s) c.args.key (c.args.leaf ∷ []) c.args.pages.now action (acting_of c.args.tid mark parts) (mark, parts, refl, leaving_in half freed.front slot.number slot.free parent.page c.without_end.result.items freed.number freed.free) (act_blames Bool v0.store c.args.tid (leaving_pages half slot.number parent.page freed.number) c.in-Err.fault c.in-Err.ensures.acts.cause) is r v0.store v1.store c.in-Err.ensures.runs
+    let r : Result (Unit {0}) PageFault = Err c.in_err-drop_leaf.field-0.0 in
+    let s : Result Bool PageFault = Err c.in_err-drop_leaf.field-0.0 in
+    act_alone g.S.EawStore.tells V g.S.EawStore.calls c.args.tid due (blamed s) c.args.key (c.args.leaf ∷ []) c.args.pages.now action (acting_of c.args.tid mark parts) (mark, parts, refl, leaving_in half freed.front slot.number slot.free parent.page c.without_end.result.items freed.number freed.free) (act_blames Bool v0.store c.args.tid (leaving_pages half slot.number parent.page freed.number) c.in_err-drop_leaf.field-0.0 c.in_err-drop_leaf.ensures.acts.cause) is r v0.store v1.store c.in_err-drop_leaf.ensures.runs)

@@ -12,38 +12,43 @@ use Rattle.page_store.specs.declared.fault.PageFault.{PageFault}
 use Rattle.btree_pages.specs.Index.{tree_removal}
 use Rattle.index_pages.proofs.Working.{act_blames, removing_in}
 use Rattle.btree_pages.proofs.Removing.{act_alone}
+use Rattle.std.proofs.lemmas.Result.{err_from_is_err_and}
 use Rattle.btree_pages.proofs.removal.lose_pair.Goals as goal
 
-pub returns-in-Ok-clause-removes : goal.returns-in-Ok-clause-removes
-returns-in-Ok-clause-removes g c =
+pub returns-clause-removes : goal.returns-clause-removes
+returns-clause-removes g c =
     let V = g.S.EawStore.view in
     let v0 = pages_of (V c.args.pages.now.store) c.args.pages.now in
     let v1 = pages_of (V c.remove_pair.new.pages.store) c.remove_pair.new.pages in
     let fits : c.args.key < 2 ^ 64 = omega arith in
     lose_done g.S.EawStore.tells g.S.EawStore.opens c.args.tid c.args.root c.args.key v0 fits c.requires.alive (λ told. g.met.S.EawStore.long c.args.pages.now.store told) c.requires.sound c.requires.named
     c.args.slot.now.number c.args.slot.now.free c.args.slot.now.front c.requires.released v1 c.args.leaf.page c.args.leaf.level c.args.leaf.pairs.items c.requires.leaf c.requires.bottom c.requires.reached c.requires.finds c.requires.more
-    c.in-Ok.ensures.acts
+    c.in_ok-remove_pair.ensures.acts
 
-pub returns-in-Err-clause-removes : goal.returns-in-Err-clause-removes
-returns-in-Err-clause-removes g c =
+pub returns-in_err-remove_pair-clause-removes : goal.returns-in_err-remove_pair-clause-removes
+returns-in_err-remove_pair-clause-removes g c =
+    let exit = err_from_is_err_and c.from_residual.result c.from_residual.ensures.1 in
+    rw (exit.1, exit.2) (
     let V = g.S.EawStore.view in
     let v0 = pages_of (V c.args.pages.now.store) c.args.pages.now in
     let v1 = pages_of (V c.remove_pair.new.pages.store) c.remove_pair.new.pages in
     let fits : c.args.key < 2 ^ 64 = omega arith in
     lose_err g.S.EawStore.tells g.S.EawStore.opens c.args.tid c.args.root c.args.key v0 fits c.requires.alive (λ told. g.met.S.EawStore.long c.args.pages.now.store told) c.requires.sound c.requires.named
     c.args.slot.now.number c.args.slot.now.free c.args.slot.now.front c.requires.released v1 c.args.leaf.page c.args.leaf.level c.args.leaf.pairs.items c.requires.leaf c.requires.bottom c.requires.reached c.requires.finds c.requires.more
-    c.in-Err.fault c.in-Err.ensures.acts
+    c.in_err-remove_pair.field-0.0 c.in_err-remove_pair.ensures.acts)
 
-pub returns-in-Ok-clause-dead : goal.returns-in-Ok-clause-dead
-returns-in-Ok-clause-dead g c = λ told. no_error _ _ told
+pub returns-clause-dead : goal.returns-clause-dead
+returns-clause-dead g c = λ told. no_error _ _ told
 
-pub returns-in-Err-clause-dead : goal.returns-in-Err-clause-dead
-returns-in-Err-clause-dead g c = λ told.
+pub returns-in_err-remove_pair-clause-dead : goal.returns-in_err-remove_pair-clause-dead
+returns-in_err-remove_pair-clause-dead g c =
+    let exit = err_from_is_err_and c.from_residual.result c.from_residual.ensures.1 in
+    rw (exit.1, exit.2) (λ told.
     let V = g.S.EawStore.view in
-    dead_act (V c.args.pages.now.store) c.args.tid (removing_pages (index_pages_of (V c.args.pages.now.store).shape) c.args.slot.now.number c.args.leaf.page) c.in-Err.fault c.requires.alive (error_is _ _ told) c.in-Err.ensures.acts.cause
+    dead_act (V c.args.pages.now.store) c.args.tid (removing_pages (index_pages_of (V c.args.pages.now.store).shape) c.args.slot.now.number c.args.leaf.page) c.in_err-remove_pair.field-0.0 c.requires.alive (error_is _ _ told) c.in_err-remove_pair.ensures.acts.cause)
 
-pub returns-in-Ok-clause-works : goal.returns-in-Ok-clause-works
-returns-in-Ok-clause-works g c =
+pub returns-clause-works : goal.returns-clause-works
+returns-clause-works g c =
     let V = g.S.EawStore.view in
     let v0 = pages_of (V c.args.pages.now.store) c.args.pages.now in
     let v1 = pages_of (V c.remove_pair.new.pages.store) c.remove_pair.new.pages in
@@ -58,10 +63,12 @@ returns-in-Ok-clause-works g c =
     let is = λ (told : IsTrue g.S.EawStore.tells). ap removal_actions (sym (takes g.S.EawStore.tells g.S.EawStore.opens c.args.tid c.args.root c.args.key v0 fits c.requires.alive (λ tell. g.met.S.EawStore.long c.args.pages.now.store tell) c.requires.sound c.requires.named
     slot.number slot.free slot.front c.requires.released v1 leaf.page leaf.level leaf.pairs.items c.requires.leaf c.requires.bottom c.requires.reached c.requires.finds c.requires.more told)) in
     let r : Result (Unit {0}) PageFault = Ok tt in
-    act_alone g.S.EawStore.tells V g.S.EawStore.calls c.args.tid due (None) c.args.key [] c.args.pages.now action (acting_of c.args.tid mark parts) (mark, parts, refl, removing_in half slot.front slot.number slot.free leaf.page 0 leaf.pairs.items c.args.key) refl is r v0.store v1.store c.in-Ok.ensures.runs
+    act_alone g.S.EawStore.tells V g.S.EawStore.calls c.args.tid due (None) c.args.key [] c.args.pages.now action (acting_of c.args.tid mark parts) (mark, parts, refl, removing_in half slot.front slot.number slot.free leaf.page 0 leaf.pairs.items c.args.key) refl is r v0.store v1.store c.in_ok-remove_pair.ensures.runs
 
-pub returns-in-Err-clause-works : goal.returns-in-Err-clause-works
-returns-in-Err-clause-works g c =
+pub returns-in_err-remove_pair-clause-works : goal.returns-in_err-remove_pair-clause-works
+returns-in_err-remove_pair-clause-works g c =
+    let exit = err_from_is_err_and c.from_residual.result c.from_residual.ensures.1 in
+    rw (exit.1, exit.2) (
     let V = g.S.EawStore.view in
     let v0 = pages_of (V c.args.pages.now.store) c.args.pages.now in
     let v1 = pages_of (V c.remove_pair.new.pages.store) c.remove_pair.new.pages in
@@ -75,6 +82,6 @@ returns-in-Err-clause-works g c =
     let due = removal_actions (tree_removal v0.store.state.bytes c.args.root.page c.args.key) in
     let is = λ (told : IsTrue g.S.EawStore.tells). ap removal_actions (sym (takes g.S.EawStore.tells g.S.EawStore.opens c.args.tid c.args.root c.args.key v0 fits c.requires.alive (λ tell. g.met.S.EawStore.long c.args.pages.now.store tell) c.requires.sound c.requires.named
     slot.number slot.free slot.front c.requires.released v1 leaf.page leaf.level leaf.pairs.items c.requires.leaf c.requires.bottom c.requires.reached c.requires.finds c.requires.more told)) in
-    let r : Result (Unit {0}) PageFault = Err c.in-Err.fault in
-    let s : Result Bool PageFault = Err c.in-Err.fault in
-    act_alone g.S.EawStore.tells V g.S.EawStore.calls c.args.tid due (blamed s) c.args.key [] c.args.pages.now action (acting_of c.args.tid mark parts) (mark, parts, refl, removing_in half slot.front slot.number slot.free leaf.page 0 leaf.pairs.items c.args.key) (act_blames Bool v0.store c.args.tid (removing_pages half slot.number leaf.page) c.in-Err.fault c.in-Err.ensures.acts.cause) is r v0.store v1.store c.in-Err.ensures.runs
+    let r : Result (Unit {0}) PageFault = Err c.in_err-remove_pair.field-0.0 in
+    let s : Result Bool PageFault = Err c.in_err-remove_pair.field-0.0 in
+    act_alone g.S.EawStore.tells V g.S.EawStore.calls c.args.tid due (blamed s) c.args.key [] c.args.pages.now action (acting_of c.args.tid mark parts) (mark, parts, refl, removing_in half slot.front slot.number slot.free leaf.page 0 leaf.pairs.items c.args.key) (act_blames Bool v0.store c.args.tid (removing_pages half slot.number leaf.page) c.in_err-remove_pair.field-0.0 c.in_err-remove_pair.ensures.acts.cause) is r v0.store v1.store c.in_err-remove_pair.ensures.runs)

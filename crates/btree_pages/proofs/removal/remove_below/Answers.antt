@@ -12,6 +12,7 @@ use Rattle.btree_pages.proofs.Looked.{bytes_same}
 use Rattle.btree_pages.proofs.Removing.{blamed_as, came_child, came_fails, down_fails, down_then, ends_none, one_met}
 use Rattle.btree_pages.specs.declared.node.Node.{Node}
 use Rattle.array_shape.specs.declared.shape.Shape.{Shape}
+use Rattle.std.proofs.lemmas.Result.{err_from_is_err_and}
 use Rattle.btree_pages.proofs.removal.remove_below.Goals as goal
 
 pub returns-in_default-clause-removes : goal.returns-in_default-clause-removes
@@ -25,10 +26,10 @@ returns-in_default-clause-removes g c =
     let v1 = pages_of (V c.fetch_parent.new.pages.store) c.fetch_parent.new.pages in
     let v2 = pages_of (V c.fetch_child.new.pages.store) c.fetch_child.new.pages in
     let fits : c.args.key < 2 ^ 64 = omega arith in
-    let parent = c.in-Ok.parent in
-    let leaf = c.in-Ok-fetch_child.leaf in
-    removes_damaged T (E v0.store.shape) tree c.args.tid root.page key v0 v2 leaf.page (both_looks T E root key fits v0 v1 v2 c.in-Ok.ensures.looks c.in-Ok-fetch_child.ensures.looks c.requires.sound c.requires.named parent.page parent.level parent.pairs.items c.in-Ok.ensures.level c.in-Ok.ensures.reached leaf.page leaf.level leaf.pairs.items c.in-Ok-fetch_child.ensures.child c.in-Ok-fetch_child.ensures.level c.in-Ok-fetch_child.ensures.pairs) c.requires.alive
-    (leaf_gives T E root key fits v0 v1 v2 c.in-Ok.ensures.looks c.in-Ok-fetch_child.ensures.looks c.requires.sound c.requires.named parent.page parent.level parent.pairs.items c.in-Ok.ensures.level c.in-Ok.ensures.reached leaf.page leaf.level leaf.pairs.items c.in-Ok-fetch_child.ensures.child c.in-Ok-fetch_child.ensures.level c.in-Ok-fetch_child.ensures.pairs c.requires.there c.requires.lists c.args.front.now c.requires.says c.in_default.ensures.none)
+    let parent = c.in_ok-parent.parent in
+    let leaf = c.in_ok-leaf.leaf in
+    removes_damaged T (E v0.store.shape) tree c.args.tid root.page key v0 v2 leaf.page (both_looks T E root key fits v0 v1 v2 c.in_ok-parent.ensures.looks c.in_ok-leaf.ensures.looks c.requires.sound c.requires.named parent.page parent.level parent.pairs.items c.in_ok-parent.ensures.level c.in_ok-parent.ensures.reached leaf.page leaf.level leaf.pairs.items c.in_ok-leaf.ensures.child c.in_ok-leaf.ensures.level c.in_ok-leaf.ensures.pairs) c.requires.alive
+    (leaf_gives T E root key fits v0 v1 v2 c.in_ok-parent.ensures.looks c.in_ok-leaf.ensures.looks c.requires.sound c.requires.named parent.page parent.level parent.pairs.items c.in_ok-parent.ensures.level c.in_ok-parent.ensures.reached leaf.page leaf.level leaf.pairs.items c.in_ok-leaf.ensures.child c.in_ok-leaf.ensures.level c.in_ok-leaf.ensures.pairs c.requires.there c.requires.lists c.args.front.now c.requires.says c.in_default.ensures.none)
 
 pub lose_pair-requires-clause-closed : goal.lose_pair-requires-clause-closed
 lose_pair-requires-clause-closed g c =
@@ -41,9 +42,9 @@ lose_pair-requires-clause-closed g c =
     let v1 = pages_of (V c.fetch_parent.new.pages.store) c.fetch_parent.new.pages in
     let v2 = pages_of (V c.fetch_child.new.pages.store) c.fetch_child.new.pages in
     let fits : c.args.key < 2 ^ 64 = omega arith in
-    let parent = c.in-Ok.parent in
-    let leaf = c.in-Ok-fetch_child.leaf in
-    ap (λ (f : ℕ → Option ℕ). f c.args.tid) (both_looks T E root key fits v0 v1 v2 c.in-Ok.ensures.looks c.in-Ok-fetch_child.ensures.looks c.requires.sound c.requires.named parent.page parent.level parent.pairs.items c.in-Ok.ensures.level c.in-Ok.ensures.reached leaf.page leaf.level leaf.pairs.items c.in-Ok-fetch_child.ensures.child c.in-Ok-fetch_child.ensures.level c.in-Ok-fetch_child.ensures.pairs).tops ∙ c.requires.closed
+    let parent = c.in_ok-parent.parent in
+    let leaf = c.in_ok-leaf.leaf in
+    ap (λ (f : ℕ → Option ℕ). f c.args.tid) (both_looks T E root key fits v0 v1 v2 c.in_ok-parent.ensures.looks c.in_ok-leaf.ensures.looks c.requires.sound c.requires.named parent.page parent.level parent.pairs.items c.in_ok-parent.ensures.level c.in_ok-parent.ensures.reached leaf.page leaf.level leaf.pairs.items c.in_ok-leaf.ensures.child c.in_ok-leaf.ensures.level c.in_ok-leaf.ensures.pairs).tops ∙ c.requires.closed
 
 pub join_right-requires-clause-closed : goal.join_right-requires-clause-closed
 join_right-requires-clause-closed g c =
@@ -56,9 +57,9 @@ join_right-requires-clause-closed g c =
     let v1 = pages_of (V c.fetch_parent.new.pages.store) c.fetch_parent.new.pages in
     let v2 = pages_of (V c.fetch_child.new.pages.store) c.fetch_child.new.pages in
     let fits : c.args.key < 2 ^ 64 = omega arith in
-    let parent = c.in-Ok.parent in
-    let leaf = c.in-Ok-fetch_child.leaf in
-    ap (λ (f : ℕ → Option ℕ). f c.args.tid) (both_looks T E root key fits v0 v1 v2 c.in-Ok.ensures.looks c.in-Ok-fetch_child.ensures.looks c.requires.sound c.requires.named parent.page parent.level parent.pairs.items c.in-Ok.ensures.level c.in-Ok.ensures.reached leaf.page leaf.level leaf.pairs.items c.in-Ok-fetch_child.ensures.child c.in-Ok-fetch_child.ensures.level c.in-Ok-fetch_child.ensures.pairs).tops ∙ c.requires.closed
+    let parent = c.in_ok-parent.parent in
+    let leaf = c.in_ok-leaf.leaf in
+    ap (λ (f : ℕ → Option ℕ). f c.args.tid) (both_looks T E root key fits v0 v1 v2 c.in_ok-parent.ensures.looks c.in_ok-leaf.ensures.looks c.requires.sound c.requires.named parent.page parent.level parent.pairs.items c.in_ok-parent.ensures.level c.in_ok-parent.ensures.reached leaf.page leaf.level leaf.pairs.items c.in_ok-leaf.ensures.child c.in_ok-leaf.ensures.level c.in_ok-leaf.ensures.pairs).tops ∙ c.requires.closed
 
 pub leave_parent-requires-clause-closed : goal.leave_parent-requires-clause-closed
 leave_parent-requires-clause-closed g c =
@@ -71,9 +72,9 @@ leave_parent-requires-clause-closed g c =
     let v1 = pages_of (V c.fetch_parent.new.pages.store) c.fetch_parent.new.pages in
     let v2 = pages_of (V c.fetch_child.new.pages.store) c.fetch_child.new.pages in
     let fits : c.args.key < 2 ^ 64 = omega arith in
-    let parent = c.in-Ok.parent in
-    let leaf = c.in-Ok-fetch_child.leaf in
-    ap (λ (f : ℕ → Option ℕ). f c.args.tid) (both_looks T E root key fits v0 v1 v2 c.in-Ok.ensures.looks c.in-Ok-fetch_child.ensures.looks c.requires.sound c.requires.named parent.page parent.level parent.pairs.items c.in-Ok.ensures.level c.in-Ok.ensures.reached leaf.page leaf.level leaf.pairs.items c.in-Ok-fetch_child.ensures.child c.in-Ok-fetch_child.ensures.level c.in-Ok-fetch_child.ensures.pairs).tops ∙ c.requires.closed
+    let parent = c.in_ok-parent.parent in
+    let leaf = c.in_ok-leaf.leaf in
+    ap (λ (f : ℕ → Option ℕ). f c.args.tid) (both_looks T E root key fits v0 v1 v2 c.in_ok-parent.ensures.looks c.in_ok-leaf.ensures.looks c.requires.sound c.requires.named parent.page parent.level parent.pairs.items c.in_ok-parent.ensures.level c.in_ok-parent.ensures.reached leaf.page leaf.level leaf.pairs.items c.in_ok-leaf.ensures.child c.in_ok-leaf.ensures.level c.in_ok-leaf.ensures.pairs).tops ∙ c.requires.closed
 
 pub lose_pair-requires-clause-reached : goal.lose_pair-requires-clause-reached
 lose_pair-requires-clause-reached g c =
@@ -86,9 +87,9 @@ lose_pair-requires-clause-reached g c =
     let v1 = pages_of (V c.fetch_parent.new.pages.store) c.fetch_parent.new.pages in
     let v2 = pages_of (V c.fetch_child.new.pages.store) c.fetch_child.new.pages in
     let fits : c.args.key < 2 ^ 64 = omega arith in
-    let parent = c.in-Ok.parent in
-    let leaf = c.in-Ok-fetch_child.leaf in
-    leaf_now T E root key fits v0 v1 v2 c.in-Ok.ensures.looks c.in-Ok-fetch_child.ensures.looks c.requires.sound c.requires.named parent.page parent.level parent.pairs.items c.in-Ok.ensures.level c.in-Ok.ensures.reached leaf.page leaf.level leaf.pairs.items c.in-Ok-fetch_child.ensures.child c.in-Ok-fetch_child.ensures.level c.in-Ok-fetch_child.ensures.pairs
+    let parent = c.in_ok-parent.parent in
+    let leaf = c.in_ok-leaf.leaf in
+    leaf_now T E root key fits v0 v1 v2 c.in_ok-parent.ensures.looks c.in_ok-leaf.ensures.looks c.requires.sound c.requires.named parent.page parent.level parent.pairs.items c.in_ok-parent.ensures.level c.in_ok-parent.ensures.reached leaf.page leaf.level leaf.pairs.items c.in_ok-leaf.ensures.child c.in_ok-leaf.ensures.level c.in_ok-leaf.ensures.pairs
 
 pub join_right-requires-clause-finds : goal.join_right-requires-clause-finds
 join_right-requires-clause-finds g c =
@@ -101,9 +102,9 @@ join_right-requires-clause-finds g c =
     let v1 = pages_of (V c.fetch_parent.new.pages.store) c.fetch_parent.new.pages in
     let v2 = pages_of (V c.fetch_child.new.pages.store) c.fetch_child.new.pages in
     let fits : c.args.key < 2 ^ 64 = omega arith in
-    let parent = c.in-Ok.parent in
-    let leaf = c.in-Ok-fetch_child.leaf in
-    found_now T E root key fits v0 v1 v2 c.in-Ok.ensures.looks c.in-Ok-fetch_child.ensures.looks c.requires.sound c.requires.named parent.page parent.level parent.pairs.items c.in-Ok.ensures.level c.in-Ok.ensures.reached leaf.page leaf.level leaf.pairs.items c.in-Ok-fetch_child.ensures.child c.in-Ok-fetch_child.ensures.level c.in-Ok-fetch_child.ensures.pairs c.in-Some.slot.number c.in-Some.ensures.finds
+    let parent = c.in_ok-parent.parent in
+    let leaf = c.in_ok-leaf.leaf in
+    found_now T E root key fits v0 v1 v2 c.in_ok-parent.ensures.looks c.in_ok-leaf.ensures.looks c.requires.sound c.requires.named parent.page parent.level parent.pairs.items c.in_ok-parent.ensures.level c.in_ok-parent.ensures.reached leaf.page leaf.level leaf.pairs.items c.in_ok-leaf.ensures.child c.in_ok-leaf.ensures.level c.in_ok-leaf.ensures.pairs c.in-Some.slot.number c.in-Some.ensures.finds
 
 pub join_right-requires-clause-alone : goal.join_right-requires-clause-alone
 join_right-requires-clause-alone g c =
@@ -116,10 +117,10 @@ join_right-requires-clause-alone g c =
     let v1 = pages_of (V c.fetch_parent.new.pages.store) c.fetch_parent.new.pages in
     let v2 = pages_of (V c.fetch_child.new.pages.store) c.fetch_child.new.pages in
     let fits : c.args.key < 2 ^ 64 = omega arith in
-    let parent = c.in-Ok.parent in
-    let leaf = c.in-Ok-fetch_child.leaf in
-    let few : length c.in-Ok-fetch_child.leaf.pairs.items ≤ 1 = omega (arith, c.len.ensures.value, c.if-len-gt1.false) in
-    alone_now T E root key fits v0 v1 v2 c.in-Ok.ensures.looks c.in-Ok-fetch_child.ensures.looks c.requires.sound c.requires.named parent.page parent.level parent.pairs.items c.in-Ok.ensures.level c.in-Ok.ensures.reached leaf.page leaf.level leaf.pairs.items c.in-Ok-fetch_child.ensures.child c.in-Ok-fetch_child.ensures.level c.in-Ok-fetch_child.ensures.pairs c.in-Some.slot.number c.in-Some.ensures.finds few
+    let parent = c.in_ok-parent.parent in
+    let leaf = c.in_ok-leaf.leaf in
+    let few : length c.in_ok-leaf.leaf.pairs.items ≤ 1 = omega (arith, c.len.ensures.value, c.if-len-gt1.false) in
+    alone_now T E root key fits v0 v1 v2 c.in_ok-parent.ensures.looks c.in_ok-leaf.ensures.looks c.requires.sound c.requires.named parent.page parent.level parent.pairs.items c.in_ok-parent.ensures.level c.in_ok-parent.ensures.reached leaf.page leaf.level leaf.pairs.items c.in_ok-leaf.ensures.child c.in_ok-leaf.ensures.level c.in_ok-leaf.ensures.pairs c.in-Some.slot.number c.in-Some.ensures.finds few
 
 pub leave_parent-requires-clause-finds : goal.leave_parent-requires-clause-finds
 leave_parent-requires-clause-finds g c =
@@ -132,9 +133,9 @@ leave_parent-requires-clause-finds g c =
     let v1 = pages_of (V c.fetch_parent.new.pages.store) c.fetch_parent.new.pages in
     let v2 = pages_of (V c.fetch_child.new.pages.store) c.fetch_child.new.pages in
     let fits : c.args.key < 2 ^ 64 = omega arith in
-    let parent = c.in-Ok.parent in
-    let leaf = c.in-Ok-fetch_child.leaf in
-    found_now T E root key fits v0 v1 v2 c.in-Ok.ensures.looks c.in-Ok-fetch_child.ensures.looks c.requires.sound c.requires.named parent.page parent.level parent.pairs.items c.in-Ok.ensures.level c.in-Ok.ensures.reached leaf.page leaf.level leaf.pairs.items c.in-Ok-fetch_child.ensures.child c.in-Ok-fetch_child.ensures.level c.in-Ok-fetch_child.ensures.pairs c.in-Some.slot.number c.in-Some.ensures.finds
+    let parent = c.in_ok-parent.parent in
+    let leaf = c.in_ok-leaf.leaf in
+    found_now T E root key fits v0 v1 v2 c.in_ok-parent.ensures.looks c.in_ok-leaf.ensures.looks c.requires.sound c.requires.named parent.page parent.level parent.pairs.items c.in_ok-parent.ensures.level c.in_ok-parent.ensures.reached leaf.page leaf.level leaf.pairs.items c.in_ok-leaf.ensures.child c.in_ok-leaf.ensures.level c.in_ok-leaf.ensures.pairs c.in-Some.slot.number c.in-Some.ensures.finds
 
 pub leave_parent-requires-clause-alone : goal.leave_parent-requires-clause-alone
 leave_parent-requires-clause-alone g c =
@@ -147,10 +148,10 @@ leave_parent-requires-clause-alone g c =
     let v1 = pages_of (V c.fetch_parent.new.pages.store) c.fetch_parent.new.pages in
     let v2 = pages_of (V c.fetch_child.new.pages.store) c.fetch_child.new.pages in
     let fits : c.args.key < 2 ^ 64 = omega arith in
-    let parent = c.in-Ok.parent in
-    let leaf = c.in-Ok-fetch_child.leaf in
-    let few : length c.in-Ok-fetch_child.leaf.pairs.items ≤ 1 = omega (arith, c.len.ensures.value, c.if-len-gt1.false) in
-    alone_now T E root key fits v0 v1 v2 c.in-Ok.ensures.looks c.in-Ok-fetch_child.ensures.looks c.requires.sound c.requires.named parent.page parent.level parent.pairs.items c.in-Ok.ensures.level c.in-Ok.ensures.reached leaf.page leaf.level leaf.pairs.items c.in-Ok-fetch_child.ensures.child c.in-Ok-fetch_child.ensures.level c.in-Ok-fetch_child.ensures.pairs c.in-Some.slot.number c.in-Some.ensures.finds few
+    let parent = c.in_ok-parent.parent in
+    let leaf = c.in_ok-leaf.leaf in
+    let few : length c.in_ok-leaf.leaf.pairs.items ≤ 1 = omega (arith, c.len.ensures.value, c.if-len-gt1.false) in
+    alone_now T E root key fits v0 v1 v2 c.in_ok-parent.ensures.looks c.in_ok-leaf.ensures.looks c.requires.sound c.requires.named parent.page parent.level parent.pairs.items c.in_ok-parent.ensures.level c.in_ok-parent.ensures.reached leaf.page leaf.level leaf.pairs.items c.in_ok-leaf.ensures.child c.in_ok-leaf.ensures.level c.in_ok-leaf.ensures.pairs c.in-Some.slot.number c.in-Some.ensures.finds few
 
 pub returns-then-len-gt1-clause-removes : goal.returns-then-len-gt1-clause-removes
 returns-then-len-gt1-clause-removes g c =
@@ -163,10 +164,10 @@ returns-then-len-gt1-clause-removes g c =
     let v1 = pages_of (V c.fetch_parent.new.pages.store) c.fetch_parent.new.pages in
     let v2 = pages_of (V c.fetch_child.new.pages.store) c.fetch_child.new.pages in
     let fits : c.args.key < 2 ^ 64 = omega arith in
-    let parent = c.in-Ok.parent in
-    let leaf = c.in-Ok-fetch_child.leaf in
+    let parent = c.in_ok-parent.parent in
+    let leaf = c.in_ok-leaf.leaf in
     let v3 = pages_of (V c.lose_pair.new.pages.store) c.lose_pair.new.pages in
-    removes_then T E tree c.args.tid root.page key v0 v2 v3 (both_looks T E root key fits v0 v1 v2 c.in-Ok.ensures.looks c.in-Ok-fetch_child.ensures.looks c.requires.sound c.requires.named parent.page parent.level parent.pairs.items c.in-Ok.ensures.level c.in-Ok.ensures.reached leaf.page leaf.level leaf.pairs.items c.in-Ok-fetch_child.ensures.child c.in-Ok-fetch_child.ensures.level c.in-Ok-fetch_child.ensures.pairs) c.requires.alive c.lose_pair.result c.lose_pair.ensures.removes
+    removes_then T E tree c.args.tid root.page key v0 v2 v3 (both_looks T E root key fits v0 v1 v2 c.in_ok-parent.ensures.looks c.in_ok-leaf.ensures.looks c.requires.sound c.requires.named parent.page parent.level parent.pairs.items c.in_ok-parent.ensures.level c.in_ok-parent.ensures.reached leaf.page leaf.level leaf.pairs.items c.in_ok-leaf.ensures.child c.in_ok-leaf.ensures.level c.in_ok-leaf.ensures.pairs) c.requires.alive c.lose_pair.result c.lose_pair.ensures.removes
 
 pub returns-in-Some-place_behind-clause-removes : goal.returns-in-Some-place_behind-clause-removes
 returns-in-Some-place_behind-clause-removes g c =
@@ -179,10 +180,10 @@ returns-in-Some-place_behind-clause-removes g c =
     let v1 = pages_of (V c.fetch_parent.new.pages.store) c.fetch_parent.new.pages in
     let v2 = pages_of (V c.fetch_child.new.pages.store) c.fetch_child.new.pages in
     let fits : c.args.key < 2 ^ 64 = omega arith in
-    let parent = c.in-Ok.parent in
-    let leaf = c.in-Ok-fetch_child.leaf in
+    let parent = c.in_ok-parent.parent in
+    let leaf = c.in_ok-leaf.leaf in
     let v3 = pages_of (V c.join_right.new.pages.store) c.join_right.new.pages in
-    removes_then T E tree c.args.tid root.page key v0 v2 v3 (both_looks T E root key fits v0 v1 v2 c.in-Ok.ensures.looks c.in-Ok-fetch_child.ensures.looks c.requires.sound c.requires.named parent.page parent.level parent.pairs.items c.in-Ok.ensures.level c.in-Ok.ensures.reached leaf.page leaf.level leaf.pairs.items c.in-Ok-fetch_child.ensures.child c.in-Ok-fetch_child.ensures.level c.in-Ok-fetch_child.ensures.pairs) c.requires.alive c.join_right.result c.join_right.ensures.removes
+    removes_then T E tree c.args.tid root.page key v0 v2 v3 (both_looks T E root key fits v0 v1 v2 c.in_ok-parent.ensures.looks c.in_ok-leaf.ensures.looks c.requires.sound c.requires.named parent.page parent.level parent.pairs.items c.in_ok-parent.ensures.level c.in_ok-parent.ensures.reached leaf.page leaf.level leaf.pairs.items c.in_ok-leaf.ensures.child c.in_ok-leaf.ensures.level c.in_ok-leaf.ensures.pairs) c.requires.alive c.join_right.result c.join_right.ensures.removes
 
 pub returns-then-len-gt1-2-clause-removes : goal.returns-then-len-gt1-2-clause-removes
 returns-then-len-gt1-2-clause-removes g c =
@@ -195,10 +196,10 @@ returns-then-len-gt1-2-clause-removes g c =
     let v1 = pages_of (V c.fetch_parent.new.pages.store) c.fetch_parent.new.pages in
     let v2 = pages_of (V c.fetch_child.new.pages.store) c.fetch_child.new.pages in
     let fits : c.args.key < 2 ^ 64 = omega arith in
-    let parent = c.in-Ok.parent in
-    let leaf = c.in-Ok-fetch_child.leaf in
+    let parent = c.in_ok-parent.parent in
+    let leaf = c.in_ok-leaf.leaf in
     let v3 = pages_of (V c.leave_parent.new.pages.store) c.leave_parent.new.pages in
-    removes_then T E tree c.args.tid root.page key v0 v2 v3 (both_looks T E root key fits v0 v1 v2 c.in-Ok.ensures.looks c.in-Ok-fetch_child.ensures.looks c.requires.sound c.requires.named parent.page parent.level parent.pairs.items c.in-Ok.ensures.level c.in-Ok.ensures.reached leaf.page leaf.level leaf.pairs.items c.in-Ok-fetch_child.ensures.child c.in-Ok-fetch_child.ensures.level c.in-Ok-fetch_child.ensures.pairs) c.requires.alive c.leave_parent.result c.leave_parent.ensures.removes
+    removes_then T E tree c.args.tid root.page key v0 v2 v3 (both_looks T E root key fits v0 v1 v2 c.in_ok-parent.ensures.looks c.in_ok-leaf.ensures.looks c.requires.sound c.requires.named parent.page parent.level parent.pairs.items c.in_ok-parent.ensures.level c.in_ok-parent.ensures.reached leaf.page leaf.level leaf.pairs.items c.in_ok-leaf.ensures.child c.in_ok-leaf.ensures.level c.in_ok-leaf.ensures.pairs) c.requires.alive c.leave_parent.result c.leave_parent.ensures.removes
 
 pub returns-clause-removes : goal.returns-clause-removes
 returns-clause-removes g c =
@@ -211,14 +212,16 @@ returns-clause-removes g c =
     let v1 = pages_of (V c.fetch_parent.new.pages.store) c.fetch_parent.new.pages in
     let v2 = pages_of (V c.fetch_child.new.pages.store) c.fetch_child.new.pages in
     let fits : c.args.key < 2 ^ 64 = omega arith in
-    let parent = c.in-Ok.parent in
-    let leaf = c.in-Ok-fetch_child.leaf in
-    let few : length c.in-Ok-fetch_child.leaf.pairs.items ≤ 1 = omega (arith, c.len.ensures.value, c.if-len-gt1.false) in
-    let only : length c.in-Ok.parent.pairs.items ≤ 1 = omega (arith, c.len-2.ensures.value, c.if-len-gt1-2.false) in
-    removes_none T (E v0.store.shape) tree c.args.tid root.page key v0 v2 (both_looks T E root key fits v0 v1 v2 c.in-Ok.ensures.looks c.in-Ok-fetch_child.ensures.looks c.requires.sound c.requires.named parent.page parent.level parent.pairs.items c.in-Ok.ensures.level c.in-Ok.ensures.reached leaf.page leaf.level leaf.pairs.items c.in-Ok-fetch_child.ensures.child c.in-Ok-fetch_child.ensures.level c.in-Ok-fetch_child.ensures.pairs) c.requires.alive (stays_here T E root key fits v0 v1 v2 c.in-Ok.ensures.looks c.in-Ok-fetch_child.ensures.looks c.requires.sound c.requires.named parent.page parent.level parent.pairs.items c.in-Ok.ensures.level c.in-Ok.ensures.reached leaf.page leaf.level leaf.pairs.items c.in-Ok-fetch_child.ensures.child c.in-Ok-fetch_child.ensures.level c.in-Ok-fetch_child.ensures.pairs few only)
+    let parent = c.in_ok-parent.parent in
+    let leaf = c.in_ok-leaf.leaf in
+    let few : length c.in_ok-leaf.leaf.pairs.items ≤ 1 = omega (arith, c.len.ensures.value, c.if-len-gt1.false) in
+    let only : length c.in_ok-parent.parent.pairs.items ≤ 1 = omega (arith, c.len-2.ensures.value, c.if-len-gt1-2.false) in
+    removes_none T (E v0.store.shape) tree c.args.tid root.page key v0 v2 (both_looks T E root key fits v0 v1 v2 c.in_ok-parent.ensures.looks c.in_ok-leaf.ensures.looks c.requires.sound c.requires.named parent.page parent.level parent.pairs.items c.in_ok-parent.ensures.level c.in_ok-parent.ensures.reached leaf.page leaf.level leaf.pairs.items c.in_ok-leaf.ensures.child c.in_ok-leaf.ensures.level c.in_ok-leaf.ensures.pairs) c.requires.alive (stays_here T E root key fits v0 v1 v2 c.in_ok-parent.ensures.looks c.in_ok-leaf.ensures.looks c.requires.sound c.requires.named parent.page parent.level parent.pairs.items c.in_ok-parent.ensures.level c.in_ok-parent.ensures.reached leaf.page leaf.level leaf.pairs.items c.in_ok-leaf.ensures.child c.in_ok-leaf.ensures.level c.in_ok-leaf.ensures.pairs few only)
 
-pub returns-in-Err-clause-works : goal.returns-in-Err-clause-works
-returns-in-Err-clause-works g c =
+pub returns-in_err-parent-clause-works : goal.returns-in_err-parent-clause-works
+returns-in_err-parent-clause-works g c =
+    let exit = err_from_is_err_and c.from_residual.result c.from_residual.ensures.1 in
+    rw (exit.1, exit.2) (
     let V = g.S.EawStore.view in
     let T = g.S.EawStore.tells in
     let E = g.S.EawStore.opens in
@@ -229,11 +232,13 @@ returns-in-Err-clause-works g c =
     let v0 = pages_of (V old) c.args.pages.now in
     let v1 = pages_of (V c.fetch_parent.new.pages.store) c.fetch_parent.new.pages in
     let due = removal_actions (tree_removal v0.store.state.bytes root.page key) in
-    let s : Result Bool PageFault = Err c.in-Err.fault in
-    down_fails g.S.EawStore.tells V g.S.EawStore.calls key top.page top.level top.pairs.items old c.args.tid due (blamed s) v1.store c.in-Err.fault (blamed_as Bool (Unit {0}) c.in-Err.fault) c.in-Err.ensures.fails
+    let s : Result Bool PageFault = Err c.in_err-parent.field-0.0 in
+    down_fails g.S.EawStore.tells V g.S.EawStore.calls key top.page top.level top.pairs.items old c.args.tid due (blamed s) v1.store c.in_err-parent.field-0.0 (blamed_as Bool (Unit {0}) c.in_err-parent.field-0.0) c.in_err-parent.ensures.fails)
 
-pub returns-in-Err-fetch_child-clause-works : goal.returns-in-Err-fetch_child-clause-works
-returns-in-Err-fetch_child-clause-works g c =
+pub returns-in_err-leaf-clause-works : goal.returns-in_err-leaf-clause-works
+returns-in_err-leaf-clause-works g c =
+    let exit = err_from_is_err_and c.from_residual-in_err-leaf.result c.from_residual-in_err-leaf.ensures.1 in
+    rw (exit.1, exit.2) (
     let V = g.S.EawStore.view in
     let T = g.S.EawStore.tells in
     let E = g.S.EawStore.opens in
@@ -246,12 +251,12 @@ returns-in-Err-fetch_child-clause-works g c =
     let due = removal_actions (tree_removal v0.store.state.bytes root.page key) in
     let v2 = pages_of (V c.fetch_child.new.pages.store) c.fetch_child.new.pages in
     let fits : c.args.key < 2 ^ 64 = omega arith in
-    let parent = c.in-Ok.parent in
-    let came = c.in-Ok.ensures.down in
-    let inner : c.in-Ok.parent.level ≢ 0 = λ e. omega (arith, e, c.in-Ok.ensures.level) in
-    let s : Result Bool PageFault = Err c.in-Err-fetch_child.fault in
-    down_fails g.S.EawStore.tells V g.S.EawStore.calls key top.page top.level top.pairs.items old c.args.tid due (blamed s) v2.store c.in-Err-fetch_child.fault (blamed_as Bool (Unit {0}) c.in-Err-fetch_child.fault)
-    (came_fails g.S.EawStore.tells V g.S.EawStore.calls key top.page top.level top.pairs.items old c.fetch_parent.new.pages.store c.fetch_child.new.pages.store parent.page parent.level parent.pairs.items came inner c.in-Err-fetch_child.fault c.in-Err-fetch_child.ensures.reads)
+    let parent = c.in_ok-parent.parent in
+    let came = c.in_ok-parent.ensures.down in
+    let inner : c.in_ok-parent.parent.level ≢ 0 = λ e. omega (arith, e, c.in_ok-parent.ensures.level) in
+    let s : Result Bool PageFault = Err c.in_err-leaf.field-0.0 in
+    down_fails g.S.EawStore.tells V g.S.EawStore.calls key top.page top.level top.pairs.items old c.args.tid due (blamed s) v2.store c.in_err-leaf.field-0.0 (blamed_as Bool (Unit {0}) c.in_err-leaf.field-0.0)
+    (came_fails g.S.EawStore.tells V g.S.EawStore.calls key top.page top.level top.pairs.items old c.fetch_parent.new.pages.store c.fetch_child.new.pages.store parent.page parent.level parent.pairs.items came inner c.in_err-leaf.field-0.0 c.in_err-leaf.ensures.reads))
 
 pub returns-in_default-clause-works : goal.returns-in_default-clause-works
 returns-in_default-clause-works g c =
@@ -267,15 +272,15 @@ returns-in_default-clause-works g c =
     let due = removal_actions (tree_removal v0.store.state.bytes root.page key) in
     let v2 = pages_of (V c.fetch_child.new.pages.store) c.fetch_child.new.pages in
     let fits : c.args.key < 2 ^ 64 = omega arith in
-    let parent = c.in-Ok.parent in
-    let came = c.in-Ok.ensures.down in
-    let inner : c.in-Ok.parent.level ≢ 0 = λ e. omega (arith, e, c.in-Ok.ensures.level) in
-    let leaf = c.in-Ok-fetch_child.leaf in
-    let here = came_child g.S.EawStore.tells V g.S.EawStore.calls key top.page top.level top.pairs.items old c.fetch_parent.new.pages.store c.fetch_child.new.pages.store parent.page parent.level parent.pairs.items came inner leaf c.in-Ok-fetch_child.ensures.reads c.in-Ok-fetch_child.ensures.looks.shape c.in-Ok-fetch_child.ensures.child c.in-Ok-fetch_child.ensures.level in
-    let looks = both_looks T E root key fits v0 v1 v2 c.in-Ok.ensures.looks c.in-Ok-fetch_child.ensures.looks c.requires.sound c.requires.named parent.page parent.level parent.pairs.items c.in-Ok.ensures.level c.in-Ok.ensures.reached leaf.page leaf.level leaf.pairs.items c.in-Ok-fetch_child.ensures.child c.in-Ok-fetch_child.ensures.level c.in-Ok-fetch_child.ensures.pairs in
+    let parent = c.in_ok-parent.parent in
+    let came = c.in_ok-parent.ensures.down in
+    let inner : c.in_ok-parent.parent.level ≢ 0 = λ e. omega (arith, e, c.in_ok-parent.ensures.level) in
+    let leaf = c.in_ok-leaf.leaf in
+    let here = came_child g.S.EawStore.tells V g.S.EawStore.calls key top.page top.level top.pairs.items old c.fetch_parent.new.pages.store c.fetch_child.new.pages.store parent.page parent.level parent.pairs.items came inner leaf c.in_ok-leaf.ensures.reads c.in_ok-leaf.ensures.looks.shape c.in_ok-leaf.ensures.child c.in_ok-leaf.ensures.level in
+    let looks = both_looks T E root key fits v0 v1 v2 c.in_ok-parent.ensures.looks c.in_ok-leaf.ensures.looks c.requires.sound c.requires.named parent.page parent.level parent.pairs.items c.in_ok-parent.ensures.level c.in_ok-parent.ensures.reached leaf.page leaf.level leaf.pairs.items c.in_ok-leaf.ensures.child c.in_ok-leaf.ensures.level c.in_ok-leaf.ensures.pairs in
     let same = λ (told : IsTrue g.S.EawStore.tells). ap (λ (b : List ℕ). removal_actions (tree_removal b c.args.root.page c.args.key)) (bytes_same g.S.EawStore.tells (g.S.EawStore.opens v0.store.shape) v0 v2 looks told) in
     let due2 = removal_actions (tree_removal v2.store.state.bytes root.page key) in
-    down_then g.S.EawStore.tells V g.S.EawStore.calls key top.page top.level top.pairs.items old c.args.tid due (Some leaf.page) (false) v2.store (v2.store) leaf.page leaf.level leaf.pairs.items here due (λ told. refl) (leaf.page ∷ []) (λ p among. one_met leaf.page top.page (onwards here.read) here.met p among) (ends_none g.S.EawStore.tells V g.S.EawStore.calls c.args.tid due (Some leaf.page) false key (leaf.page ∷ []) v2.store (subst (λ (sh : Shape). c.in-Ok-fetch_child.leaf.page < page_count sh) (sym c.in-Ok-fetch_child.ensures.looks.shape) (omega (arith, c.in-Ok-fetch_child.ensures.read.inside)), inl refl) (λ told yes. absurd (false≢true yes)))
+    down_then g.S.EawStore.tells V g.S.EawStore.calls key top.page top.level top.pairs.items old c.args.tid due (Some leaf.page) (false) v2.store (v2.store) leaf.page leaf.level leaf.pairs.items here due (λ told. refl) (leaf.page ∷ []) (λ p among. one_met leaf.page top.page (onwards here.read) here.met p among) (ends_none g.S.EawStore.tells V g.S.EawStore.calls c.args.tid due (Some leaf.page) false key (leaf.page ∷ []) v2.store (subst (λ (sh : Shape). c.in_ok-leaf.leaf.page < page_count sh) (sym c.in_ok-leaf.ensures.looks.shape) (omega (arith, c.in_ok-leaf.ensures.read.inside)), inl refl) (λ told yes. absurd (false≢true yes)))
 
 pub returns-then-len-gt1-clause-works : goal.returns-then-len-gt1-clause-works
 returns-then-len-gt1-clause-works g c =
@@ -291,12 +296,12 @@ returns-then-len-gt1-clause-works g c =
     let due = removal_actions (tree_removal v0.store.state.bytes root.page key) in
     let v2 = pages_of (V c.fetch_child.new.pages.store) c.fetch_child.new.pages in
     let fits : c.args.key < 2 ^ 64 = omega arith in
-    let parent = c.in-Ok.parent in
-    let came = c.in-Ok.ensures.down in
-    let inner : c.in-Ok.parent.level ≢ 0 = λ e. omega (arith, e, c.in-Ok.ensures.level) in
-    let leaf = c.in-Ok-fetch_child.leaf in
-    let here = came_child g.S.EawStore.tells V g.S.EawStore.calls key top.page top.level top.pairs.items old c.fetch_parent.new.pages.store c.fetch_child.new.pages.store parent.page parent.level parent.pairs.items came inner leaf c.in-Ok-fetch_child.ensures.reads c.in-Ok-fetch_child.ensures.looks.shape c.in-Ok-fetch_child.ensures.child c.in-Ok-fetch_child.ensures.level in
-    let looks = both_looks T E root key fits v0 v1 v2 c.in-Ok.ensures.looks c.in-Ok-fetch_child.ensures.looks c.requires.sound c.requires.named parent.page parent.level parent.pairs.items c.in-Ok.ensures.level c.in-Ok.ensures.reached leaf.page leaf.level leaf.pairs.items c.in-Ok-fetch_child.ensures.child c.in-Ok-fetch_child.ensures.level c.in-Ok-fetch_child.ensures.pairs in
+    let parent = c.in_ok-parent.parent in
+    let came = c.in_ok-parent.ensures.down in
+    let inner : c.in_ok-parent.parent.level ≢ 0 = λ e. omega (arith, e, c.in_ok-parent.ensures.level) in
+    let leaf = c.in_ok-leaf.leaf in
+    let here = came_child g.S.EawStore.tells V g.S.EawStore.calls key top.page top.level top.pairs.items old c.fetch_parent.new.pages.store c.fetch_child.new.pages.store parent.page parent.level parent.pairs.items came inner leaf c.in_ok-leaf.ensures.reads c.in_ok-leaf.ensures.looks.shape c.in_ok-leaf.ensures.child c.in_ok-leaf.ensures.level in
+    let looks = both_looks T E root key fits v0 v1 v2 c.in_ok-parent.ensures.looks c.in_ok-leaf.ensures.looks c.requires.sound c.requires.named parent.page parent.level parent.pairs.items c.in_ok-parent.ensures.level c.in_ok-parent.ensures.reached leaf.page leaf.level leaf.pairs.items c.in_ok-leaf.ensures.child c.in_ok-leaf.ensures.level c.in_ok-leaf.ensures.pairs in
     let same = λ (told : IsTrue g.S.EawStore.tells). ap (λ (b : List ℕ). removal_actions (tree_removal b c.args.root.page c.args.key)) (bytes_same g.S.EawStore.tells (g.S.EawStore.opens v0.store.shape) v0 v2 looks told) in
     let due2 = removal_actions (tree_removal v2.store.state.bytes root.page key) in
     down_then g.S.EawStore.tells V g.S.EawStore.calls key top.page top.level top.pairs.items old c.args.tid due (blamed c.lose_pair.result) (is_done c.lose_pair.result) v2.store (V c.lose_pair.new.pages.store) leaf.page leaf.level leaf.pairs.items here due2 same [] (λ p among. absurd among) (c.lose_pair.ensures.works)
@@ -315,12 +320,12 @@ returns-in-Some-place_behind-clause-works g c =
     let due = removal_actions (tree_removal v0.store.state.bytes root.page key) in
     let v2 = pages_of (V c.fetch_child.new.pages.store) c.fetch_child.new.pages in
     let fits : c.args.key < 2 ^ 64 = omega arith in
-    let parent = c.in-Ok.parent in
-    let came = c.in-Ok.ensures.down in
-    let inner : c.in-Ok.parent.level ≢ 0 = λ e. omega (arith, e, c.in-Ok.ensures.level) in
-    let leaf = c.in-Ok-fetch_child.leaf in
-    let here = came_child g.S.EawStore.tells V g.S.EawStore.calls key top.page top.level top.pairs.items old c.fetch_parent.new.pages.store c.fetch_child.new.pages.store parent.page parent.level parent.pairs.items came inner leaf c.in-Ok-fetch_child.ensures.reads c.in-Ok-fetch_child.ensures.looks.shape c.in-Ok-fetch_child.ensures.child c.in-Ok-fetch_child.ensures.level in
-    let looks = both_looks T E root key fits v0 v1 v2 c.in-Ok.ensures.looks c.in-Ok-fetch_child.ensures.looks c.requires.sound c.requires.named parent.page parent.level parent.pairs.items c.in-Ok.ensures.level c.in-Ok.ensures.reached leaf.page leaf.level leaf.pairs.items c.in-Ok-fetch_child.ensures.child c.in-Ok-fetch_child.ensures.level c.in-Ok-fetch_child.ensures.pairs in
+    let parent = c.in_ok-parent.parent in
+    let came = c.in_ok-parent.ensures.down in
+    let inner : c.in_ok-parent.parent.level ≢ 0 = λ e. omega (arith, e, c.in_ok-parent.ensures.level) in
+    let leaf = c.in_ok-leaf.leaf in
+    let here = came_child g.S.EawStore.tells V g.S.EawStore.calls key top.page top.level top.pairs.items old c.fetch_parent.new.pages.store c.fetch_child.new.pages.store parent.page parent.level parent.pairs.items came inner leaf c.in_ok-leaf.ensures.reads c.in_ok-leaf.ensures.looks.shape c.in_ok-leaf.ensures.child c.in_ok-leaf.ensures.level in
+    let looks = both_looks T E root key fits v0 v1 v2 c.in_ok-parent.ensures.looks c.in_ok-leaf.ensures.looks c.requires.sound c.requires.named parent.page parent.level parent.pairs.items c.in_ok-parent.ensures.level c.in_ok-parent.ensures.reached leaf.page leaf.level leaf.pairs.items c.in_ok-leaf.ensures.child c.in_ok-leaf.ensures.level c.in_ok-leaf.ensures.pairs in
     let same = λ (told : IsTrue g.S.EawStore.tells). ap (λ (b : List ℕ). removal_actions (tree_removal b c.args.root.page c.args.key)) (bytes_same g.S.EawStore.tells (g.S.EawStore.opens v0.store.shape) v0 v2 looks told) in
     let due2 = removal_actions (tree_removal v2.store.state.bytes root.page key) in
     down_then g.S.EawStore.tells V g.S.EawStore.calls key top.page top.level top.pairs.items old c.args.tid due (blamed c.join_right.result) (is_done c.join_right.result) v2.store (V c.join_right.new.pages.store) leaf.page leaf.level leaf.pairs.items here due2 same (parent.page ∷ []) (λ p among. one_met parent.page top.page (onwards here.read) (elim came.met [ inl e ↦ inl e | inr met ↦ inr (inr met) ]) p among) (c.join_right.ensures.works)
@@ -339,12 +344,12 @@ returns-then-len-gt1-2-clause-works g c =
     let due = removal_actions (tree_removal v0.store.state.bytes root.page key) in
     let v2 = pages_of (V c.fetch_child.new.pages.store) c.fetch_child.new.pages in
     let fits : c.args.key < 2 ^ 64 = omega arith in
-    let parent = c.in-Ok.parent in
-    let came = c.in-Ok.ensures.down in
-    let inner : c.in-Ok.parent.level ≢ 0 = λ e. omega (arith, e, c.in-Ok.ensures.level) in
-    let leaf = c.in-Ok-fetch_child.leaf in
-    let here = came_child g.S.EawStore.tells V g.S.EawStore.calls key top.page top.level top.pairs.items old c.fetch_parent.new.pages.store c.fetch_child.new.pages.store parent.page parent.level parent.pairs.items came inner leaf c.in-Ok-fetch_child.ensures.reads c.in-Ok-fetch_child.ensures.looks.shape c.in-Ok-fetch_child.ensures.child c.in-Ok-fetch_child.ensures.level in
-    let looks = both_looks T E root key fits v0 v1 v2 c.in-Ok.ensures.looks c.in-Ok-fetch_child.ensures.looks c.requires.sound c.requires.named parent.page parent.level parent.pairs.items c.in-Ok.ensures.level c.in-Ok.ensures.reached leaf.page leaf.level leaf.pairs.items c.in-Ok-fetch_child.ensures.child c.in-Ok-fetch_child.ensures.level c.in-Ok-fetch_child.ensures.pairs in
+    let parent = c.in_ok-parent.parent in
+    let came = c.in_ok-parent.ensures.down in
+    let inner : c.in_ok-parent.parent.level ≢ 0 = λ e. omega (arith, e, c.in_ok-parent.ensures.level) in
+    let leaf = c.in_ok-leaf.leaf in
+    let here = came_child g.S.EawStore.tells V g.S.EawStore.calls key top.page top.level top.pairs.items old c.fetch_parent.new.pages.store c.fetch_child.new.pages.store parent.page parent.level parent.pairs.items came inner leaf c.in_ok-leaf.ensures.reads c.in_ok-leaf.ensures.looks.shape c.in_ok-leaf.ensures.child c.in_ok-leaf.ensures.level in
+    let looks = both_looks T E root key fits v0 v1 v2 c.in_ok-parent.ensures.looks c.in_ok-leaf.ensures.looks c.requires.sound c.requires.named parent.page parent.level parent.pairs.items c.in_ok-parent.ensures.level c.in_ok-parent.ensures.reached leaf.page leaf.level leaf.pairs.items c.in_ok-leaf.ensures.child c.in_ok-leaf.ensures.level c.in_ok-leaf.ensures.pairs in
     let same = λ (told : IsTrue g.S.EawStore.tells). ap (λ (b : List ℕ). removal_actions (tree_removal b c.args.root.page c.args.key)) (bytes_same g.S.EawStore.tells (g.S.EawStore.opens v0.store.shape) v0 v2 looks told) in
     let due2 = removal_actions (tree_removal v2.store.state.bytes root.page key) in
     down_then g.S.EawStore.tells V g.S.EawStore.calls key top.page top.level top.pairs.items old c.args.tid due (blamed c.leave_parent.result) (is_done c.leave_parent.result) v2.store (V c.leave_parent.new.pages.store) leaf.page leaf.level leaf.pairs.items here due2 same (leaf.page ∷ []) (λ p among. one_met leaf.page top.page (onwards here.read) here.met p among) (c.leave_parent.ensures.works)
@@ -363,27 +368,29 @@ returns-clause-works g c =
     let due = removal_actions (tree_removal v0.store.state.bytes root.page key) in
     let v2 = pages_of (V c.fetch_child.new.pages.store) c.fetch_child.new.pages in
     let fits : c.args.key < 2 ^ 64 = omega arith in
-    let parent = c.in-Ok.parent in
-    let came = c.in-Ok.ensures.down in
-    let inner : c.in-Ok.parent.level ≢ 0 = λ e. omega (arith, e, c.in-Ok.ensures.level) in
-    let leaf = c.in-Ok-fetch_child.leaf in
-    let here = came_child g.S.EawStore.tells V g.S.EawStore.calls key top.page top.level top.pairs.items old c.fetch_parent.new.pages.store c.fetch_child.new.pages.store parent.page parent.level parent.pairs.items came inner leaf c.in-Ok-fetch_child.ensures.reads c.in-Ok-fetch_child.ensures.looks.shape c.in-Ok-fetch_child.ensures.child c.in-Ok-fetch_child.ensures.level in
-    let looks = both_looks T E root key fits v0 v1 v2 c.in-Ok.ensures.looks c.in-Ok-fetch_child.ensures.looks c.requires.sound c.requires.named parent.page parent.level parent.pairs.items c.in-Ok.ensures.level c.in-Ok.ensures.reached leaf.page leaf.level leaf.pairs.items c.in-Ok-fetch_child.ensures.child c.in-Ok-fetch_child.ensures.level c.in-Ok-fetch_child.ensures.pairs in
+    let parent = c.in_ok-parent.parent in
+    let came = c.in_ok-parent.ensures.down in
+    let inner : c.in_ok-parent.parent.level ≢ 0 = λ e. omega (arith, e, c.in_ok-parent.ensures.level) in
+    let leaf = c.in_ok-leaf.leaf in
+    let here = came_child g.S.EawStore.tells V g.S.EawStore.calls key top.page top.level top.pairs.items old c.fetch_parent.new.pages.store c.fetch_child.new.pages.store parent.page parent.level parent.pairs.items came inner leaf c.in_ok-leaf.ensures.reads c.in_ok-leaf.ensures.looks.shape c.in_ok-leaf.ensures.child c.in_ok-leaf.ensures.level in
+    let looks = both_looks T E root key fits v0 v1 v2 c.in_ok-parent.ensures.looks c.in_ok-leaf.ensures.looks c.requires.sound c.requires.named parent.page parent.level parent.pairs.items c.in_ok-parent.ensures.level c.in_ok-parent.ensures.reached leaf.page leaf.level leaf.pairs.items c.in_ok-leaf.ensures.child c.in_ok-leaf.ensures.level c.in_ok-leaf.ensures.pairs in
     let same = λ (told : IsTrue g.S.EawStore.tells). ap (λ (b : List ℕ). removal_actions (tree_removal b c.args.root.page c.args.key)) (bytes_same g.S.EawStore.tells (g.S.EawStore.opens v0.store.shape) v0 v2 looks told) in
     let due2 = removal_actions (tree_removal v2.store.state.bytes root.page key) in
-    let few : length c.in-Ok-fetch_child.leaf.pairs.items ≤ 1 = omega (arith, c.len.ensures.value, c.if-len-gt1.false) in
-    let only : length c.in-Ok.parent.pairs.items ≤ 1 = omega (arith, c.len-2.ensures.value, c.if-len-gt1-2.false) in
-    let stays = stays_here T E root key fits v0 v1 v2 c.in-Ok.ensures.looks c.in-Ok-fetch_child.ensures.looks c.requires.sound c.requires.named parent.page parent.level parent.pairs.items c.in-Ok.ensures.level c.in-Ok.ensures.reached leaf.page leaf.level leaf.pairs.items c.in-Ok-fetch_child.ensures.child c.in-Ok-fetch_child.ensures.level c.in-Ok-fetch_child.ensures.pairs few only in
+    let few : length c.in_ok-leaf.leaf.pairs.items ≤ 1 = omega (arith, c.len.ensures.value, c.if-len-gt1.false) in
+    let only : length c.in_ok-parent.parent.pairs.items ≤ 1 = omega (arith, c.len-2.ensures.value, c.if-len-gt1-2.false) in
+    let stays = stays_here T E root key fits v0 v1 v2 c.in_ok-parent.ensures.looks c.in_ok-leaf.ensures.looks c.requires.sound c.requires.named parent.page parent.level parent.pairs.items c.in_ok-parent.ensures.level c.in_ok-parent.ensures.reached leaf.page leaf.level leaf.pairs.items c.in_ok-leaf.ensures.child c.in_ok-leaf.ensures.level c.in_ok-leaf.ensures.pairs few only in
     down_then g.S.EawStore.tells V g.S.EawStore.calls key top.page top.level top.pairs.items old c.args.tid due (None) (true) v2.store (v2.store) leaf.page leaf.level leaf.pairs.items here due (λ told. refl) [] (λ p among. absurd among) (ends_none g.S.EawStore.tells V g.S.EawStore.calls c.args.tid due None true key [] v2.store tt (λ told yes. ap removal_actions (stays told)))
 
-pub returns-in-Err-fetch_child-clause-removes : goal.returns-in-Err-fetch_child-clause-removes
-returns-in-Err-fetch_child-clause-removes g c =
+pub returns-in_err-leaf-clause-removes : goal.returns-in_err-leaf-clause-removes
+returns-in_err-leaf-clause-removes g c =
+    let exit = err_from_is_err_and c.from_residual-in_err-leaf.result c.from_residual-in_err-leaf.ensures.1 in
+    rw (exit.1, exit.2) (
     let T = g.S.EawStore.tells in
     let V = g.S.EawStore.view in
     let E = g.S.EawStore.opens in
     let v0 = pages_of (V c.args.pages.now.store) c.args.pages.now in
     let v1 = pages_of (V c.fetch_parent.new.pages.store) c.fetch_parent.new.pages in
     let v2 = pages_of (V c.fetch_child.new.pages.store) c.fetch_child.new.pages in
-    let r : Result Bool PageFault = Err c.in-Err-fetch_child.fault in
-    removes_then T E tree c.args.tid c.args.root.page c.args.key v0 v1 v2 c.in-Ok.ensures.looks c.requires.alive r
-    (removes_look_err T (E v1.store.shape) tree c.args.tid c.args.root.page c.args.key Node v1 v2 c.in-Err-fetch_child.fault (c.in-Err-fetch_child.ensures.looks, c.in-Err-fetch_child.ensures.cause))
+    let r : Result Bool PageFault = Err c.in_err-leaf.field-0.0 in
+    removes_then T E tree c.args.tid c.args.root.page c.args.key v0 v1 v2 c.in_ok-parent.ensures.looks c.requires.alive r
+    (removes_look_err T (E v1.store.shape) tree c.args.tid c.args.root.page c.args.key Node v1 v2 c.in_err-leaf.field-0.0 (c.in_err-leaf.ensures.looks, c.in_err-leaf.ensures.cause)))

@@ -1,6 +1,6 @@
 use Rattle.std.proofs.Common.{◌≡◌, List, rules, refl, sym, subst}
 use denote.Enum.Bare.{same_true, same_false}
-use Rattle.history.specs.Table.{Granted}
+use Rattle.caller_steps.specs.Run.{Heard}
 use Rattle.caller_plans.specs.contracts.plan.PlanEnd.{the_type}
 use Rattle.caller_plans.specs.declared.plan.PlanEnd.{PlanEnd}
 use Rattle.caller_plans.specs.declared.plan.PlanEnd.TheVariants as end
@@ -17,7 +17,7 @@ pub returns-then-eq : goal.returns-then-eq
 returns-then-eq g c =
     let offers : c.args.end ≡ end.Offer = same_true the_type (search rules) _ _ (sym c.if-eq.ensures) in
     let spot = c.args.spot.now in
-    subst (λ (e : PlanEnd). Tells (g.G.Gate.told spot.gate.now) c.args.pass.now c.offer.new.pass c.args.told.now.places c.offer.new.told.places (λ (more : Granted) (places : List Place). Ends e more c.offer.result × (places ≡ end_places spot.caller spot.nth e more)))
+    subst (λ (e : PlanEnd). Tells (g.G.Gate.told spot.gate.now) c.args.pass.now c.offer.new.pass c.args.told.now.places c.offer.new.told.places (λ (more : Heard) (places : List Place). Ends e more c.offer.result × (places ≡ end_places spot.caller spot.nth e more)))
     (sym offers) c.offer.ensures
 
 pub returns : goal.returns
@@ -25,4 +25,4 @@ returns g c =
     let e = c.call_wait.ensures in
     let other = same_false the_type _ _ (sym c.if-eq.ensures) in
     tells_quiet _ _ _ _ (adds_one _ _ _ _ e.same e.told e.table e.asked e.busy _
-    (ends_alone c.args.end _ _ other (_, rw c.end_call-call.ensures refl, c.end_outcome.ensures), end_none c.args.spot.now.caller c.args.spot.now.nth c.args.end _ other))
+    (ends_alone c.args.end _ _ other (_, rw c.end_call.ensures refl, c.end_outcome.ensures), end_none c.args.spot.now.caller c.args.spot.now.nth c.args.end _ other))

@@ -27,6 +27,7 @@ returns-in-Ok g c =
     let its = c.in-Ok.ensures.part in
     record {
       shape = does.shape;
+      depth = does.depth;
       cause = record { later = omega (arith, does.kept); failed = tt; kept = does.kept };
       alive = does.done.alive;
       answers = λ told. (

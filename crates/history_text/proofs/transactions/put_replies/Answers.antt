@@ -1,5 +1,5 @@
 use Rattle.std.proofs.Common.{List, arith, subst, sym}
-use Rattle.history.specs.declared.call.Call.{Call}
+use Rattle.history.specs.declared.call.TableCall.{TableCall}
 use Rattle.history.specs.declared.call.Reply.{Reply}
 use Rattle.history.specs.Told.{told_reply}
 use Rattle.texts.proofs.Appending.{all_of}
@@ -11,7 +11,7 @@ pub loop-told-init : goal.loop-told-init
 loop-told-init g c =
     let line = kept_lines c.args.caller in
     let out = g.T.TextOut.view c.args.out.now in
-    subst (λ (calls : List (Call × Reply)). Left line g.T.TextOut.tells out out c.args.calls.now calls) (sym c.entries-left.ensures) (all_left line c.args.calls.now)
+    subst (λ (calls : List (TableCall × Reply)). Left line g.T.TextOut.tells out out c.args.calls.now calls) (sym c.entries-left.ensures) (all_left line c.args.calls.now)
 
 pub returns-in_err-put_kept : goal.returns-in_err-put_kept
 returns-in_err-put_kept g c =

@@ -20,6 +20,7 @@ use Rattle.page_store.specs.declared.fault.PageFault.TheVariants.{Dead}
 use Rattle.index_pages.proofs.Running.{Running, running_first, running_write, runs_fail, runs_end, runs_none, cost_at, split_here}
 use Rattle.index_pages.proofs.Acting.{Acting, acting_begin, acting_write, acting_fail, acting_end, known_of, on_shape, begins_within, acts_none}
 use Rattle.index_pages.proofs.Listed.{parts_more, pages_left, inside_at, all_placed}
+use Rattle.std.proofs.lemmas.Result.{err_from_is_err_and}
 use Rattle.index_pages.proofs.action.act_all.Goals as goal
 
 -- no part
@@ -33,8 +34,10 @@ write_as-requires-clause-inside g c =
     let inside = (inside_at v0 c.args.parts.now c.loop-part.part-index none c.loop-part-test.true c.requires.inside).1 in
     record { there = omega (arith, inside.there, ap (λ (s : Shape). page_count s) c.loop-part.invariant.acting.shape); within = inside.within }
 
-pub returns-in-Err-write_as-clause-acts : goal.returns-in-Err-write_as-clause-acts
-returns-in-Err-write_as-clause-acts g c =
+pub returns-in_err-write_as-clause-acts : goal.returns-in_err-write_as-clause-acts
+returns-in_err-write_as-clause-acts g c =
+    let exit = err_from_is_err_and c.from_residual-in_err-write_as.result c.from_residual-in_err-write_as.ensures.1 in
+    rw (exit.1, exit.2) (
     let T = g.S.EawStore.tells in
     let V = g.S.EawStore.view in
     let E = g.S.EawStore.opens in
@@ -48,9 +51,9 @@ returns-in-Err-write_as-clause-acts g c =
     let p : PagePart = get_or ps i none in
     let inside = inside_at v0.store ps i none c.loop-part-test.true c.requires.inside in
     let acting = subst (λ (l : List ℕ). Acting T O t v0 v1 (parts_named (take i ps)) l) (pages_left ps i none c.loop-part-test.true) c.loop-part.invariant.acting in
-    let e : Result (Unit {0}) PageFault = Err c.in-Err-write_as.fault in
+    let e : Result (Unit {0}) PageFault = Err c.in_err-write_as.field-0.0 in
     acting_fail T O t v0 v1 v2 (parts_named (take i ps)) p.page (pages_named (drop (i + 1) ps)) p.at p.bytes.now (begins_within v0.store p.page p.at (length p.bytes.now) inside.0 inside.1) acting
-    c.in-Err-write_as.fault c.in-Ok.ensures.fits.0 (pages_named ps) (parts_named ps) (on_shape T E (write_as t (address p.page p.at) p.bytes.now) v0 v1 v2 e acting.shape c.in-Err-write_as.ensures.does)
+    c.in_err-write_as.field-0.0 c.in_ok-fits.ensures.fits.0 (pages_named ps) (parts_named ps) (on_shape T E (write_as t (address p.page p.at) p.bytes.now) v0 v1 v2 e acting.shape c.in_err-write_as.ensures.does))
 
 pub loop-part-preserved : goal.loop-part-preserved
 loop-part-preserved g c =
@@ -71,9 +74,9 @@ loop-part-preserved g c =
     record {
       acting = subst (λ (l : List Part). Acting T O t v0 v2 l (pages_named (drop (i + 1) ps))) (sym (parts_more ps i none c.loop-part-test.true))
           (acting_write T O t v0 v1 v2 (parts_named (take i ps)) p.page (pages_named (drop (i + 1) ps)) p.at p.bytes.now (begins_within v0.store p.page p.at (length p.bytes.now) inside.0 inside.1) acting
-          (on_shape T E (write_as t (address p.page p.at) p.bytes.now) v0 v1 v2 r acting.shape c.in-Ok-write_as.ensures.does));
+          (on_shape T E (write_as t (address p.page p.at) p.bytes.now) v0 v1 v2 r acting.shape c.in_ok-write_as.ensures.does));
       running = subst (λ (l : List Part). Running T V g.S.EawStore.calls t l v0.store v2.store) (sym (parts_more ps i none c.loop-part-test.true))
-          (running_write T V g.S.EawStore.calls t (parts_named (take i ps)) v0.store c.loop-part.pages c.loop-part.invariant.running v2.store (address p.page p.at, p.bytes.now) c.in-Ok-write_as.ensures.costs);
+          (running_write T V g.S.EawStore.calls t (parts_named (take i ps)) v0.store c.loop-part.pages c.loop-part.invariant.running v2.store (address p.page p.at, p.bytes.now) c.in_ok-write_as.ensures.costs);
     }
 
 pub top_end-requires-clause-open : goal.top_end-requires-clause-open
@@ -94,13 +97,13 @@ returns-clause-acts g c =
     let v2 = pages_of (V c.top_end.new.self.store) c.top_end.new.self in
     let i = c.loop-part.part-index in
     let ps = c.args.parts.now in
-    let alive : IsAlive v0.store = c.in-Ok.ensures.fits.0 in
+    let alive : IsAlive v0.store = c.in_ok-fits.ensures.fits.0 in
     let told : IsTrue T → IsTold v0.store = λ tell. record {
       long = g.met.S.EawStore.long c.args.pages.now.store tell;
       outlines = λ u. g.met.S.EawStore.outlines c.args.pages.now.store u tell alive;
       placed = g.met.S.EawStore.placed c.args.pages.now.store;
     } in
-    let fits : FitAll v0.store t (pages_named ps) = subst (λ (l : List ℕ). FitAll v0.store t l) (c.as_slice.ensures.value ∙ c.pages_in.ensures) c.in-Ok.ensures.fits.1 in
+    let fits : FitAll v0.store t (pages_named ps) = subst (λ (l : List ℕ). FitAll v0.store t l) (c.as_slice.ensures.value ∙ c.pages_in.ensures) c.in_ok-fits.ensures.fits.1 in
     let acting : Acting T O t v0 v1 (parts_named ps) [] =
     subst (λ (l : List PagePart). Acting T O t v0 v1 (parts_named l) []) (take_all i ps (omega (arith, c.loop-part-test.false)))
     (subst (λ (l : List PagePart). Acting T O t v0 v1 (parts_named (take i ps)) (pages_named l)) (drop_all i ps (omega (arith, c.loop-part-test.false))) c.loop-part.invariant.acting) in
@@ -117,15 +120,17 @@ loop-part-init g c =
     let v0 = pages_of (V c.args.pages.now.store) c.args.pages.now in
     let v1 = pages_of (V c.top_begin-mark.new.self.store) c.top_begin-mark.new.self in
     let ps = c.args.parts.now in
-    let alive : IsAlive v0.store = c.in-Ok.ensures.fits.0 in
-    let fits : FitAll v0.store t (pages_named ps) = subst (λ (l : List ℕ). FitAll v0.store t l) (c.as_slice.ensures.value ∙ c.pages_in.ensures) c.in-Ok.ensures.fits.1 in
+    let alive : IsAlive v0.store = c.in_ok-fits.ensures.fits.0 in
+    let fits : FitAll v0.store t (pages_named ps) = subst (λ (l : List ℕ). FitAll v0.store t l) (c.as_slice.ensures.value ∙ c.pages_in.ensures) c.in_ok-fits.ensures.fits.1 in
     record {
       acting = acting_begin T O t v0 v1 (pages_named ps) alive fits (c.top_begin-mark.ensures.begun alive) (ap V c.top_begin-mark.ensures.idle);
       running = running_first T V g.S.EawStore.calls t v0.store v1.store (ap (λ (s : g.row.S.Denot). (V s).moment) c.top_begin-mark.ensures.idle);
     }
 
-pub returns-in-Err-write_as-clause-runs : goal.returns-in-Err-write_as-clause-runs
-returns-in-Err-write_as-clause-runs g c =
+pub returns-in_err-write_as-clause-runs : goal.returns-in_err-write_as-clause-runs
+returns-in_err-write_as-clause-runs g c =
+    let exit = err_from_is_err_and c.from_residual-in_err-write_as.result c.from_residual-in_err-write_as.ensures.1 in
+    rw (exit.1, exit.2) (
     let T = g.S.EawStore.tells in
     let V = g.S.EawStore.view in
     let t = c.args.tid in
@@ -134,10 +139,10 @@ returns-in-Err-write_as-clause-runs g c =
     let i = c.loop-part.part-index in
     let ps = c.args.parts.now in
     let p : PagePart = get_or ps i none in
-    let r : Result (Unit {0}) PageFault = Err c.in-Err-write_as.fault in
+    let r : Result (Unit {0}) PageFault = Err c.in_err-write_as.field-0.0 in
     subst (λ (l : List Part). Runs T V g.S.EawStore.calls (acting_of t (log_len old t) l) old new r) (split_here ps i none c.loop-part-test.true)
-    (runs_fail T V g.S.EawStore.calls t (parts_named (take i ps)) old c.loop-part.pages c.loop-part.invariant.running new (address p.page p.at, p.bytes.now) (parts_named (drop (suc i) ps)) (log_len old t) c.in-Err-write_as.fault
-    c.in-Err-write_as.ensures.costs)
+    (runs_fail T V g.S.EawStore.calls t (parts_named (take i ps)) old c.loop-part.pages c.loop-part.invariant.running new (address p.page p.at, p.bytes.now) (parts_named (drop (suc i) ps)) (log_len old t) c.in_err-write_as.field-0.0
+    c.in_err-write_as.ensures.costs))
 
 pub returns-clause-runs : goal.returns-clause-runs
 returns-clause-runs g c =
@@ -157,18 +162,22 @@ returns-then-is_dead-clause-runs g c =
     let V = g.S.EawStore.view in
     runs_none g.S.EawStore.tells V g.S.EawStore.calls c.args.tid (acting_of c.args.tid (log_len (V c.args.pages.now.store) c.args.tid) (parts_named c.args.parts.now)) (V c.args.pages.now.store) (V c.args.pages.now.store) Dead refl
 
-pub returns-in-Err-clause-runs : goal.returns-in-Err-clause-runs
-returns-in-Err-clause-runs g c =
+pub returns-in_err-fits-clause-runs : goal.returns-in_err-fits-clause-runs
+returns-in_err-fits-clause-runs g c =
+    let exit = err_from_is_err_and c.from_residual.result c.from_residual.ensures.1 in
+    rw (exit.1, exit.2) (
     let V = g.S.EawStore.view in
-    runs_none g.S.EawStore.tells V g.S.EawStore.calls c.args.tid (acting_of c.args.tid (log_len (V c.args.pages.now.store) c.args.tid) (parts_named c.args.parts.now)) (V c.args.pages.now.store) (V c.args.pages.now.store) c.in-Err.fault refl
+    runs_none g.S.EawStore.tells V g.S.EawStore.calls c.args.tid (acting_of c.args.tid (log_len (V c.args.pages.now.store) c.args.tid) (parts_named c.args.parts.now)) (V c.args.pages.now.store) (V c.args.pages.now.store) c.in_err-fits.field-0.0 refl)
 
 pub returns-then-is_dead-clause-acts : goal.returns-then-is_dead-clause-acts
 returns-then-is_dead-clause-acts g c =
     let view = g.S.EawStore.view c.args.pages.now.store in
     acts_none g.S.EawStore.tells (g.S.EawStore.opens view.shape) c.args.tid (pages_of view c.args.pages.now) (pages_named c.args.parts.now) (parts_named c.args.parts.now) Dead (sym c.if-is_dead.ensures.dead)
 
-pub returns-in-Err-clause-acts : goal.returns-in-Err-clause-acts
-returns-in-Err-clause-acts g c =
+pub returns-in_err-fits-clause-acts : goal.returns-in_err-fits-clause-acts
+returns-in_err-fits-clause-acts g c =
+    let exit = err_from_is_err_and c.from_residual.result c.from_residual.ensures.1 in
+    rw (exit.1, exit.2) (
     let view = g.S.EawStore.view c.args.pages.now.store in
-    acts_none g.S.EawStore.tells (g.S.EawStore.opens view.shape) c.args.tid (pages_of view c.args.pages.now) (pages_named c.args.parts.now) (parts_named c.args.parts.now) c.in-Err.fault
-    (subst (λ (l : List ℕ). LacksRoom view c.args.tid l c.in-Err.fault) (c.as_slice.ensures.value ∙ c.pages_in.ensures) c.in-Err.ensures.full)
+    acts_none g.S.EawStore.tells (g.S.EawStore.opens view.shape) c.args.tid (pages_of view c.args.pages.now) (pages_named c.args.parts.now) (parts_named c.args.parts.now) c.in_err-fits.field-0.0
+    (subst (λ (l : List ℕ). LacksRoom view c.args.tid l c.in_err-fits.field-0.0) (c.as_slice.ensures.value ∙ c.pages_in.ensures) c.in_err-fits.ensures.full))

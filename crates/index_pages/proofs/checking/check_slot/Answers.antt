@@ -18,18 +18,19 @@ use Rattle.page_store.specs.declared.index_fault.CheckFault.TheVariants.{Damaged
 use Rattle.index_pages.specs.Plans.{Tries, held_of, slot_plan}
 use Rattle.index_pages.proofs.Causing.{still_same}
 use Rattle.index_pages.proofs.Trying.{slot_unnamed, slot_unread, slot_other, slot_holds, slot_no_memory}
+use Rattle.std.proofs.lemmas.Result.{err_from_is_err_and}
 use Rattle.index_pages.proofs.checking.check_slot.Goals as goal
 
-pub returns-in-Ok-push_record-clause-cause : goal.returns-in-Ok-push_record-clause-cause
-returns-in-Ok-push_record-clause-cause g c = λ told slots.
+pub returns-clause-cause : goal.returns-clause-cause
+returns-clause-cause g c = λ told slots.
     let b = (g.S.EawStore.view c.args.pages.now.store).state.bytes in (
       omega (arith, c.if-pair-from.false, c.from.ensures, slots),
-      carries_said b c.args.table c.args.pair.0 c.args.pair.1 c.in-Ok.said (c.in-Ok.ensures.said told) (c.is_of_key.ensures.0 c.if-not-is_of_key.false),
+      carries_said b c.args.table c.args.pair.0 c.args.pair.1 c.in_ok-said.said (c.in_ok-said.ensures.said told) (c.is_of_key.ensures.0 c.if-not-is_of_key.false),
     )
 
-pub returns-in-Ok-push_record-clause-rows : goal.returns-in-Ok-push_record-clause-rows
-returns-in-Ok-push_record-clause-rows g c = λ told.
-    c.in-Ok-push_record.ensures ∙ ap (λ (o : Option Slot). c.args.rows.now ++ row_at c.args.pair.0 (value_of o)) (c.in-Ok.ensures.said told)
+pub returns-clause-rows : goal.returns-clause-rows
+returns-clause-rows g c = λ told.
+    c.in_ok-push_record.ensures ∙ ap (λ (o : Option Slot). c.args.rows.now ++ row_at c.args.pair.0 (value_of o)) (c.in_ok-said.ensures.said told)
 
 pub returns-then-not-is_of_key-clause-cause : goal.returns-then-not-is_of_key-clause-cause
 returns-then-not-is_of_key-clause-cause g c = λ told slots.
@@ -37,7 +38,7 @@ returns-then-not-is_of_key-clause-cause g c = λ told slots.
     inr (
       omega (arith, c.if-pair-from.false, c.from.ensures, slots),
       (
-        carries_not view.state.bytes c.args.table c.args.pair.0 c.args.pair.1 c.in-Ok.said (c.in-Ok.ensures.said told) (λ is. false≢true (c.if-not-is_of_key.ensures.1 is)),
+        carries_not view.state.bytes c.args.table c.args.pair.0 c.args.pair.1 c.in_ok-said.said (c.in_ok-said.ensures.said told) (λ is. false≢true (c.if-not-is_of_key.ensures.1 is)),
         sym (slot_page_is view.shape view.state.bytes (g.met.S.EawStore.long c.args.pages.now.store told) c.index_page_count-count.result c.args.pair.1 c.index_page_count-count.ensures.all),
       ),
     )
@@ -50,25 +51,29 @@ returns-then-pair-from-clause-tests g c =
     slot_unnamed g.S.EawStore.tells (g.S.EawStore.calls c.args.pages.now.store) (index_pages_of (g.S.EawStore.view c.args.pages.now.store).shape) c.args.slots c.args.table c.args.page c.args.held.now c.args.pair (g.S.EawStore.view c.args.pages.now.store)
     (λ given. omega (arith, given, c.if-pair-from.true, c.from.ensures))
 
-pub returns-in-Err-clause-tests : goal.returns-in-Err-clause-tests
-returns-in-Err-clause-tests g c =
+pub returns-in_err-said-clause-tests : goal.returns-in_err-said-clause-tests
+returns-in_err-said-clause-tests g c =
+    let exit = err_from_is_err_and c.from_residual.result c.from_residual.ensures.1 in
+    rw (exit.1) (
     slot_unread g.S.EawStore.tells (g.S.EawStore.calls c.args.pages.now.store) (g.S.EawStore.calls c.fetch_held_slot.new.pages.store) (index_pages_of (g.S.EawStore.view c.args.pages.now.store).shape) c.args.slots c.args.table c.args.page c.args.held.now c.fetch_held_slot.new.held c.args.pair (g.S.EawStore.view c.args.pages.now.store) (g.S.EawStore.view c.fetch_held_slot.new.pages.store)
-    (omega (arith, c.if-pair-from.false, c.from.ensures)) (Option Slot) c.in-Err.fault c.check_fault.result c.check_fault.ensures c.requires.alive c.in-Err.ensures.cause c.in-Err.ensures.holds
+    (omega (arith, c.if-pair-from.false, c.from.ensures)) (Option Slot) c.in_err-said.field-0.0 exit.0 exit.2 c.requires.alive c.in_err-said.ensures.cause c.in_err-said.ensures.holds)
 
 pub returns-then-not-is_of_key-clause-tests : goal.returns-then-not-is_of_key-clause-tests
 returns-then-not-is_of_key-clause-tests g c =
     slot_other g.S.EawStore.tells (g.S.EawStore.calls c.args.pages.now.store) (g.S.EawStore.calls c.fetch_held_slot.new.pages.store) (index_pages_of (g.S.EawStore.view c.args.pages.now.store).shape) c.args.slots c.args.table c.args.page c.args.held.now c.fetch_held_slot.new.held c.args.pair (g.S.EawStore.view c.args.pages.now.store) (g.S.EawStore.view c.fetch_held_slot.new.pages.store)
-    (omega (arith, c.if-pair-from.false, c.from.ensures)) (Option Slot) c.in-Ok.said c.in-Ok.ensures.holds c.index_page_count-count.result c.index_page_count-count.ensures.count
-    (λ carries. false≢true (c.if-not-is_of_key.ensures.1 (subst (λ (o : Option Slot). IsOfKey c.args.table c.args.pair.0 o) (sym c.in-Ok.ensures.slot) carries)))
+    (omega (arith, c.if-pair-from.false, c.from.ensures)) (Option Slot) c.in_ok-said.said c.in_ok-said.ensures.holds c.index_page_count-count.result c.index_page_count-count.ensures.count
+    (λ carries. false≢true (c.if-not-is_of_key.ensures.1 (subst (λ (o : Option Slot). IsOfKey c.args.table c.args.pair.0 o) (sym c.in_ok-said.ensures.slot) carries)))
 
-pub returns-in-Ok-push_record-clause-tests : goal.returns-in-Ok-push_record-clause-tests
-returns-in-Ok-push_record-clause-tests g c =
+pub returns-clause-tests : goal.returns-clause-tests
+returns-clause-tests g c =
     slot_holds g.S.EawStore.tells (g.S.EawStore.calls c.args.pages.now.store) (g.S.EawStore.calls c.fetch_held_slot.new.pages.store) (index_pages_of (g.S.EawStore.view c.args.pages.now.store).shape) c.args.slots c.args.table c.args.page c.args.held.now c.fetch_held_slot.new.held c.args.pair (g.S.EawStore.view c.args.pages.now.store) (g.S.EawStore.view c.fetch_held_slot.new.pages.store)
-    (omega (arith, c.if-pair-from.false, c.from.ensures)) (Option Slot) c.in-Ok.said c.in-Ok.ensures.holds c.in-Ok.ensures.page
-    (subst (λ (o : Option Slot). IsOfKey c.args.table c.args.pair.0 o) c.in-Ok.ensures.slot (c.is_of_key.ensures.0 c.if-not-is_of_key.false))
+    (omega (arith, c.if-pair-from.false, c.from.ensures)) (Option Slot) c.in_ok-said.said c.in_ok-said.ensures.holds c.in_ok-said.ensures.page
+    (subst (λ (o : Option Slot). IsOfKey c.args.table c.args.pair.0 o) c.in_ok-said.ensures.slot (c.is_of_key.ensures.0 c.if-not-is_of_key.false))
 
-pub returns-in-Err-push_record-clause-tests : goal.returns-in-Err-push_record-clause-tests
-returns-in-Err-push_record-clause-tests g c =
+pub returns-in_err-push_record-clause-tests : goal.returns-in_err-push_record-clause-tests
+returns-in_err-push_record-clause-tests g c =
+    let exit = err_from_is_err_and c.from_residual-in_err-push_record.result c.from_residual-in_err-push_record.ensures.1 in
+    rw (exit.1, exit.2) (
     slot_no_memory g.S.EawStore.tells (g.S.EawStore.calls c.args.pages.now.store) (g.S.EawStore.calls c.fetch_held_slot.new.pages.store) (index_pages_of (g.S.EawStore.view c.args.pages.now.store).shape) c.args.slots c.args.table c.args.page c.args.held.now c.fetch_held_slot.new.held c.args.pair (g.S.EawStore.view c.args.pages.now.store) (g.S.EawStore.view c.fetch_held_slot.new.pages.store)
-    (omega (arith, c.if-pair-from.false, c.from.ensures)) (Option Slot) c.in-Ok.said c.in-Ok.ensures.holds
-    (subst (λ (o : Option Slot). IsOfKey c.args.table c.args.pair.0 o) c.in-Ok.ensures.slot (c.is_of_key.ensures.0 c.if-not-is_of_key.false))
+    (omega (arith, c.if-pair-from.false, c.from.ensures)) (Option Slot) c.in_ok-said.said c.in_ok-said.ensures.holds
+    (subst (λ (o : Option Slot). IsOfKey c.args.table c.args.pair.0 o) c.in_ok-said.ensures.slot (c.is_of_key.ensures.0 c.if-not-is_of_key.false)))

@@ -4,6 +4,7 @@ use Rattle.index_pages.proofs.Courses.{reads_none}
 use Rattle.index_pages.specs.Held.{AreOf}
 use Rattle.page_store.specs.Shown.{pages_of}
 use Rattle.index_pages.proofs.Looking.{looks_none}
+use Rattle.std.proofs.lemmas.Result.{err_from_is_err_and}
 use Rattle.index_pages.proofs.held.hold.Goals as goal
 
 pub returns-then-is_page-clause-bytes : goal.returns-then-is_page-clause-bytes
@@ -20,14 +21,16 @@ returns-then-is_page-clause-holds g c = record {
   reads = λ other. absurd (other (c.is_page.ensures.0 c.if-is_page.true));
 }
 
-pub returns-in-Ok-clause-holds : goal.returns-in-Ok-clause-holds
-returns-in-Ok-clause-holds g c = record {
+pub returns-clause-holds : goal.returns-clause-holds
+returns-clause-holds g c = record {
   same = λ is. absurd (false≢true (sym c.if-is_page.false ∙ c.is_page.ensures.1 is));
-  reads = λ other. c.in-Ok.ensures.reads;
+  reads = λ other. c.in_ok-fetch_page.ensures.reads;
 }
 
-pub returns-in-Err-clause-holds : goal.returns-in-Err-clause-holds
-returns-in-Err-clause-holds g c = record {
-  same = λ is. absurd (false≢true (sym c.if-is_page.false ∙ c.is_page.ensures.1 is));
-  reads = λ other. c.in-Err.ensures.reads;
-}
+pub returns-in_err-fetch_page-clause-holds : goal.returns-in_err-fetch_page-clause-holds
+returns-in_err-fetch_page-clause-holds g c =
+    let exit = err_from_is_err_and c.from_residual.result c.from_residual.ensures.1 in
+    rw (exit.1, exit.2) (record {
+      same = λ is. absurd (false≢true (sym c.if-is_page.false ∙ c.is_page.ensures.1 is));
+      reads = λ other. c.in_err-fetch_page.ensures.reads;
+    })

@@ -9,6 +9,7 @@ use Rattle.page_store.specs.Shown.{pages_of}
 use Rattle.index_pages.proofs.Looking.{looks_none}
 use Rattle.index_pages.specs.declared.taking.Claim.{Claim}
 use Rattle.index_pages.proofs.Working.{peek_err, peek_bad, peek_ok}
+use Rattle.std.proofs.lemmas.Result.{err_from_is_err_and}
 use Rattle.index_pages.proofs.taking.take_slot.Goals as goal
 
 pub returns-then-front-eq0-2-clause-cause : goal.returns-then-front-eq0-2-clause-cause
@@ -30,7 +31,7 @@ returns-in_default-clause-cause g c =
       c.requires.alive,
       λ told.
           let h = first_member (free_slot_of b) (slot_page b) 0 front.next_slot front.free_slots front.free_slot 0 c.if-front-eq0.false (c.requires.sound told) in
-          c.in_default.ensures.none (subst (λ (o : Option Free). HasRank front.free_slots o) (sym (c.in-Ok.ensures.said told)) h.1),
+          c.in_default.ensures.none (subst (λ (o : Option Free). HasRank front.free_slots o) (sym (c.in_ok-said.ensures.said told)) h.1),
     )
 
 pub returns-then-front-eq0-clause-looks : goal.returns-then-front-eq0-clause-looks
@@ -42,12 +43,14 @@ returns-then-front-eq0-2-clause-looks g c = looks_none g.S.EawStore.tells (g.S.E
 pub returns-then-front-clause-looks : goal.returns-then-front-clause-looks
 returns-then-front-clause-looks g c = looks_none g.S.EawStore.tells (g.S.EawStore.opens (g.S.EawStore.view c.args.pages.now.store).shape) (pages_of (g.S.EawStore.view c.args.pages.now.store) c.args.pages.now)
 
-pub returns-in-Err-clause-peeks : goal.returns-in-Err-clause-peeks
-returns-in-Err-clause-peeks g c =
+pub returns-in_err-said-clause-peeks : goal.returns-in_err-said-clause-peeks
+returns-in_err-said-clause-peeks g c =
+    let exit = err_from_is_err_and c.from_residual.result c.from_residual.ensures.1 in
+    rw (exit.1, exit.2) (
     let V = g.S.EawStore.view in
     let slot = c.args.front.now.free_slot - 1 in
     let at = c.args.pages.now.store in
-    peek_err g.S.EawStore.tells V g.S.EawStore.calls at (index_pages_of (V at).shape + slot / 8) (slot % 8 * 64) 64 (V at) (V c.fetch_free_slot.new.pages.store) (Option Free) Claim c.in-Err.fault c.in-Err.ensures.cause c.in-Err.ensures.costs
+    peek_err g.S.EawStore.tells V g.S.EawStore.calls at (index_pages_of (V at).shape + slot / 8) (slot % 8 * 64) 64 (V at) (V c.fetch_free_slot.new.pages.store) (Option Free) Claim c.in_err-said.field-0.0 c.in_err-said.ensures.cause c.in_err-said.ensures.costs)
 
 pub returns-in_default-clause-peeks : goal.returns-in_default-clause-peeks
 returns-in_default-clause-peeks g c =
@@ -57,7 +60,7 @@ returns-in_default-clause-peeks g c =
     let count = c.index_page_count.result in
     let all : count + count ≡ page_count (V at).shape = c.index_page_count.ensures.all in
     let there : count + slot / 8 < page_count (V at).shape = omega (arith, all, c.requires.front.slots, c.if-front-eq0.false, c.if-front.false) in
-    peek_bad g.S.EawStore.tells V g.S.EawStore.calls at (index_pages_of (V at).shape + slot / 8) (slot % 8 * 64) 64 (V at) (V c.fetch_free_slot.new.pages.store) (Option Free) Claim c.in-Ok.said c.in-Ok.ensures.costs
+    peek_bad g.S.EawStore.tells V g.S.EawStore.calls at (index_pages_of (V at).shape + slot / 8) (slot % 8 * 64) 64 (V at) (V c.fetch_free_slot.new.pages.store) (Option Free) Claim c.in_ok-said.said c.in_ok-said.ensures.costs
     (count + slot / 8) (ap (λ (n : ℕ). n + slot / 8) c.index_page_count.ensures.count) there
 
 pub returns-clause-peeks : goal.returns-clause-peeks
@@ -65,4 +68,4 @@ returns-clause-peeks g c =
     let V = g.S.EawStore.view in
     let slot = c.args.front.now.free_slot - 1 in
     let at = c.args.pages.now.store in
-    peek_ok g.S.EawStore.tells V g.S.EawStore.calls at (index_pages_of (V at).shape + slot / 8) (slot % 8 * 64) 64 (V at) (V c.fetch_free_slot.new.pages.store) (Option Free) Claim c.in-Ok.said c.in-Ok.ensures.costs _
+    peek_ok g.S.EawStore.tells V g.S.EawStore.calls at (index_pages_of (V at).shape + slot / 8) (slot % 8 * 64) 64 (V at) (V c.fetch_free_slot.new.pages.store) (Option Free) Claim c.in_ok-said.said c.in_ok-said.ensures.costs _

@@ -2,7 +2,7 @@ use Rattle.std.proofs.Common.{ℕ, inl, inr, List, [], ◌∷◌, ◌++◌, Opti
 use Rattle.std.proofs.lemmas.List.{append_assoc}
 use Rattle.history.specs.Key.{main_name}
 use Rattle.history.specs.Table.{Granted, found}
-use Rattle.history.specs.declared.call.Call.TheVariants.{Get}
+use Rattle.history.specs.declared.call.TableCall.TheVariants.{Get}
 use Rattle.caller_steps.specs.Core.{CoreView}
 use Rattle.caller_steps.specs.State.{calls_of}
 use Rattle.transactions.specs.Adds.{Adds}

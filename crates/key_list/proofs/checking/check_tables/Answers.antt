@@ -19,6 +19,7 @@ use Rattle.record_slots.specs.Super.{tables_in}
 use Rattle.index_pages.specs.Plans.{Tries, tables_plan}
 use Rattle.index_pages.proofs.Trying.{SoFar, so_first, so_passes, table_named, table_fails, table_goes, table_stops, table_over, table_last, so_stops, tables_stop}
 use Rattle.key_list.specs.Tried.{chain_plan}
+use Rattle.std.proofs.lemmas.Result.{err_from_is_err_and}
 use Rattle.key_list.proofs.checking.check_tables.Goals as goal
 
 pub loop-table-init : goal.loop-table-init
@@ -46,32 +47,34 @@ check_table-requires g c =
     let front = subst (λ (s : Shape). IsFront s c.args.front.now) (sym shape) c.requires.front in
     record { alive = c.loop-table.invariant.alive; front = front; root = omega (arith, c.if-root-front.false, front.pages) }
 
-pub returns-in-Err-clause-cause : goal.returns-in-Err-clause-cause
-returns-in-Err-clause-cause g c = λ told says.
+pub returns-in_err-check_table-clause-cause : goal.returns-in_err-check_table-clause-cause
+returns-in_err-check_table-clause-cause g c =
+    let exit = err_from_is_err_and c.from_residual.result c.from_residual.ensures.1 in
+    rw (exit.1, exit.2) (λ told says.
     let same = (c.loop-table.invariant.looks.still refl).state told in
-    let e : Result (Unit {0}) CheckFault = Err c.in-Err.fault in
-    let cause = c.in-Err.ensures.cause told (subst (λ (s : State). SaysSuper (page_bytes s.bytes 0) c.args.front.now) (sym same) says) in
+    let e : Result (Unit {0}) CheckFault = Err c.in_err-check_table.field-0.0 in
+    let cause = c.in_err-check_table.ensures.cause told (subst (λ (s : State). SaysSuper (page_bytes s.bytes 0) c.args.front.now) (sym same) says) in
     tables_fail (chain_check (g.S.EawStore.view c.args.pages.now.store).state.bytes) (tables_of (g.S.EawStore.view c.args.pages.now.store).state.bytes) c.loop-table.table (c.loop-table.invariant.left told says) c.in-Some.root
-    (root_says (g.S.EawStore.view c.args.pages.now.store).state.bytes c.args.front.now c.loop-table.table says ∙ sym c.table_root.ensures ∙ c.in-Some.is) c.in-Err.fault
-    (subst (λ (s : State). IsVerdict (chain_check s.bytes c.in-Some.root c.loop-table.table) e) same cause)
+    (root_says (g.S.EawStore.view c.args.pages.now.store).state.bytes c.args.front.now c.loop-table.table says ∙ sym c.table_root.ensures ∙ c.in-Some.is) c.in_err-check_table.field-0.0
+    (subst (λ (s : State). IsVerdict (chain_check s.bytes c.in-Some.root c.loop-table.table) e) same cause))
 
 pub loop-table-preserved : goal.loop-table-preserved
 loop-table-preserved g c =
     record {
-      looks = looks_next g.S.EawStore.tells g.S.EawStore.opens false (pages_of (g.S.EawStore.view c.args.pages.now.store) c.args.pages.now) (pages_of (g.S.EawStore.view c.loop-table.pages.store) c.loop-table.pages) (pages_of (g.S.EawStore.view c.check_table.new.pages.store) c.check_table.new.pages) c.loop-table.invariant.looks c.in-Ok.ensures.looks;
-      alive = (c.in-Ok.ensures.looks.still refl).dead ∙ c.loop-table.invariant.alive;
+      looks = looks_next g.S.EawStore.tells g.S.EawStore.opens false (pages_of (g.S.EawStore.view c.args.pages.now.store) c.args.pages.now) (pages_of (g.S.EawStore.view c.loop-table.pages.store) c.loop-table.pages) (pages_of (g.S.EawStore.view c.check_table.new.pages.store) c.check_table.new.pages) c.loop-table.invariant.looks c.in_ok-check_table.ensures.looks;
+      alive = (c.in_ok-check_table.ensures.looks.still refl).dead ∙ c.loop-table.invariant.alive;
       records = λ told says.
           let b = (g.S.EawStore.view c.args.pages.now.store).state.bytes in
           let same = (c.loop-table.invariant.looks.still refl).state told in
           let own : c.check_table.new.rows ≡ rows_of b (pairs_of_chain b c.in-Some.root) =
-          c.in-Ok.ensures.rows told (subst (λ (s : State). SaysSuper (page_bytes s.bytes 0) c.args.front.now) (sym same) says)
+          c.in_ok-check_table.ensures.rows told (subst (λ (s : State). SaysSuper (page_bytes s.bytes 0) c.args.front.now) (sym same) says)
           ∙ (λ i. c.new-rows.ensures i ++ rows_of (same i).bytes (pairs_of_chain (same i).bytes c.in-Some.root)) in
           told_step (λ root. rows_of b (pairs_of_chain b root)) (tables_of b) c.args.tables.now c.loop-table.table c.loop-table.tables (c.loop-table.invariant.records told says) c.in-Some.root
-          (root_says b c.args.front.now c.loop-table.table says ∙ sym c.table_root.ensures ∙ c.in-Some.is) c.push.new.self c.check_table.new.rows own c.in-Ok-push.ensures;
+          (root_says b c.args.front.now c.loop-table.table says ∙ sym c.table_root.ensures ∙ c.in-Some.is) c.push.new.self c.check_table.new.rows own c.in_ok-push.ensures;
       left = λ told says.
           let same = (c.loop-table.invariant.looks.still refl).state told in
           let r : Result (Unit {0}) CheckFault = Ok tt in
-          let cause = c.in-Ok.ensures.cause told (subst (λ (s : State). SaysSuper (page_bytes s.bytes 0) c.args.front.now) (sym same) says) in
+          let cause = c.in_ok-check_table.ensures.cause told (subst (λ (s : State). SaysSuper (page_bytes s.bytes 0) c.args.front.now) (sym same) says) in
           tables_step (chain_check (g.S.EawStore.view c.args.pages.now.store).state.bytes) (tables_of (g.S.EawStore.view c.args.pages.now.store).state.bytes) c.loop-table.table (c.loop-table.invariant.left told says) c.in-Some.root
           (root_says (g.S.EawStore.view c.args.pages.now.store).state.bytes c.args.front.now c.loop-table.table says ∙ sym c.table_root.ensures ∙ c.in-Some.is)
           (subst (λ (s : State). IsVerdict (chain_check s.bytes c.in-Some.root c.loop-table.table) r) same cause);
@@ -79,18 +82,22 @@ loop-table-preserved g c =
           let r : Result (Unit {0}) CheckFault = Ok tt in
           let on : suc c.loop-table.table ≡ c.loop-table.table + 1 = omega arith in
           subst (λ (n : ℕ). SoFar g.S.EawStore.tells (g.S.EawStore.calls c.args.pages.now.store) (g.S.EawStore.calls c.check_table.new.pages.store) (tables_plan c.args.front.now.next_page (chain_plan (g.S.EawStore.view c.args.pages.now.store).shape c.args.front.now) n (drop n (tables_in c.args.front.now.version c.args.front.now.entries))) (tables_plan c.args.front.now.next_page (chain_plan (g.S.EawStore.view c.args.pages.now.store).shape c.args.front.now) 0 (tables_in c.args.front.now.version c.args.front.now.entries)) (g.S.EawStore.view c.args.pages.now.store) (g.S.EawStore.view c.check_table.new.pages.store)) on
-          (table_goes c.args.front.now.next_page (chain_plan (g.S.EawStore.view c.args.pages.now.store).shape c.args.front.now) (tables_in c.args.front.now.version c.args.front.now.entries) c.loop-table.table c.in-Some.root (c.loop-table.invariant.looks.still refl) c.loop-table.invariant.looks.shape (table_named c.args.front.now.next_page (chain_plan (g.S.EawStore.view c.args.pages.now.store).shape c.args.front.now) (tables_in c.args.front.now.version c.args.front.now.entries) c.loop-table.table c.in-Some.root (sym c.table_root.ensures ∙ c.in-Some.is) c.loop-table.invariant.tests (omega (arith, c.if-root-front.false))) tt (subst (λ (s : Shape). Tries g.S.EawStore.tells (g.S.EawStore.calls c.loop-table.pages.store) (g.S.EawStore.calls c.check_table.new.pages.store) (chain_plan s c.args.front.now c.in-Some.root c.loop-table.table) (g.S.EawStore.view c.loop-table.pages.store) (g.S.EawStore.view c.check_table.new.pages.store) r) c.loop-table.invariant.looks.shape c.in-Ok.ensures.tests));
+          (table_goes c.args.front.now.next_page (chain_plan (g.S.EawStore.view c.args.pages.now.store).shape c.args.front.now) (tables_in c.args.front.now.version c.args.front.now.entries) c.loop-table.table c.in-Some.root (c.loop-table.invariant.looks.still refl) c.loop-table.invariant.looks.shape (table_named c.args.front.now.next_page (chain_plan (g.S.EawStore.view c.args.pages.now.store).shape c.args.front.now) (tables_in c.args.front.now.version c.args.front.now.entries) c.loop-table.table c.in-Some.root (sym c.table_root.ensures ∙ c.in-Some.is) c.loop-table.invariant.tests (omega (arith, c.if-root-front.false))) tt (subst (λ (s : Shape). Tries g.S.EawStore.tells (g.S.EawStore.calls c.loop-table.pages.store) (g.S.EawStore.calls c.check_table.new.pages.store) (chain_plan s c.args.front.now c.in-Some.root c.loop-table.table) (g.S.EawStore.view c.loop-table.pages.store) (g.S.EawStore.view c.check_table.new.pages.store) r) c.loop-table.invariant.looks.shape c.in_ok-check_table.ensures.tests));
     }
 
 pub returns-clause-cause : goal.returns-clause-cause
 returns-clause-cause g c = λ told says.
     tables_end (chain_check (g.S.EawStore.view c.args.pages.now.store).state.bytes) (g.S.EawStore.view c.args.pages.now.store).state.bytes c.loop-table.table (omega (arith, c.loop-table-test.false)) (c.loop-table.invariant.left told says)
 
-pub returns-in-Err-clause-looks : goal.returns-in-Err-clause-looks
-returns-in-Err-clause-looks g c = looks_next g.S.EawStore.tells g.S.EawStore.opens _ (pages_of (g.S.EawStore.view c.args.pages.now.store) c.args.pages.now) (pages_of (g.S.EawStore.view c.loop-table.pages.store) c.loop-table.pages) (pages_of (g.S.EawStore.view c.check_table.new.pages.store) c.check_table.new.pages) c.loop-table.invariant.looks c.in-Err.ensures.looks
+pub returns-in_err-check_table-clause-looks : goal.returns-in_err-check_table-clause-looks
+returns-in_err-check_table-clause-looks g c =
+    let exit = err_from_is_err_and c.from_residual.result c.from_residual.ensures.1 in
+    rw (exit.1, exit.2) (looks_next g.S.EawStore.tells g.S.EawStore.opens _ (pages_of (g.S.EawStore.view c.args.pages.now.store) c.args.pages.now) (pages_of (g.S.EawStore.view c.loop-table.pages.store) c.loop-table.pages) (pages_of (g.S.EawStore.view c.check_table.new.pages.store) c.check_table.new.pages) c.loop-table.invariant.looks c.in_err-check_table.ensures.looks)
 
-pub returns-in-Err-clause-dead : goal.returns-in-Err-clause-dead
-returns-in-Err-clause-dead g c = c.in-Err.ensures.dead
+pub returns-in_err-check_table-clause-dead : goal.returns-in_err-check_table-clause-dead
+returns-in_err-check_table-clause-dead g c =
+    let exit = err_from_is_err_and c.from_residual.result c.from_residual.ensures.1 in
+    rw (exit.1, exit.2) (c.in_err-check_table.ensures.dead)
 
 pub returns-in_default-clause-looks : goal.returns-in_default-clause-looks
 returns-in_default-clause-looks g c = c.loop-table.invariant.looks
@@ -122,9 +129,11 @@ returns-clause-records g c = λ told says.
     told_end (λ root. rows_of b (pairs_of_chain b root)) (tables_of b) c.args.tables.now c.loop-table.table c.loop-table.tables (c.loop-table.invariant.records told says)
     (none_behind b c.loop-table.table (omega (arith, c.loop-table-test.false)))
 
-pub returns-in-Err-push-clause-looks : goal.returns-in-Err-push-clause-looks
-returns-in-Err-push-clause-looks g c =
-    looks_next g.S.EawStore.tells g.S.EawStore.opens false (pages_of (g.S.EawStore.view c.args.pages.now.store) c.args.pages.now) (pages_of (g.S.EawStore.view c.loop-table.pages.store) c.loop-table.pages) (pages_of (g.S.EawStore.view c.check_table.new.pages.store) c.check_table.new.pages) c.loop-table.invariant.looks c.in-Ok.ensures.looks
+pub returns-in_err-push-clause-looks : goal.returns-in_err-push-clause-looks
+returns-in_err-push-clause-looks g c =
+    let exit = err_from_is_err_and c.from_residual-in_err-push.result c.from_residual-in_err-push.ensures.1 in
+    rw (exit.1, exit.2) (
+    looks_next g.S.EawStore.tells g.S.EawStore.opens false (pages_of (g.S.EawStore.view c.args.pages.now.store) c.args.pages.now) (pages_of (g.S.EawStore.view c.loop-table.pages.store) c.loop-table.pages) (pages_of (g.S.EawStore.view c.check_table.new.pages.store) c.check_table.new.pages) c.loop-table.invariant.looks c.in_ok-check_table.ensures.looks)
 
 pub returns-in_default-clause-tests : goal.returns-in_default-clause-tests
 returns-in_default-clause-tests g c = table_over c.args.front.now.next_page (chain_plan (g.S.EawStore.view c.args.pages.now.store).shape c.args.front.now) (tables_in c.args.front.now.version c.args.front.now.entries) c.loop-table.table (sym c.table_root.ensures ∙ c.in_default.is) c.loop-table.invariant.tests
@@ -132,15 +141,19 @@ returns-in_default-clause-tests g c = table_over c.args.front.now.next_page (cha
 pub returns-then-root-front-clause-tests : goal.returns-then-root-front-clause-tests
 returns-then-root-front-clause-tests g c = table_fails c.args.front.now.next_page (chain_plan (g.S.EawStore.view c.args.pages.now.store).shape c.args.front.now) (tables_in c.args.front.now.version c.args.front.now.entries) c.loop-table.table c.in-Some.root (sym c.table_root.ensures ∙ c.in-Some.is) c.loop-table.invariant.tests (λ less. omega (arith, less, c.if-root-front.true))
 
-pub returns-in-Err-clause-tests : goal.returns-in-Err-clause-tests
-returns-in-Err-clause-tests g c =
-    let r : Result (Unit {0}) CheckFault = Err c.in-Err.fault in
-    table_stops c.args.front.now.next_page (chain_plan (g.S.EawStore.view c.args.pages.now.store).shape c.args.front.now) (tables_in c.args.front.now.version c.args.front.now.entries) c.loop-table.table c.in-Some.root (c.loop-table.invariant.looks.still refl) c.loop-table.invariant.looks.shape (table_named c.args.front.now.next_page (chain_plan (g.S.EawStore.view c.args.pages.now.store).shape c.args.front.now) (tables_in c.args.front.now.version c.args.front.now.entries) c.loop-table.table c.in-Some.root (sym c.table_root.ensures ∙ c.in-Some.is) c.loop-table.invariant.tests (omega (arith, c.if-root-front.false))) c.in-Err.fault (subst (λ (s : Shape). Tries g.S.EawStore.tells (g.S.EawStore.calls c.loop-table.pages.store) (g.S.EawStore.calls c.check_table.new.pages.store) (chain_plan s c.args.front.now c.in-Some.root c.loop-table.table) (g.S.EawStore.view c.loop-table.pages.store) (g.S.EawStore.view c.check_table.new.pages.store) r) c.loop-table.invariant.looks.shape c.in-Err.ensures.tests)
+pub returns-in_err-check_table-clause-tests : goal.returns-in_err-check_table-clause-tests
+returns-in_err-check_table-clause-tests g c =
+    let exit = err_from_is_err_and c.from_residual.result c.from_residual.ensures.1 in
+    rw (exit.1, exit.2) (
+    let r : Result (Unit {0}) CheckFault = Err c.in_err-check_table.field-0.0 in
+    table_stops c.args.front.now.next_page (chain_plan (g.S.EawStore.view c.args.pages.now.store).shape c.args.front.now) (tables_in c.args.front.now.version c.args.front.now.entries) c.loop-table.table c.in-Some.root (c.loop-table.invariant.looks.still refl) c.loop-table.invariant.looks.shape (table_named c.args.front.now.next_page (chain_plan (g.S.EawStore.view c.args.pages.now.store).shape c.args.front.now) (tables_in c.args.front.now.version c.args.front.now.entries) c.loop-table.table c.in-Some.root (sym c.table_root.ensures ∙ c.in-Some.is) c.loop-table.invariant.tests (omega (arith, c.if-root-front.false))) c.in_err-check_table.field-0.0 (subst (λ (s : Shape). Tries g.S.EawStore.tells (g.S.EawStore.calls c.loop-table.pages.store) (g.S.EawStore.calls c.check_table.new.pages.store) (chain_plan s c.args.front.now c.in-Some.root c.loop-table.table) (g.S.EawStore.view c.loop-table.pages.store) (g.S.EawStore.view c.check_table.new.pages.store) r) c.loop-table.invariant.looks.shape c.in_err-check_table.ensures.tests))
 
-pub returns-in-Err-push-clause-tests : goal.returns-in-Err-push-clause-tests
-returns-in-Err-push-clause-tests g c =
+pub returns-in_err-push-clause-tests : goal.returns-in_err-push-clause-tests
+returns-in_err-push-clause-tests g c =
+    let exit = err_from_is_err_and c.from_residual-in_err-push.result c.from_residual-in_err-push.ensures.1 in
+    rw (exit.1, exit.2) (
     let r : Result (Unit {0}) CheckFault = Ok tt in
-    so_stops _ (table_goes c.args.front.now.next_page (chain_plan (g.S.EawStore.view c.args.pages.now.store).shape c.args.front.now) (tables_in c.args.front.now.version c.args.front.now.entries) c.loop-table.table c.in-Some.root (c.loop-table.invariant.looks.still refl) c.loop-table.invariant.looks.shape (table_named c.args.front.now.next_page (chain_plan (g.S.EawStore.view c.args.pages.now.store).shape c.args.front.now) (tables_in c.args.front.now.version c.args.front.now.entries) c.loop-table.table c.in-Some.root (sym c.table_root.ensures ∙ c.in-Some.is) c.loop-table.invariant.tests (omega (arith, c.if-root-front.false))) tt (subst (λ (s : Shape). Tries g.S.EawStore.tells (g.S.EawStore.calls c.loop-table.pages.store) (g.S.EawStore.calls c.check_table.new.pages.store) (chain_plan s c.args.front.now c.in-Some.root c.loop-table.table) (g.S.EawStore.view c.loop-table.pages.store) (g.S.EawStore.view c.check_table.new.pages.store) r) c.loop-table.invariant.looks.shape c.in-Ok.ensures.tests)) (tables_stop _ _ _ _)
+    so_stops _ (table_goes c.args.front.now.next_page (chain_plan (g.S.EawStore.view c.args.pages.now.store).shape c.args.front.now) (tables_in c.args.front.now.version c.args.front.now.entries) c.loop-table.table c.in-Some.root (c.loop-table.invariant.looks.still refl) c.loop-table.invariant.looks.shape (table_named c.args.front.now.next_page (chain_plan (g.S.EawStore.view c.args.pages.now.store).shape c.args.front.now) (tables_in c.args.front.now.version c.args.front.now.entries) c.loop-table.table c.in-Some.root (sym c.table_root.ensures ∙ c.in-Some.is) c.loop-table.invariant.tests (omega (arith, c.if-root-front.false))) tt (subst (λ (s : Shape). Tries g.S.EawStore.tells (g.S.EawStore.calls c.loop-table.pages.store) (g.S.EawStore.calls c.check_table.new.pages.store) (chain_plan s c.args.front.now c.in-Some.root c.loop-table.table) (g.S.EawStore.view c.loop-table.pages.store) (g.S.EawStore.view c.check_table.new.pages.store) r) c.loop-table.invariant.looks.shape c.in_ok-check_table.ensures.tests)) (tables_stop _ _ _ _))
 
 pub returns-clause-tests : goal.returns-clause-tests
 returns-clause-tests g c = table_last c.args.front.now.next_page (chain_plan (g.S.EawStore.view c.args.pages.now.store).shape c.args.front.now) c.args.front.now.version c.args.front.now.entries c.loop-table.table (omega (arith, c.loop-table-test.false)) c.loop-table.invariant.tests

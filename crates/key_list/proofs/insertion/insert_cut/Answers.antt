@@ -25,6 +25,7 @@ use Rattle.key_list.specs.Index.{chain_actions, adding, by_half}
 use Rattle.key_list.specs.Located.{cutting_parts}
 use Rattle.key_list.proofs.Spending.{acted, cutting_by, none_done, peek_fails, act_ends, act_then}
 use Rattle.key_list.proofs.Whole.{made_first, made_cut}
+use Rattle.std.proofs.lemmas.Result.{err_from_is_err_and}
 use Rattle.key_list.proofs.insertion.insert_cut.Goals as goal
 
 pub has_page-requires : goal.has_page-requires
@@ -60,8 +61,10 @@ take_page-requires g c =
       sound = λ told. free_pages_pass (g.S.EawStore.view c.args.pages.now.store).state.bytes c.args.at.front (whole_of (g.S.EawStore.view c.args.pages.now.store).state.bytes (c.requires.sound told)).pages (c.requires.said told).front_says;
     }
 
-pub returns-in-Err-clause-inserts : goal.returns-in-Err-clause-inserts
-returns-in-Err-clause-inserts g c =
+pub returns-in_err-taken-clause-inserts : goal.returns-in_err-taken-clause-inserts
+returns-in_err-taken-clause-inserts g c =
+    let exit = err_from_is_err_and c.from_residual.result c.from_residual.ensures.1 in
+    rw (exit.1) (
     let T = g.S.EawStore.tells in
     let V = g.S.EawStore.view in
     let E = g.S.EawStore.opens in
@@ -75,26 +78,30 @@ returns-in-Err-clause-inserts g c =
     let small : c.args.key < 2 ^ 64 = omega arith in
     let long = λ (told : IsTrue g.S.EawStore.tells). g.met.S.EawStore.long c.args.pages.now.store told in
     let v1 = pages_of (V c.take_page.new.pages.store) c.take_page.new.pages in
-    subst (λ (f : IndexFault). (let r : Result ℕ IndexFault = Err f in Inserts T (E v0.store.shape) chain t root table key v0 v1 r)) (sym c.index_fault.ensures)
-    (page_err T E t root table key v0 c.index_page_count-count.result n.count n.all n.most small c.requires.table c.requires.sound c.requires.named c.requires.absent long c.requires.alive at.front at.page at.link at.pairs.items c.requires.located c.requires.said c.requires.slot c.requires.full Claim v1 c.in-Err.fault (c.in-Err.ensures.looks, c.in-Err.ensures.cause))
+    subst (λ (f : IndexFault). (let r : Result ℕ IndexFault = Err f in Inserts T (E v0.store.shape) chain t root table key v0 v1 r)) (sym exit.2)
+    (page_err T E t root table key v0 c.index_page_count-count.result n.count n.all n.most small c.requires.table c.requires.sound c.requires.named c.requires.absent long c.requires.alive at.front at.page at.link at.pairs.items c.requires.located c.requires.said c.requires.slot c.requires.full Claim v1 c.in_err-taken.field-0.0 (c.in_err-taken.ensures.looks, c.in_err-taken.ensures.cause)))
 
-pub returns-in-Err-clause-dead : goal.returns-in-Err-clause-dead
-returns-in-Err-clause-dead g c =
-    λ told. c.in-Err.ensures.dead (ap Err (dead_fault c.in-Err.fault c.index_fault.result (look_of_index Claim g.S.EawStore.tells (g.S.EawStore.view c.args.pages.now.store) c.in-Err.fault c.in-Err.ensures.cause) c.index_fault.ensures told))
+pub returns-in_err-taken-clause-dead : goal.returns-in_err-taken-clause-dead
+returns-in_err-taken-clause-dead g c =
+    let exit = err_from_is_err_and c.from_residual.result c.from_residual.ensures.1 in
+    rw (exit.1) (
+    λ told. c.in_err-taken.ensures.dead (ap Err (dead_fault c.in_err-taken.field-0.0 exit.0 (look_of_index Claim g.S.EawStore.tells (g.S.EawStore.view c.args.pages.now.store) c.in_err-taken.field-0.0 c.in_err-taken.ensures.cause) exit.2 told)))
 
 pub cut_page-requires : goal.cut_page-requires
 cut_page-requires g c =
-    let looks = c.in-Ok.ensures.looks in
+    let looks = c.in_ok-taken.ensures.looks in
     record {
       tid = subst (λ (sh : Shape). c.args.tid < sh.numbers) (sym looks.shape) c.requires.tid;
       closed = λ running. ap (λ (f : ℕ → Option ℕ). f c.args.tid) looks.tops ∙ c.requires.closed;
       located = subst (λ (sh : Shape). IsLocated sh c.args.at.front c.args.at.page c.args.at.link c.args.at.pairs.items) (sym looks.shape) c.requires.located;
       full = c.requires.full;
-      next = subst (λ (sh : Shape). c.in-Ok.taken.number < index_pages_of sh) (sym looks.shape) c.in-Ok.ensures.inside.1;
+      next = subst (λ (sh : Shape). c.in_ok-taken.taken.number < index_pages_of sh) (sym looks.shape) c.in_ok-taken.ensures.inside.1;
     }
 
-pub returns-in-Err-cut_page-clause-inserts : goal.returns-in-Err-cut_page-clause-inserts
-returns-in-Err-cut_page-clause-inserts g c =
+pub returns-in_err-cut_page-clause-inserts : goal.returns-in_err-cut_page-clause-inserts
+returns-in_err-cut_page-clause-inserts g c =
+    let exit = err_from_is_err_and c.from_residual-in_err-cut_page.result c.from_residual-in_err-cut_page.ensures.1 in
+    rw (exit.1) (
     let T = g.S.EawStore.tells in
     let V = g.S.EawStore.view in
     let E = g.S.EawStore.opens in
@@ -108,18 +115,20 @@ returns-in-Err-cut_page-clause-inserts g c =
     let small : c.args.key < 2 ^ 64 = omega arith in
     let long = λ (told : IsTrue g.S.EawStore.tells). g.met.S.EawStore.long c.args.pages.now.store told in
     let v1 = pages_of (V c.take_page.new.pages.store) c.take_page.new.pages in
-    let taken = c.in-Ok.taken in
+    let taken = c.in_ok-taken.taken in
     let v2 = pages_of (V c.cut_page.new.pages.store) c.cut_page.new.pages in
-    subst (λ (f : IndexFault). (let r : Result ℕ IndexFault = Err f in Inserts T (E v0.store.shape) chain t root table key v0 v2 r)) (sym c.index_fault-in-Err-cut_page.ensures)
-    (cut_err T E t root table key v0 c.index_page_count-count.result n.count n.all n.most small c.requires.table c.requires.sound c.requires.named c.requires.absent long c.requires.alive at.front at.page at.link at.pairs.items c.requires.located c.requires.said c.requires.slot c.requires.full (c.if-not-has_page.ensures.0 refl) v1 c.in-Ok.ensures.looks taken.front taken.number c.in-Ok.ensures.takes c.in-Ok.ensures.inside c.in-Ok.ensures.front c.in-Ok.ensures.slots v2 c.in-Err-cut_page.fault c.in-Err-cut_page.ensures.acts)
+    subst (λ (f : IndexFault). (let r : Result ℕ IndexFault = Err f in Inserts T (E v0.store.shape) chain t root table key v0 v2 r)) (sym exit.2)
+    (cut_err T E t root table key v0 c.index_page_count-count.result n.count n.all n.most small c.requires.table c.requires.sound c.requires.named c.requires.absent long c.requires.alive at.front at.page at.link at.pairs.items c.requires.located c.requires.said c.requires.slot c.requires.full (c.if-not-has_page.ensures.0 refl) v1 c.in_ok-taken.ensures.looks taken.front taken.number c.in_ok-taken.ensures.takes c.in_ok-taken.ensures.inside c.in_ok-taken.ensures.front c.in_ok-taken.ensures.slots v2 c.in_err-cut_page.field-0.0 c.in_err-cut_page.ensures.acts))
 
-pub returns-in-Err-cut_page-clause-dead : goal.returns-in-Err-cut_page-clause-dead
-returns-in-Err-cut_page-clause-dead g c =
+pub returns-in_err-cut_page-clause-dead : goal.returns-in_err-cut_page-clause-dead
+returns-in_err-cut_page-clause-dead g c =
+    let exit = err_from_is_err_and c.from_residual-in_err-cut_page.result c.from_residual-in_err-cut_page.ensures.1 in
+    rw (exit.1) (
     let V = g.S.EawStore.view in
     let v1 = pages_of (V c.take_page.new.pages.store) c.take_page.new.pages in
-    let ps = cutting_pages c.in-Ok.taken.number c.args.at.page in
-    λ told. dead_act v1.store c.args.tid ps c.in-Err-cut_page.fault ((c.in-Ok.ensures.looks.still refl).dead ∙ c.requires.alive)
-    (dead_fault c.in-Err-cut_page.fault c.index_fault-in-Err-cut_page.result (act_of_index v1.store c.args.tid ps c.in-Err-cut_page.fault c.in-Err-cut_page.ensures.acts.cause) c.index_fault-in-Err-cut_page.ensures told) c.in-Err-cut_page.ensures.acts.cause
+    let ps = cutting_pages c.in_ok-taken.taken.number c.args.at.page in
+    λ told. dead_act v1.store c.args.tid ps c.in_err-cut_page.field-0.0 ((c.in_ok-taken.ensures.looks.still refl).dead ∙ c.requires.alive)
+    (dead_fault c.in_err-cut_page.field-0.0 exit.0 (act_of_index v1.store c.args.tid ps c.in_err-cut_page.field-0.0 c.in_err-cut_page.ensures.acts.cause) exit.2 told) c.in_err-cut_page.ensures.acts.cause)
 
 pub insert_here-requires : goal.insert_here-requires
 insert_here-requires g c =
@@ -136,21 +145,21 @@ insert_here-requires g c =
     let small : c.args.key < 2 ^ 64 = omega arith in
     let long = λ (told : IsTrue g.S.EawStore.tells). g.met.S.EawStore.long c.args.pages.now.store told in
     let v1 = pages_of (V c.take_page.new.pages.store) c.take_page.new.pages in
-    let taken = c.in-Ok.taken in
+    let taken = c.in_ok-taken.taken in
     let v2 = pages_of (V c.cut_page.new.pages.store) c.cut_page.new.pages in
     let half = c.half_of-half in
     record {
-      tid = subst (λ (sh : Shape). c.args.tid < sh.numbers) (sym (going3 T E t root table key v0 c.index_page_count-count.result n.count n.all n.most small c.requires.table c.requires.sound c.requires.named c.requires.absent long c.requires.alive at.front at.page at.link at.pairs.items c.requires.located c.requires.said c.requires.slot c.requires.full (c.if-not-has_page.ensures.0 refl) v1 c.in-Ok.ensures.looks taken.front taken.number c.in-Ok.ensures.takes c.in-Ok.ensures.inside c.in-Ok.ensures.front c.in-Ok.ensures.slots v2 c.in-Ok-cut_page.ensures.acts).shape) c.requires.tid;
+      tid = subst (λ (sh : Shape). c.args.tid < sh.numbers) (sym (going3 T E t root table key v0 c.index_page_count-count.result n.count n.all n.most small c.requires.table c.requires.sound c.requires.named c.requires.absent long c.requires.alive at.front at.page at.link at.pairs.items c.requires.located c.requires.said c.requires.slot c.requires.full (c.if-not-has_page.ensures.0 refl) v1 c.in_ok-taken.ensures.looks taken.front taken.number c.in_ok-taken.ensures.takes c.in_ok-taken.ensures.inside c.in_ok-taken.ensures.front c.in_ok-taken.ensures.slots v2 c.in_ok-cut_page.ensures.acts).shape) c.requires.tid;
       table = c.requires.table;
-      closed = ap (λ (f : ℕ → Option ℕ). f c.args.tid) (going3 T E t root table key v0 c.index_page_count-count.result n.count n.all n.most small c.requires.table c.requires.sound c.requires.named c.requires.absent long c.requires.alive at.front at.page at.link at.pairs.items c.requires.located c.requires.said c.requires.slot c.requires.full (c.if-not-has_page.ensures.0 refl) v1 c.in-Ok.ensures.looks taken.front taken.number c.in-Ok.ensures.takes c.in-Ok.ensures.inside c.in-Ok.ensures.front c.in-Ok.ensures.slots v2 c.in-Ok-cut_page.ensures.acts).logs.tops ∙ c.requires.closed;
-      alive = living3 T E t root table key v0 c.index_page_count-count.result n.count n.all n.most small c.requires.table c.requires.sound c.requires.named c.requires.absent long c.requires.alive at.front at.page at.link at.pairs.items c.requires.located c.requires.said c.requires.slot c.requires.full (c.if-not-has_page.ensures.0 refl) v1 c.in-Ok.ensures.looks taken.front taken.number c.in-Ok.ensures.takes c.in-Ok.ensures.inside c.in-Ok.ensures.front c.in-Ok.ensures.slots v2 c.in-Ok-cut_page.ensures.acts;
-      sound = sound3 T E t root table key v0 c.index_page_count-count.result n.count n.all n.most small c.requires.table c.requires.sound c.requires.named c.requires.absent long c.requires.alive at.front at.page at.link at.pairs.items c.requires.located c.requires.said c.requires.slot c.requires.full (c.if-not-has_page.ensures.0 refl) v1 c.in-Ok.ensures.looks taken.front taken.number c.in-Ok.ensures.takes c.in-Ok.ensures.inside c.in-Ok.ensures.front c.in-Ok.ensures.slots v2 c.in-Ok-cut_page.ensures.acts;
-      named = named3 T E t root table key v0 c.index_page_count-count.result n.count n.all n.most small c.requires.table c.requires.sound c.requires.named c.requires.absent long c.requires.alive at.front at.page at.link at.pairs.items c.requires.located c.requires.said c.requires.slot c.requires.full (c.if-not-has_page.ensures.0 refl) v1 c.in-Ok.ensures.looks taken.front taken.number c.in-Ok.ensures.takes c.in-Ok.ensures.inside c.in-Ok.ensures.front c.in-Ok.ensures.slots v2 c.in-Ok-cut_page.ensures.acts;
-      absent = absent3 T E t root table key v0 c.index_page_count-count.result n.count n.all n.most small c.requires.table c.requires.sound c.requires.named c.requires.absent long c.requires.alive at.front at.page at.link at.pairs.items c.requires.located c.requires.said c.requires.slot c.requires.full (c.if-not-has_page.ensures.0 refl) v1 c.in-Ok.ensures.looks taken.front taken.number c.in-Ok.ensures.takes c.in-Ok.ensures.inside c.in-Ok.ensures.front c.in-Ok.ensures.slots v2 c.in-Ok-cut_page.ensures.acts;
-      located = located3 T E t root table key v0 c.index_page_count-count.result n.count n.all n.most small c.requires.table c.requires.sound c.requires.named c.requires.absent long c.requires.alive at.front at.page at.link at.pairs.items c.requires.located c.requires.said c.requires.slot c.requires.full (c.if-not-has_page.ensures.0 refl) v1 c.in-Ok.ensures.looks taken.front taken.number c.in-Ok.ensures.takes c.in-Ok.ensures.inside c.in-Ok.ensures.front c.in-Ok.ensures.slots v2 c.in-Ok-cut_page.ensures.acts half.result.front half.result.page half.result.link half.result.pairs.items half.ensures.front half.ensures.page half.ensures.link half.ensures.pairs;
-      said = said3 T E t root table key v0 c.index_page_count-count.result n.count n.all n.most small c.requires.table c.requires.sound c.requires.named c.requires.absent long c.requires.alive at.front at.page at.link at.pairs.items c.requires.located c.requires.said c.requires.slot c.requires.full (c.if-not-has_page.ensures.0 refl) v1 c.in-Ok.ensures.looks taken.front taken.number c.in-Ok.ensures.takes c.in-Ok.ensures.inside c.in-Ok.ensures.front c.in-Ok.ensures.slots v2 c.in-Ok-cut_page.ensures.acts half.result.front half.result.page half.result.link half.result.pairs.items half.ensures.front half.ensures.page half.ensures.link half.ensures.pairs;
-      slot = slot3 T E t root table key v0 c.index_page_count-count.result n.count n.all n.most small c.requires.table c.requires.sound c.requires.named c.requires.absent long c.requires.alive at.front at.page at.link at.pairs.items c.requires.located c.requires.said c.requires.slot c.requires.full (c.if-not-has_page.ensures.0 refl) v1 c.in-Ok.ensures.looks taken.front taken.number c.in-Ok.ensures.takes c.in-Ok.ensures.inside c.in-Ok.ensures.front c.in-Ok.ensures.slots v2 c.in-Ok-cut_page.ensures.acts half.result.front half.result.page half.result.link half.result.pairs.items half.ensures.front half.ensures.page half.ensures.link half.ensures.pairs;
-      room = room3 T E t root table key v0 c.index_page_count-count.result n.count n.all n.most small c.requires.table c.requires.sound c.requires.named c.requires.absent long c.requires.alive at.front at.page at.link at.pairs.items c.requires.located c.requires.said c.requires.slot c.requires.full (c.if-not-has_page.ensures.0 refl) v1 c.in-Ok.ensures.looks taken.front taken.number c.in-Ok.ensures.takes c.in-Ok.ensures.inside c.in-Ok.ensures.front c.in-Ok.ensures.slots v2 c.in-Ok-cut_page.ensures.acts half.result.front half.result.page half.result.link half.result.pairs.items half.ensures.front half.ensures.page half.ensures.link half.ensures.pairs;
+      closed = ap (λ (f : ℕ → Option ℕ). f c.args.tid) (going3 T E t root table key v0 c.index_page_count-count.result n.count n.all n.most small c.requires.table c.requires.sound c.requires.named c.requires.absent long c.requires.alive at.front at.page at.link at.pairs.items c.requires.located c.requires.said c.requires.slot c.requires.full (c.if-not-has_page.ensures.0 refl) v1 c.in_ok-taken.ensures.looks taken.front taken.number c.in_ok-taken.ensures.takes c.in_ok-taken.ensures.inside c.in_ok-taken.ensures.front c.in_ok-taken.ensures.slots v2 c.in_ok-cut_page.ensures.acts).logs.tops ∙ c.requires.closed;
+      alive = living3 T E t root table key v0 c.index_page_count-count.result n.count n.all n.most small c.requires.table c.requires.sound c.requires.named c.requires.absent long c.requires.alive at.front at.page at.link at.pairs.items c.requires.located c.requires.said c.requires.slot c.requires.full (c.if-not-has_page.ensures.0 refl) v1 c.in_ok-taken.ensures.looks taken.front taken.number c.in_ok-taken.ensures.takes c.in_ok-taken.ensures.inside c.in_ok-taken.ensures.front c.in_ok-taken.ensures.slots v2 c.in_ok-cut_page.ensures.acts;
+      sound = sound3 T E t root table key v0 c.index_page_count-count.result n.count n.all n.most small c.requires.table c.requires.sound c.requires.named c.requires.absent long c.requires.alive at.front at.page at.link at.pairs.items c.requires.located c.requires.said c.requires.slot c.requires.full (c.if-not-has_page.ensures.0 refl) v1 c.in_ok-taken.ensures.looks taken.front taken.number c.in_ok-taken.ensures.takes c.in_ok-taken.ensures.inside c.in_ok-taken.ensures.front c.in_ok-taken.ensures.slots v2 c.in_ok-cut_page.ensures.acts;
+      named = named3 T E t root table key v0 c.index_page_count-count.result n.count n.all n.most small c.requires.table c.requires.sound c.requires.named c.requires.absent long c.requires.alive at.front at.page at.link at.pairs.items c.requires.located c.requires.said c.requires.slot c.requires.full (c.if-not-has_page.ensures.0 refl) v1 c.in_ok-taken.ensures.looks taken.front taken.number c.in_ok-taken.ensures.takes c.in_ok-taken.ensures.inside c.in_ok-taken.ensures.front c.in_ok-taken.ensures.slots v2 c.in_ok-cut_page.ensures.acts;
+      absent = absent3 T E t root table key v0 c.index_page_count-count.result n.count n.all n.most small c.requires.table c.requires.sound c.requires.named c.requires.absent long c.requires.alive at.front at.page at.link at.pairs.items c.requires.located c.requires.said c.requires.slot c.requires.full (c.if-not-has_page.ensures.0 refl) v1 c.in_ok-taken.ensures.looks taken.front taken.number c.in_ok-taken.ensures.takes c.in_ok-taken.ensures.inside c.in_ok-taken.ensures.front c.in_ok-taken.ensures.slots v2 c.in_ok-cut_page.ensures.acts;
+      located = located3 T E t root table key v0 c.index_page_count-count.result n.count n.all n.most small c.requires.table c.requires.sound c.requires.named c.requires.absent long c.requires.alive at.front at.page at.link at.pairs.items c.requires.located c.requires.said c.requires.slot c.requires.full (c.if-not-has_page.ensures.0 refl) v1 c.in_ok-taken.ensures.looks taken.front taken.number c.in_ok-taken.ensures.takes c.in_ok-taken.ensures.inside c.in_ok-taken.ensures.front c.in_ok-taken.ensures.slots v2 c.in_ok-cut_page.ensures.acts half.result.front half.result.page half.result.link half.result.pairs.items half.ensures.front half.ensures.page half.ensures.link half.ensures.pairs;
+      said = said3 T E t root table key v0 c.index_page_count-count.result n.count n.all n.most small c.requires.table c.requires.sound c.requires.named c.requires.absent long c.requires.alive at.front at.page at.link at.pairs.items c.requires.located c.requires.said c.requires.slot c.requires.full (c.if-not-has_page.ensures.0 refl) v1 c.in_ok-taken.ensures.looks taken.front taken.number c.in_ok-taken.ensures.takes c.in_ok-taken.ensures.inside c.in_ok-taken.ensures.front c.in_ok-taken.ensures.slots v2 c.in_ok-cut_page.ensures.acts half.result.front half.result.page half.result.link half.result.pairs.items half.ensures.front half.ensures.page half.ensures.link half.ensures.pairs;
+      slot = slot3 T E t root table key v0 c.index_page_count-count.result n.count n.all n.most small c.requires.table c.requires.sound c.requires.named c.requires.absent long c.requires.alive at.front at.page at.link at.pairs.items c.requires.located c.requires.said c.requires.slot c.requires.full (c.if-not-has_page.ensures.0 refl) v1 c.in_ok-taken.ensures.looks taken.front taken.number c.in_ok-taken.ensures.takes c.in_ok-taken.ensures.inside c.in_ok-taken.ensures.front c.in_ok-taken.ensures.slots v2 c.in_ok-cut_page.ensures.acts half.result.front half.result.page half.result.link half.result.pairs.items half.ensures.front half.ensures.page half.ensures.link half.ensures.pairs;
+      room = room3 T E t root table key v0 c.index_page_count-count.result n.count n.all n.most small c.requires.table c.requires.sound c.requires.named c.requires.absent long c.requires.alive at.front at.page at.link at.pairs.items c.requires.located c.requires.said c.requires.slot c.requires.full (c.if-not-has_page.ensures.0 refl) v1 c.in_ok-taken.ensures.looks taken.front taken.number c.in_ok-taken.ensures.takes c.in_ok-taken.ensures.inside c.in_ok-taken.ensures.front c.in_ok-taken.ensures.slots v2 c.in_ok-cut_page.ensures.acts half.result.front half.result.page half.result.link half.result.pairs.items half.ensures.front half.ensures.page half.ensures.link half.ensures.pairs;
     }
 
 pub returns-clause-inserts : goal.returns-clause-inserts
@@ -168,11 +177,11 @@ returns-clause-inserts g c =
     let small : c.args.key < 2 ^ 64 = omega arith in
     let long = λ (told : IsTrue g.S.EawStore.tells). g.met.S.EawStore.long c.args.pages.now.store told in
     let v1 = pages_of (V c.take_page.new.pages.store) c.take_page.new.pages in
-    let taken = c.in-Ok.taken in
+    let taken = c.in_ok-taken.taken in
     let v2 = pages_of (V c.cut_page.new.pages.store) c.cut_page.new.pages in
     let half = c.half_of-half in
     let v3 = pages_of (V c.insert_here.new.pages.store) c.insert_here.new.pages in
-    cut_then T E t root table key v0 c.index_page_count-count.result n.count n.all n.most small c.requires.table c.requires.sound c.requires.named c.requires.absent long c.requires.alive at.front at.page at.link at.pairs.items c.requires.located c.requires.said c.requires.slot c.requires.full (c.if-not-has_page.ensures.0 refl) v1 c.in-Ok.ensures.looks taken.front taken.number c.in-Ok.ensures.takes c.in-Ok.ensures.inside c.in-Ok.ensures.front c.in-Ok.ensures.slots v2 c.in-Ok-cut_page.ensures.acts half.result.front half.result.page half.result.link half.result.pairs.items half.ensures.front half.ensures.page half.ensures.link half.ensures.pairs v3 c.insert_here.result c.insert_here.ensures.inserts
+    cut_then T E t root table key v0 c.index_page_count-count.result n.count n.all n.most small c.requires.table c.requires.sound c.requires.named c.requires.absent long c.requires.alive at.front at.page at.link at.pairs.items c.requires.located c.requires.said c.requires.slot c.requires.full (c.if-not-has_page.ensures.0 refl) v1 c.in_ok-taken.ensures.looks taken.front taken.number c.in_ok-taken.ensures.takes c.in_ok-taken.ensures.inside c.in_ok-taken.ensures.front c.in_ok-taken.ensures.slots v2 c.in_ok-cut_page.ensures.acts half.result.front half.result.page half.result.link half.result.pairs.items half.ensures.front half.ensures.page half.ensures.link half.ensures.pairs v3 c.insert_here.result c.insert_here.ensures.inserts
 
 pub returns-clause-dead : goal.returns-clause-dead
 returns-clause-dead g c =
@@ -186,18 +195,22 @@ returns-then-not-has_page-clause-works g c =
     let due = chain_actions v0.store.state.bytes c.args.root c.args.key in
     none_done g.S.EawStore.tells V g.S.EawStore.calls (IsTrue g.S.EawStore.tells) c.args.tid limits_cut due None (0 ∷ []) due false v0.store tt (λ told. refl) (λ told is. absurd (false≢true is))
 
-pub returns-in-Err-clause-works : goal.returns-in-Err-clause-works
-returns-in-Err-clause-works g c =
+pub returns-in_err-taken-clause-works : goal.returns-in_err-taken-clause-works
+returns-in_err-taken-clause-works g c =
+    let exit = err_from_is_err_and c.from_residual.result c.from_residual.ensures.1 in
+    rw (exit.1) (
     let V = g.S.EawStore.view in
     let v0 = pages_of (V c.args.pages.now.store) c.args.pages.now in
     let at = c.args.at in
     let due = chain_actions v0.store.state.bytes c.args.root c.args.key in
-    let s : Result ℕ IndexFault = Err c.index_fault.result in
-    peek_fails g.S.EawStore.tells V g.S.EawStore.calls (IsTrue g.S.EawStore.tells) c.args.tid limits_cut due (blamed_index s) Claim v0.store (V c.take_page.new.pages.store) c.in-Err.fault (omega arith)
-    (ap (λ (f : IndexFault). (let r : Result ℕ IndexFault = Err f in blamed_index r)) c.index_fault.ensures ∙ blamed_same ℕ Claim c.in-Err.fault) c.in-Err.ensures.peeks
+    let s : Result ℕ IndexFault = Err exit.0 in
+    peek_fails g.S.EawStore.tells V g.S.EawStore.calls (IsTrue g.S.EawStore.tells) c.args.tid limits_cut due (blamed_index s) Claim v0.store (V c.take_page.new.pages.store) c.in_err-taken.field-0.0 (omega arith)
+    (ap (λ (f : IndexFault). (let r : Result ℕ IndexFault = Err f in blamed_index r)) exit.2 ∙ blamed_same ℕ Claim c.in_err-taken.field-0.0) c.in_err-taken.ensures.peeks)
 
-pub returns-in-Err-cut_page-clause-works : goal.returns-in-Err-cut_page-clause-works
-returns-in-Err-cut_page-clause-works g c =
+pub returns-in_err-cut_page-clause-works : goal.returns-in_err-cut_page-clause-works
+returns-in_err-cut_page-clause-works g c =
+    let exit = err_from_is_err_and c.from_residual-in_err-cut_page.result c.from_residual-in_err-cut_page.ensures.1 in
+    rw (exit.1) (
     let V = g.S.EawStore.view in
     let v0 = pages_of (V c.args.pages.now.store) c.args.pages.now in
     let at = c.args.at in
@@ -205,18 +218,18 @@ returns-in-Err-cut_page-clause-works g c =
     let v1 = pages_of (V c.take_page.new.pages.store) c.take_page.new.pages in
     let v2 = pages_of (V c.cut_page.new.pages.store) c.cut_page.new.pages in
     let n = c.index_page_count-count.ensures in
-    let taken = c.in-Ok.taken in
+    let taken = c.in_ok-taken.taken in
     let small : c.args.key < 2 ^ 64 = omega arith in
     let long = λ (told : IsTrue g.S.EawStore.tells). g.met.S.EawStore.long c.args.pages.now.store told in
     let mark = log_len v1.store c.args.tid in
-    let r : Result (Unit {0}) PageFault = Err c.in-Err-cut_page.fault in
-    let s : Result ℕ IndexFault = Err c.index_fault-in-Err-cut_page.result in
-    let blames : blamed_index s ≡ None = ap (λ (f : IndexFault). (let e : Result ℕ IndexFault = Err f in blamed_index e)) c.index_fault-in-Err-cut_page.ensures ∙ blamed_same ℕ Claim c.in-Err-cut_page.fault
-    ∙ act_blames Claim v1.store c.args.tid (cutting_pages taken.number at.page) c.in-Err-cut_page.fault c.in-Err-cut_page.ensures.acts.cause in
+    let r : Result (Unit {0}) PageFault = Err c.in_err-cut_page.field-0.0 in
+    let s : Result ℕ IndexFault = Err exit.0 in
+    let blames : blamed_index s ≡ None = ap (λ (f : IndexFault). (let e : Result ℕ IndexFault = Err f in blamed_index e)) exit.2 ∙ blamed_same ℕ Claim c.in_err-cut_page.field-0.0
+    ∙ act_blames Claim v1.store c.args.tid (cutting_pages taken.number at.page) c.in_err-cut_page.field-0.0 c.in_err-cut_page.ensures.acts.cause in
     act_ends g.S.EawStore.tells V g.S.EawStore.calls (IsTrue g.S.EawStore.tells) c.args.tid limits_cut due (blamed_index s) Claim taken c.args.pages.now (acted (cutting_pages taken.number at.page) 1) (acting_of c.args.tid mark (cutting_parts taken.front taken.number at.page at.link at.pairs.items))
-    v0.store v1.store v2.store c.in-Ok.ensures.peeks r c.in-Err-cut_page.ensures.runs (cutting_by c.args.tid mark taken.front taken.number at.page at.link at.pairs.items) (0 ∷ [])
+    v0.store v1.store v2.store c.in_ok-taken.ensures.peeks r c.in_err-cut_page.ensures.runs (cutting_by c.args.tid mark taken.front taken.number at.page at.link at.pairs.items) (0 ∷ [])
     (adding v0.store.state.bytes (by_half (page_pairs v0.store.state.bytes at.page) c.args.key at.page (page_due v0.store.state.bytes 0)) ∷ []) (omega arith) (omega arith) blames
-    (made_first g.S.EawStore.tells g.S.EawStore.opens c.args.tid c.args.root c.args.table c.args.key v0 c.index_page_count-count.result n.count n.all n.most small c.requires.table c.requires.sound c.requires.named c.requires.absent long c.requires.alive at.front at.page at.link at.pairs.items c.requires.located c.requires.said c.requires.slot c.requires.full (c.if-not-has_page.ensures.0 refl) v1 c.in-Ok.ensures.looks taken.front taken.number c.in-Ok.ensures.takes c.in-Ok.ensures.inside c.in-Ok.ensures.front c.in-Ok.ensures.slots) (λ told is. absurd (false≢true is))
+    (made_first g.S.EawStore.tells g.S.EawStore.opens c.args.tid c.args.root c.args.table c.args.key v0 c.index_page_count-count.result n.count n.all n.most small c.requires.table c.requires.sound c.requires.named c.requires.absent long c.requires.alive at.front at.page at.link at.pairs.items c.requires.located c.requires.said c.requires.slot c.requires.full (c.if-not-has_page.ensures.0 refl) v1 c.in_ok-taken.ensures.looks taken.front taken.number c.in_ok-taken.ensures.takes c.in_ok-taken.ensures.inside c.in_ok-taken.ensures.front c.in_ok-taken.ensures.slots) (λ told is. absurd (false≢true is)))
 
 pub returns-clause-works : goal.returns-clause-works
 returns-clause-works g c =
@@ -227,21 +240,25 @@ returns-clause-works g c =
     let v1 = pages_of (V c.take_page.new.pages.store) c.take_page.new.pages in
     let v2 = pages_of (V c.cut_page.new.pages.store) c.cut_page.new.pages in
     let n = c.index_page_count-count.ensures in
-    let taken = c.in-Ok.taken in
+    let taken = c.in_ok-taken.taken in
     let small : c.args.key < 2 ^ 64 = omega arith in
     let long = λ (told : IsTrue g.S.EawStore.tells). g.met.S.EawStore.long c.args.pages.now.store told in
     let mark = log_len v1.store c.args.tid in
     let r : Result (Unit {0}) PageFault = Ok tt in
     act_then g.S.EawStore.tells V g.S.EawStore.calls (IsTrue g.S.EawStore.tells) c.args.tid limits_cut due (blamed_index c.insert_here.result) Claim taken c.args.pages.now (acted (cutting_pages taken.number at.page) 1) (acting_of c.args.tid mark (cutting_parts taken.front taken.number at.page at.link at.pairs.items))
-    v0.store v1.store v2.store c.in-Ok.ensures.peeks r c.in-Ok-cut_page.ensures.runs (cutting_by c.args.tid mark taken.front taken.number at.page at.link at.pairs.items) (V c.insert_here.new.pages.store) (is_done c.insert_here.result) limits_here
-    (chain_actions v2.store.state.bytes c.args.root c.args.key) refl (c.in-Ok-cut_page.ensures.acts.shape ∙ c.in-Ok.ensures.looks.shape) refl refl (omega arith) (omega arith) (omega arith)
-    (made_cut g.S.EawStore.tells g.S.EawStore.opens c.args.tid c.args.root c.args.table c.args.key v0 c.index_page_count-count.result n.count n.all n.most small c.requires.table c.requires.sound c.requires.named c.requires.absent long c.requires.alive at.front at.page at.link at.pairs.items c.requires.located c.requires.said c.requires.slot c.requires.full (c.if-not-has_page.ensures.0 refl) v1 c.in-Ok.ensures.looks taken.front taken.number c.in-Ok.ensures.takes c.in-Ok.ensures.inside c.in-Ok.ensures.front c.in-Ok.ensures.slots v2 c.in-Ok-cut_page.ensures.acts) c.insert_here.ensures.works
+    v0.store v1.store v2.store c.in_ok-taken.ensures.peeks r c.in_ok-cut_page.ensures.runs (cutting_by c.args.tid mark taken.front taken.number at.page at.link at.pairs.items) (V c.insert_here.new.pages.store) (is_done c.insert_here.result) limits_here
+    (chain_actions v2.store.state.bytes c.args.root c.args.key) refl (c.in_ok-cut_page.ensures.acts.shape ∙ c.in_ok-taken.ensures.looks.shape) refl refl (omega arith) (omega arith) (omega arith)
+    (made_cut g.S.EawStore.tells g.S.EawStore.opens c.args.tid c.args.root c.args.table c.args.key v0 c.index_page_count-count.result n.count n.all n.most small c.requires.table c.requires.sound c.requires.named c.requires.absent long c.requires.alive at.front at.page at.link at.pairs.items c.requires.located c.requires.said c.requires.slot c.requires.full (c.if-not-has_page.ensures.0 refl) v1 c.in_ok-taken.ensures.looks taken.front taken.number c.in_ok-taken.ensures.takes c.in_ok-taken.ensures.inside c.in_ok-taken.ensures.front c.in_ok-taken.ensures.slots v2 c.in_ok-cut_page.ensures.acts) c.insert_here.ensures.works
 
-pub returns-in-Err-clause-left : goal.returns-in-Err-clause-left
-returns-in-Err-clause-left g c = told_left c.in-Err.fault c.index_fault.result c.index_fault.ensures
+pub returns-in_err-taken-clause-left : goal.returns-in_err-taken-clause-left
+returns-in_err-taken-clause-left g c =
+    let exit = err_from_is_err_and c.from_residual.result c.from_residual.ensures.1 in
+    rw (exit.1) (told_left c.in_err-taken.field-0.0 exit.0 exit.2)
 
-pub returns-in-Err-cut_page-clause-left : goal.returns-in-Err-cut_page-clause-left
-returns-in-Err-cut_page-clause-left g c = told_left c.in-Err-cut_page.fault c.index_fault-in-Err-cut_page.result c.index_fault-in-Err-cut_page.ensures
+pub returns-in_err-cut_page-clause-left : goal.returns-in_err-cut_page-clause-left
+returns-in_err-cut_page-clause-left g c =
+    let exit = err_from_is_err_and c.from_residual-in_err-cut_page.result c.from_residual-in_err-cut_page.ensures.1 in
+    rw (exit.1) (told_left c.in_err-cut_page.field-0.0 exit.0 exit.2)
 
 pub returns-clause-left : goal.returns-clause-left
 returns-clause-left g c = c.insert_here.ensures.left

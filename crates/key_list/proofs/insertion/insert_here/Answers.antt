@@ -24,6 +24,7 @@ use Rattle.key_list.specs.Finds.{limits_here}
 use Rattle.key_list.specs.Index.{chain_actions}
 use Rattle.key_list.proofs.Spending.{acted, adding_by, peek_fails, act_ends}
 use Rattle.key_list.proofs.Whole.{made_here}
+use Rattle.std.proofs.lemmas.Result.{err_from_is_err_and}
 use Rattle.key_list.proofs.insertion.insert_here.Goals as goal
 
 pub take_slot-requires : goal.take_slot-requires
@@ -35,8 +36,10 @@ take_slot-requires g c =
       sound = λ told. free_slots_pass (g.S.EawStore.view c.args.pages.now.store).state.bytes c.args.at.front (whole_of (g.S.EawStore.view c.args.pages.now.store).state.bytes (c.requires.sound told)).slots (c.requires.said told).front_says;
     }
 
-pub returns-in-Err-clause-inserts : goal.returns-in-Err-clause-inserts
-returns-in-Err-clause-inserts g c =
+pub returns-in_err-taken-clause-inserts : goal.returns-in_err-taken-clause-inserts
+returns-in_err-taken-clause-inserts g c =
+    let exit = err_from_is_err_and c.from_residual.result c.from_residual.ensures.1 in
+    rw (exit.1) (
     let T = g.S.EawStore.tells in
     let V = g.S.EawStore.view in
     let E = g.S.EawStore.opens in
@@ -49,27 +52,29 @@ returns-in-Err-clause-inserts g c =
     let small : c.args.key < 2 ^ 64 = omega arith in
     let long = λ (told : IsTrue g.S.EawStore.tells). g.met.S.EawStore.long c.args.pages.now.store told in
     let v1 = pages_of (V c.take_slot.new.pages.store) c.take_slot.new.pages in
-    subst (λ (f : IndexFault). (let r : Result ℕ IndexFault = Err f in Inserts T (E v0.store.shape) (chain_within c.args.at.front.next_page) t root table key v0 v1 r)) (sym c.index_fault.ensures)
-    (slot_err T E t root table key v0 (index_pages_of v0.store.shape) refl (halves v0.store.shape) (halves_few v0.store.shape) small c.requires.table c.requires.sound c.requires.named c.requires.absent long c.requires.alive at.front at.page at.link at.pairs.items c.requires.located c.requires.said c.requires.slot c.requires.room Claim v1 c.in-Err.fault (c.in-Err.ensures.looks, c.in-Err.ensures.cause))
+    subst (λ (f : IndexFault). (let r : Result ℕ IndexFault = Err f in Inserts T (E v0.store.shape) (chain_within c.args.at.front.next_page) t root table key v0 v1 r)) (sym exit.2)
+    (slot_err T E t root table key v0 (index_pages_of v0.store.shape) refl (halves v0.store.shape) (halves_few v0.store.shape) small c.requires.table c.requires.sound c.requires.named c.requires.absent long c.requires.alive at.front at.page at.link at.pairs.items c.requires.located c.requires.said c.requires.slot c.requires.room Claim v1 c.in_err-taken.field-0.0 (c.in_err-taken.ensures.looks, c.in_err-taken.ensures.cause)))
 
-pub returns-in-Err-clause-dead : goal.returns-in-Err-clause-dead
-returns-in-Err-clause-dead g c =
-    λ told. c.in-Err.ensures.dead (ap Err (dead_fault c.in-Err.fault c.index_fault.result (look_of_index Claim g.S.EawStore.tells (g.S.EawStore.view c.args.pages.now.store) c.in-Err.fault c.in-Err.ensures.cause) c.index_fault.ensures told))
+pub returns-in_err-taken-clause-dead : goal.returns-in_err-taken-clause-dead
+returns-in_err-taken-clause-dead g c =
+    let exit = err_from_is_err_and c.from_residual.result c.from_residual.ensures.1 in
+    rw (exit.1) (
+    λ told. c.in_err-taken.ensures.dead (ap Err (dead_fault c.in_err-taken.field-0.0 exit.0 (look_of_index Claim g.S.EawStore.tells (g.S.EawStore.view c.args.pages.now.store) c.in_err-taken.field-0.0 c.in_err-taken.ensures.cause) exit.2 told)))
 
 pub add_pair-requires : goal.add_pair-requires
 add_pair-requires g c =
-    let looks = c.in-Ok.ensures.looks in
+    let looks = c.in_ok-taken.ensures.looks in
     record {
       tid = subst (λ (sh : Shape). c.args.tid < sh.numbers) (sym looks.shape) c.requires.tid;
       closed = λ running. ap (λ (f : ℕ → Option ℕ). f c.args.tid) looks.tops ∙ c.requires.closed;
       table = c.requires.table;
       located = subst (λ (sh : Shape). IsLocated sh c.args.at.front c.args.at.page c.args.at.link c.args.at.pairs.items) (sym looks.shape) c.requires.located;
       room = c.requires.room;
-      slot = subst (λ (sh : Shape). c.in-Ok.taken.number < slots_of sh) (sym looks.shape) c.in-Ok.ensures.inside;
+      slot = subst (λ (sh : Shape). c.in_ok-taken.taken.number < slots_of sh) (sym looks.shape) c.in_ok-taken.ensures.inside;
     }
 
-pub returns-in-Ok-add_pair-clause-inserts : goal.returns-in-Ok-add_pair-clause-inserts
-returns-in-Ok-add_pair-clause-inserts g c =
+pub returns-clause-inserts : goal.returns-clause-inserts
+returns-clause-inserts g c =
     let T = g.S.EawStore.tells in
     let V = g.S.EawStore.view in
     let E = g.S.EawStore.opens in
@@ -82,16 +87,18 @@ returns-in-Ok-add_pair-clause-inserts g c =
     let small : c.args.key < 2 ^ 64 = omega arith in
     let long = λ (told : IsTrue g.S.EawStore.tells). g.met.S.EawStore.long c.args.pages.now.store told in
     let v1 = pages_of (V c.take_slot.new.pages.store) c.take_slot.new.pages in
-    let taken = c.in-Ok.taken in
+    let taken = c.in_ok-taken.taken in
     let v2 = pages_of (V c.add_pair.new.pages.store) c.add_pair.new.pages in
-    add_done T E t root table key v0 (index_pages_of v0.store.shape) refl (halves v0.store.shape) (halves_few v0.store.shape) small c.requires.table c.requires.sound c.requires.named c.requires.absent long c.requires.alive at.front at.page at.link at.pairs.items c.requires.located c.requires.said c.requires.slot c.requires.room v1 c.in-Ok.ensures.looks taken.front taken.number c.in-Ok.ensures.takes c.in-Ok.ensures.inside v2 c.in-Ok-add_pair.ensures.acts
+    add_done T E t root table key v0 (index_pages_of v0.store.shape) refl (halves v0.store.shape) (halves_few v0.store.shape) small c.requires.table c.requires.sound c.requires.named c.requires.absent long c.requires.alive at.front at.page at.link at.pairs.items c.requires.located c.requires.said c.requires.slot c.requires.room v1 c.in_ok-taken.ensures.looks taken.front taken.number c.in_ok-taken.ensures.takes c.in_ok-taken.ensures.inside v2 c.in_ok-add_pair.ensures.acts
 
-pub returns-in-Ok-add_pair-clause-dead : goal.returns-in-Ok-add_pair-clause-dead
-returns-in-Ok-add_pair-clause-dead g c =
+pub returns-clause-dead : goal.returns-clause-dead
+returns-clause-dead g c =
     λ told. not_done _ told
 
-pub returns-in-Err-add_pair-clause-inserts : goal.returns-in-Err-add_pair-clause-inserts
-returns-in-Err-add_pair-clause-inserts g c =
+pub returns-in_err-add_pair-clause-inserts : goal.returns-in_err-add_pair-clause-inserts
+returns-in_err-add_pair-clause-inserts g c =
+    let exit = err_from_is_err_and c.from_residual-in_err-add_pair.result c.from_residual-in_err-add_pair.ensures.1 in
+    rw (exit.1) (
     let T = g.S.EawStore.tells in
     let V = g.S.EawStore.view in
     let E = g.S.EawStore.opens in
@@ -104,70 +111,80 @@ returns-in-Err-add_pair-clause-inserts g c =
     let small : c.args.key < 2 ^ 64 = omega arith in
     let long = λ (told : IsTrue g.S.EawStore.tells). g.met.S.EawStore.long c.args.pages.now.store told in
     let v1 = pages_of (V c.take_slot.new.pages.store) c.take_slot.new.pages in
-    let taken = c.in-Ok.taken in
+    let taken = c.in_ok-taken.taken in
     let v2 = pages_of (V c.add_pair.new.pages.store) c.add_pair.new.pages in
-    subst (λ (f : IndexFault). (let r : Result ℕ IndexFault = Err f in Inserts T (E v0.store.shape) (chain_within c.args.at.front.next_page) t root table key v0 v2 r)) (sym c.index_fault-in-Err-add_pair.ensures)
-    (add_err T E t root table key v0 (index_pages_of v0.store.shape) refl (halves v0.store.shape) (halves_few v0.store.shape) small c.requires.table c.requires.sound c.requires.named c.requires.absent long c.requires.alive at.front at.page at.link at.pairs.items c.requires.located c.requires.said c.requires.slot c.requires.room v1 c.in-Ok.ensures.looks taken.front taken.number c.in-Ok.ensures.takes c.in-Ok.ensures.inside v2 c.in-Err-add_pair.fault c.in-Err-add_pair.ensures.acts)
+    subst (λ (f : IndexFault). (let r : Result ℕ IndexFault = Err f in Inserts T (E v0.store.shape) (chain_within c.args.at.front.next_page) t root table key v0 v2 r)) (sym exit.2)
+    (add_err T E t root table key v0 (index_pages_of v0.store.shape) refl (halves v0.store.shape) (halves_few v0.store.shape) small c.requires.table c.requires.sound c.requires.named c.requires.absent long c.requires.alive at.front at.page at.link at.pairs.items c.requires.located c.requires.said c.requires.slot c.requires.room v1 c.in_ok-taken.ensures.looks taken.front taken.number c.in_ok-taken.ensures.takes c.in_ok-taken.ensures.inside v2 c.in_err-add_pair.field-0.0 c.in_err-add_pair.ensures.acts))
 
-pub returns-in-Err-add_pair-clause-dead : goal.returns-in-Err-add_pair-clause-dead
-returns-in-Err-add_pair-clause-dead g c =
+pub returns-in_err-add_pair-clause-dead : goal.returns-in_err-add_pair-clause-dead
+returns-in_err-add_pair-clause-dead g c =
+    let exit = err_from_is_err_and c.from_residual-in_err-add_pair.result c.from_residual-in_err-add_pair.ensures.1 in
+    rw (exit.1) (
     let V = g.S.EawStore.view in
     let v1 = pages_of (V c.take_slot.new.pages.store) c.take_slot.new.pages in
-    let ps = adding_pages (index_pages_of v1.store.shape) c.in-Ok.taken.number c.args.at.page in
-    λ told. dead_act v1.store c.args.tid ps c.in-Err-add_pair.fault ((c.in-Ok.ensures.looks.still refl).dead ∙ c.requires.alive)
-    (dead_fault c.in-Err-add_pair.fault c.index_fault-in-Err-add_pair.result (act_of_index v1.store c.args.tid ps c.in-Err-add_pair.fault c.in-Err-add_pair.ensures.acts.cause) c.index_fault-in-Err-add_pair.ensures told) c.in-Err-add_pair.ensures.acts.cause
+    let ps = adding_pages (index_pages_of v1.store.shape) c.in_ok-taken.taken.number c.args.at.page in
+    λ told. dead_act v1.store c.args.tid ps c.in_err-add_pair.field-0.0 ((c.in_ok-taken.ensures.looks.still refl).dead ∙ c.requires.alive)
+    (dead_fault c.in_err-add_pair.field-0.0 exit.0 (act_of_index v1.store c.args.tid ps c.in_err-add_pair.field-0.0 c.in_err-add_pair.ensures.acts.cause) exit.2 told) c.in_err-add_pair.ensures.acts.cause)
 
-pub returns-in-Err-clause-works : goal.returns-in-Err-clause-works
-returns-in-Err-clause-works g c =
+pub returns-in_err-taken-clause-works : goal.returns-in_err-taken-clause-works
+returns-in_err-taken-clause-works g c =
+    let exit = err_from_is_err_and c.from_residual.result c.from_residual.ensures.1 in
+    rw (exit.1) (
     let V = g.S.EawStore.view in
     let v0 = pages_of (V c.args.pages.now.store) c.args.pages.now in
     let at = c.args.at in
     let due = chain_actions v0.store.state.bytes c.args.root c.args.key in
-    let s : Result ℕ IndexFault = Err c.index_fault.result in
-    peek_fails g.S.EawStore.tells V g.S.EawStore.calls (IsTrue g.S.EawStore.tells) c.args.tid limits_here due (blamed_index s) Claim v0.store (V c.take_slot.new.pages.store) c.in-Err.fault (omega arith)
-    (ap (λ (f : IndexFault). (let r : Result ℕ IndexFault = Err f in blamed_index r)) c.index_fault.ensures ∙ blamed_same ℕ Claim c.in-Err.fault) c.in-Err.ensures.peeks
+    let s : Result ℕ IndexFault = Err exit.0 in
+    peek_fails g.S.EawStore.tells V g.S.EawStore.calls (IsTrue g.S.EawStore.tells) c.args.tid limits_here due (blamed_index s) Claim v0.store (V c.take_slot.new.pages.store) c.in_err-taken.field-0.0 (omega arith)
+    (ap (λ (f : IndexFault). (let r : Result ℕ IndexFault = Err f in blamed_index r)) exit.2 ∙ blamed_same ℕ Claim c.in_err-taken.field-0.0) c.in_err-taken.ensures.peeks)
 
-pub returns-in-Ok-add_pair-clause-works : goal.returns-in-Ok-add_pair-clause-works
-returns-in-Ok-add_pair-clause-works g c =
+pub returns-clause-works : goal.returns-clause-works
+returns-clause-works g c =
     let V = g.S.EawStore.view in
     let v0 = pages_of (V c.args.pages.now.store) c.args.pages.now in
     let at = c.args.at in
     let due = chain_actions v0.store.state.bytes c.args.root c.args.key in
     let v1 = pages_of (V c.take_slot.new.pages.store) c.take_slot.new.pages in
     let v2 = pages_of (V c.add_pair.new.pages.store) c.add_pair.new.pages in
-    let taken = c.in-Ok.taken in
+    let taken = c.in_ok-taken.taken in
     let small : c.args.key < 2 ^ 64 = omega arith in
     let long = λ (told : IsTrue g.S.EawStore.tells). g.met.S.EawStore.long c.args.pages.now.store told in
-    let made = made_here g.S.EawStore.tells g.S.EawStore.opens c.args.tid c.args.root c.args.table c.args.key v0 (index_pages_of v0.store.shape) refl (halves v0.store.shape) (halves_few v0.store.shape) small c.requires.table c.requires.sound c.requires.named c.requires.absent long c.requires.alive at.front at.page at.link at.pairs.items c.requires.located c.requires.said c.requires.slot c.requires.room v1 c.in-Ok.ensures.looks taken.front taken.number c.in-Ok.ensures.takes c.in-Ok.ensures.inside in
+    let made = made_here g.S.EawStore.tells g.S.EawStore.opens c.args.tid c.args.root c.args.table c.args.key v0 (index_pages_of v0.store.shape) refl (halves v0.store.shape) (halves_few v0.store.shape) small c.requires.table c.requires.sound c.requires.named c.requires.absent long c.requires.alive at.front at.page at.link at.pairs.items c.requires.located c.requires.said c.requires.slot c.requires.room v1 c.in_ok-taken.ensures.looks taken.front taken.number c.in_ok-taken.ensures.takes c.in_ok-taken.ensures.inside in
     let half = index_pages_of v1.store.shape in
     let mark = log_len v1.store c.args.tid in
     let r : Result (Unit {0}) PageFault = Ok tt in
     act_ends g.S.EawStore.tells V g.S.EawStore.calls (IsTrue g.S.EawStore.tells) c.args.tid limits_here due (None) Claim taken c.args.pages.now (acted (adding_pages half taken.number at.page) 0) (acting_of c.args.tid mark (adding_parts half taken.front taken.number at.page at.link at.pairs.items c.args.table c.args.key))
-    v0.store v1.store v2.store c.in-Ok.ensures.peeks r c.in-Ok-add_pair.ensures.runs (adding_by c.args.tid mark half taken.front taken.number at.page at.link at.pairs.items c.args.table c.args.key) (0 ∷ []) [] (omega arith) (omega arith) refl made (λ told is. refl)
+    v0.store v1.store v2.store c.in_ok-taken.ensures.peeks r c.in_ok-add_pair.ensures.runs (adding_by c.args.tid mark half taken.front taken.number at.page at.link at.pairs.items c.args.table c.args.key) (0 ∷ []) [] (omega arith) (omega arith) refl made (λ told is. refl)
 
-pub returns-in-Err-add_pair-clause-works : goal.returns-in-Err-add_pair-clause-works
-returns-in-Err-add_pair-clause-works g c =
+pub returns-in_err-add_pair-clause-works : goal.returns-in_err-add_pair-clause-works
+returns-in_err-add_pair-clause-works g c =
+    let exit = err_from_is_err_and c.from_residual-in_err-add_pair.result c.from_residual-in_err-add_pair.ensures.1 in
+    rw (exit.1) (
     let V = g.S.EawStore.view in
     let v0 = pages_of (V c.args.pages.now.store) c.args.pages.now in
     let at = c.args.at in
     let due = chain_actions v0.store.state.bytes c.args.root c.args.key in
     let v1 = pages_of (V c.take_slot.new.pages.store) c.take_slot.new.pages in
     let v2 = pages_of (V c.add_pair.new.pages.store) c.add_pair.new.pages in
-    let taken = c.in-Ok.taken in
+    let taken = c.in_ok-taken.taken in
     let small : c.args.key < 2 ^ 64 = omega arith in
     let long = λ (told : IsTrue g.S.EawStore.tells). g.met.S.EawStore.long c.args.pages.now.store told in
-    let made = made_here g.S.EawStore.tells g.S.EawStore.opens c.args.tid c.args.root c.args.table c.args.key v0 (index_pages_of v0.store.shape) refl (halves v0.store.shape) (halves_few v0.store.shape) small c.requires.table c.requires.sound c.requires.named c.requires.absent long c.requires.alive at.front at.page at.link at.pairs.items c.requires.located c.requires.said c.requires.slot c.requires.room v1 c.in-Ok.ensures.looks taken.front taken.number c.in-Ok.ensures.takes c.in-Ok.ensures.inside in
+    let made = made_here g.S.EawStore.tells g.S.EawStore.opens c.args.tid c.args.root c.args.table c.args.key v0 (index_pages_of v0.store.shape) refl (halves v0.store.shape) (halves_few v0.store.shape) small c.requires.table c.requires.sound c.requires.named c.requires.absent long c.requires.alive at.front at.page at.link at.pairs.items c.requires.located c.requires.said c.requires.slot c.requires.room v1 c.in_ok-taken.ensures.looks taken.front taken.number c.in_ok-taken.ensures.takes c.in_ok-taken.ensures.inside in
     let half = index_pages_of v1.store.shape in
     let mark = log_len v1.store c.args.tid in
-    let r : Result (Unit {0}) PageFault = Err c.in-Err-add_pair.fault in
-    let s : Result ℕ IndexFault = Err c.index_fault-in-Err-add_pair.result in
-    let blames : blamed_index s ≡ None = ap (λ (f : IndexFault). (let e : Result ℕ IndexFault = Err f in blamed_index e)) c.index_fault-in-Err-add_pair.ensures ∙ blamed_same ℕ Claim c.in-Err-add_pair.fault
-    ∙ act_blames Claim v1.store c.args.tid (adding_pages half taken.number at.page) c.in-Err-add_pair.fault c.in-Err-add_pair.ensures.acts.cause in
+    let r : Result (Unit {0}) PageFault = Err c.in_err-add_pair.field-0.0 in
+    let s : Result ℕ IndexFault = Err exit.0 in
+    let blames : blamed_index s ≡ None = ap (λ (f : IndexFault). (let e : Result ℕ IndexFault = Err f in blamed_index e)) exit.2 ∙ blamed_same ℕ Claim c.in_err-add_pair.field-0.0
+    ∙ act_blames Claim v1.store c.args.tid (adding_pages half taken.number at.page) c.in_err-add_pair.field-0.0 c.in_err-add_pair.ensures.acts.cause in
     act_ends g.S.EawStore.tells V g.S.EawStore.calls (IsTrue g.S.EawStore.tells) c.args.tid limits_here due (blamed_index s) Claim taken c.args.pages.now (acted (adding_pages half taken.number at.page) 0) (acting_of c.args.tid mark (adding_parts half taken.front taken.number at.page at.link at.pairs.items c.args.table c.args.key))
-    v0.store v1.store v2.store c.in-Ok.ensures.peeks r c.in-Err-add_pair.ensures.runs (adding_by c.args.tid mark half taken.front taken.number at.page at.link at.pairs.items c.args.table c.args.key) (0 ∷ []) [] (omega arith) (omega arith) blames made (λ told is. refl)
+    v0.store v1.store v2.store c.in_ok-taken.ensures.peeks r c.in_err-add_pair.ensures.runs (adding_by c.args.tid mark half taken.front taken.number at.page at.link at.pairs.items c.args.table c.args.key) (0 ∷ []) [] (omega arith) (omega arith) blames made (λ told is. refl))
 
-pub returns-in-Err-clause-left : goal.returns-in-Err-clause-left
-returns-in-Err-clause-left g c = told_left c.in-Err.fault c.index_fault.result c.index_fault.ensures
+pub returns-in_err-taken-clause-left : goal.returns-in_err-taken-clause-left
+returns-in_err-taken-clause-left g c =
+    let exit = err_from_is_err_and c.from_residual.result c.from_residual.ensures.1 in
+    rw (exit.1) (told_left c.in_err-taken.field-0.0 exit.0 exit.2)
 
-pub returns-in-Err-add_pair-clause-left : goal.returns-in-Err-add_pair-clause-left
-returns-in-Err-add_pair-clause-left g c = told_left c.in-Err-add_pair.fault c.index_fault-in-Err-add_pair.result c.index_fault-in-Err-add_pair.ensures
+pub returns-in_err-add_pair-clause-left : goal.returns-in_err-add_pair-clause-left
+returns-in_err-add_pair-clause-left g c =
+    let exit = err_from_is_err_and c.from_residual-in_err-add_pair.result c.from_residual-in_err-add_pair.ensures.1 in
+    rw (exit.1) (told_left c.in_err-add_pair.field-0.0 exit.0 exit.2)

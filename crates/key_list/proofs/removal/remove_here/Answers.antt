@@ -14,6 +14,7 @@ use Rattle.key_list.specs.Index.{chain_removal}
 use Rattle.index_pages.proofs.Working.{act_blames}
 use Rattle.key_list.proofs.Spending.{acted, removing_by, none_done, peek_none, act_ends}
 use Rattle.key_list.proofs.Taking.{made_none, made_removing}
+use Rattle.std.proofs.lemmas.Result.{err_from_is_err_and}
 use Rattle.key_list.proofs.removal.remove_here.Goals as goal
 
 pub returns-then-keeps_last-clause-removes : goal.returns-then-keeps_last-clause-removes
@@ -61,8 +62,8 @@ returns-in_default-give_slot-clause-removes g c =
     let long = λ (told : IsTrue g.S.EawStore.tells). g.met.S.EawStore.long c.args.pages.now.store told in
     slot_refused T E t root table key v0 small c.requires.sound c.requires.named c.requires.lists c.requires.absent long c.requires.alive at.front at.page at.link at.pairs.items c.requires.located c.requires.said 0 c.in-Some.slot c.in-Some.ensures.some.1 c.in_default-give_slot.ensures.none
 
-pub returns-in-Ok-clause-removes : goal.returns-in-Ok-clause-removes
-returns-in-Ok-clause-removes g c =
+pub returns-clause-removes : goal.returns-clause-removes
+returns-clause-removes g c =
     let T = g.S.EawStore.tells in
     let V = g.S.EawStore.view in
     let E = g.S.EawStore.opens in
@@ -77,10 +78,12 @@ returns-in-Ok-clause-removes g c =
     let v1 = pages_of (V c.remove_pair.new.pages.store) c.remove_pair.new.pages in
     let released = c.in-Some-give_slot.released in
     let gives = c.in-Some-give_slot.ensures.gives in
-    pair_gone T E t root table key v0 small c.requires.sound c.requires.named c.requires.lists c.requires.absent long c.requires.alive at.front at.page at.link at.pairs.items c.requires.located c.requires.said c.in-Some.slot released.number c.in-Some.ensures.some.1 released.free released.front gives.0 gives.1 (sym c.keeps_last.ensures ∙ c.if-keeps_last.false) v1 c.in-Ok.ensures.acts
+    pair_gone T E t root table key v0 small c.requires.sound c.requires.named c.requires.lists c.requires.absent long c.requires.alive at.front at.page at.link at.pairs.items c.requires.located c.requires.said c.in-Some.slot released.number c.in-Some.ensures.some.1 released.free released.front gives.0 gives.1 (sym c.keeps_last.ensures ∙ c.if-keeps_last.false) v1 c.in_ok-remove_pair.ensures.acts
 
-pub returns-in-Err-clause-removes : goal.returns-in-Err-clause-removes
-returns-in-Err-clause-removes g c =
+pub returns-in_err-remove_pair-clause-removes : goal.returns-in_err-remove_pair-clause-removes
+returns-in_err-remove_pair-clause-removes g c =
+    let exit = err_from_is_err_and c.from_residual.result c.from_residual.ensures.1 in
+    rw (exit.1, exit.2) (
     let T = g.S.EawStore.tells in
     let V = g.S.EawStore.view in
     let E = g.S.EawStore.opens in
@@ -95,7 +98,7 @@ returns-in-Err-clause-removes g c =
     let v1 = pages_of (V c.remove_pair.new.pages.store) c.remove_pair.new.pages in
     let released = c.in-Some-give_slot.released in
     let gives = c.in-Some-give_slot.ensures.gives in
-    action_refused T E t root table key v0 small c.requires.sound c.requires.named c.requires.lists c.requires.absent long c.requires.alive at.front at.page at.link at.pairs.items c.requires.located c.requires.said c.in-Some.slot released.number c.in-Some.ensures.some.1 released.free released.front gives.0 gives.1 (sym c.keeps_last.ensures ∙ c.if-keeps_last.false) v1 c.in-Err.fault c.in-Err.ensures.acts
+    action_refused T E t root table key v0 small c.requires.sound c.requires.named c.requires.lists c.requires.absent long c.requires.alive at.front at.page at.link at.pairs.items c.requires.located c.requires.said c.in-Some.slot released.number c.in-Some.ensures.some.1 released.free released.front gives.0 gives.1 (sym c.keeps_last.ensures ∙ c.if-keeps_last.false) v1 c.in_err-remove_pair.field-0.0 c.in_err-remove_pair.ensures.acts)
 
 pub returns-then-keeps_last-clause-works : goal.returns-then-keeps_last-clause-works
 returns-then-keeps_last-clause-works g c =
@@ -123,8 +126,8 @@ returns-in_default-give_slot-clause-works g c =
     let due = removal_actions (chain_removal v0.store.state.bytes c.args.root c.args.key) in
     none_done g.S.EawStore.tells V g.S.EawStore.calls (Unit {0}) c.args.tid limits_here due (Some 0) (0 ∷ at.page ∷ []) due false v0.store (omega (arith, c.requires.located.inside), inl refl) (λ told. refl) (λ told is. absurd (false≢true is))
 
-pub returns-in-Ok-clause-works : goal.returns-in-Ok-clause-works
-returns-in-Ok-clause-works g c =
+pub returns-clause-works : goal.returns-clause-works
+returns-clause-works g c =
     let V = g.S.EawStore.view in
     let v0 = pages_of (V c.args.pages.now.store) c.args.pages.now in
     let at = c.args.at in
@@ -139,10 +142,12 @@ returns-in-Ok-clause-works g c =
     let made = made_removing g.S.EawStore.tells g.S.EawStore.opens c.args.tid c.args.root c.args.table c.args.key v0 small c.requires.sound c.requires.named c.requires.lists c.requires.absent long c.requires.alive at.front at.page at.link at.pairs.items c.requires.located c.requires.said c.in-Some.slot released.number c.in-Some.ensures.some.1 released.free released.front gives.0 gives.1 (sym c.keeps_last.ensures ∙ c.if-keeps_last.false) in
     let r : Result (Unit {0}) PageFault = Ok tt in
     act_ends g.S.EawStore.tells V g.S.EawStore.calls (Unit {0}) c.args.tid limits_here due (None) (Unit {0}) tt c.args.pages.now (acted (removing_pages half released.number at.page) 0) (acting_of c.args.tid mark (removing_parts half released.front released.number released.free at.page at.link at.pairs.items c.args.key))
-    v0.store v0.store v1 (peek_none g.S.EawStore.tells V g.S.EawStore.calls v0.store) r c.in-Ok.ensures.runs (removing_by c.args.tid mark half released.front released.number released.free at.page at.link at.pairs.items c.args.key) (0 ∷ at.page ∷ []) [] (omega arith) (omega arith) refl made (λ told is. refl)
+    v0.store v0.store v1 (peek_none g.S.EawStore.tells V g.S.EawStore.calls v0.store) r c.in_ok-remove_pair.ensures.runs (removing_by c.args.tid mark half released.front released.number released.free at.page at.link at.pairs.items c.args.key) (0 ∷ at.page ∷ []) [] (omega arith) (omega arith) refl made (λ told is. refl)
 
-pub returns-in-Err-clause-works : goal.returns-in-Err-clause-works
-returns-in-Err-clause-works g c =
+pub returns-in_err-remove_pair-clause-works : goal.returns-in_err-remove_pair-clause-works
+returns-in_err-remove_pair-clause-works g c =
+    let exit = err_from_is_err_and c.from_residual.result c.from_residual.ensures.1 in
+    rw (exit.1, exit.2) (
     let V = g.S.EawStore.view in
     let v0 = pages_of (V c.args.pages.now.store) c.args.pages.now in
     let at = c.args.at in
@@ -155,7 +160,7 @@ returns-in-Err-clause-works g c =
     let released = c.in-Some-give_slot.released in
     let gives = c.in-Some-give_slot.ensures.gives in
     let made = made_removing g.S.EawStore.tells g.S.EawStore.opens c.args.tid c.args.root c.args.table c.args.key v0 small c.requires.sound c.requires.named c.requires.lists c.requires.absent long c.requires.alive at.front at.page at.link at.pairs.items c.requires.located c.requires.said c.in-Some.slot released.number c.in-Some.ensures.some.1 released.free released.front gives.0 gives.1 (sym c.keeps_last.ensures ∙ c.if-keeps_last.false) in
-    let r : Result (Unit {0}) PageFault = Err c.in-Err.fault in
-    let s : Result Bool PageFault = Err c.in-Err.fault in
+    let r : Result (Unit {0}) PageFault = Err c.in_err-remove_pair.field-0.0 in
+    let s : Result Bool PageFault = Err c.in_err-remove_pair.field-0.0 in
     act_ends g.S.EawStore.tells V g.S.EawStore.calls (Unit {0}) c.args.tid limits_here due (blamed s) (Unit {0}) tt c.args.pages.now (acted (removing_pages half released.number at.page) 0) (acting_of c.args.tid mark (removing_parts half released.front released.number released.free at.page at.link at.pairs.items c.args.key))
-    v0.store v0.store v1 (peek_none g.S.EawStore.tells V g.S.EawStore.calls v0.store) r c.in-Err.ensures.runs (removing_by c.args.tid mark half released.front released.number released.free at.page at.link at.pairs.items c.args.key) (0 ∷ at.page ∷ []) [] (omega arith) (omega arith) (act_blames Bool v0.store c.args.tid (removing_pages half released.number at.page) c.in-Err.fault c.in-Err.ensures.acts.cause) made (λ told is. refl)
+    v0.store v0.store v1 (peek_none g.S.EawStore.tells V g.S.EawStore.calls v0.store) r c.in_err-remove_pair.ensures.runs (removing_by c.args.tid mark half released.front released.number released.free at.page at.link at.pairs.items c.args.key) (0 ∷ at.page ∷ []) [] (omega arith) (omega arith) (act_blames Bool v0.store c.args.tid (removing_pages half released.number at.page) c.in_err-remove_pair.field-0.0 c.in_err-remove_pair.ensures.acts.cause) made (λ told is. refl))

@@ -1,6 +1,6 @@
 use Rattle.std.proofs.Common.{ℕ, List, Option, subst}
 use Rattle.std.specs.Prelude.{Ok}
-use Rattle.history.specs.declared.call.Call.TheVariants.{Get}
+use Rattle.history.specs.declared.call.TableCall.TheVariants.{Get}
 use Rattle.transactions.specs.Adds.{Adds}
 use Rattle.transactions.specs.Told.{told_get}
 use Rattle.long_values.specs.Changing.{seen_by}

@@ -1,6 +1,6 @@
 use Rattle.std.proofs.Common.{◌+◌, Bool, refl, ◌∙◌, subst, arith}
 use Rattle.std.specs.Prelude.{Ok}
-use Rattle.history.specs.declared.call.Call.TheVariants.{Del}
+use Rattle.history.specs.declared.call.TableCall.TheVariants.{Del}
 use Rattle.transactions.specs.Adds.{Adds}
 use Rattle.transactions.specs.Told.{told_del}
 use Rattle.transactions.specs.declared.work.Stop.TheVariants.{Refused}

@@ -1,7 +1,7 @@
 use Rattle.std.proofs.Common.{◌+◌, Bool, Option, refl, subst, arith}
 use Rattle.std.specs.Prelude.{Ok, IsSome}
 use Rattle.std.proofs.lemmas.Bool.{false≢true}
-use Rattle.history.specs.declared.call.Call.TheVariants.{Del}
+use Rattle.history.specs.declared.call.TableCall.TheVariants.{Del}
 use Rattle.transactions.specs.Adds.{Adds}
 use Rattle.transactions.specs.Told.{told_del}
 use Rattle.long_values.specs.Changing.{seen_by}

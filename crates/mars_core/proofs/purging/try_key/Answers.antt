@@ -2,7 +2,7 @@ use Rattle.std.proofs.Common.{◌<◌, ap, subst, sym, ◌∙◌, List, ℕ, ari
 use Rattle.std.specs.Prelude.{slice_get, length, unwrap_or}
 use Rattle.history.specs.Key.{of_table}
 use Rattle.history.specs.declared.key.Key.{Key}
-use Rattle.history.specs.declared.call.Call.TheVariants.{Del}
+use Rattle.history.specs.declared.call.TableCall.TheVariants.{Del}
 use Rattle.page_store.specs.Shown.{pages_of}
 use Rattle.record_table.specs.Removing.{IsAbsent, IsUnwritten}
 use Rattle.mars_core.proofs.Clearing.{all_unwritten, busy_tries, removed_tries, called_key}

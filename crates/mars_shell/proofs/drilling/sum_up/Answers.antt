@@ -1,7 +1,8 @@
 use Rattle.std.proofs.Common.{◌≡◌, ℕ, ◌<◌, List, [], ◌∷◌, refl, sym, subst, ap, ◌∙◌, arith}
 use Rattle.std.specs.List.{All}
 use Rattle.history.specs.declared.call.Call.{Call}
-use Rattle.history.specs.declared.call.Call.TheVariants.{Begin, Scan}
+use Rattle.history.specs.declared.call.Call.TheVariants.{Begin, Table}
+use Rattle.history.specs.declared.call.TableCall.TheVariants.{Scan}
 use Rattle.drill_gen.specs.Drill.{drill}
 use Rattle.record_table.proofs.Sharing.{Laws}
 use Rattle.history.specs.Key.{main_name}
@@ -36,7 +37,7 @@ shown g core = core_of g.S.EawStore.opens g.I.KeyIndex.index (g.S.EawStore.view 
 pub returns-in-Err-clause-early : goal.returns-in-Err-clause-early
 returns-in-Err-clause-early g c =
     let s = g.S.EawStore in
-    early_wider s.tells (shown g c.args.core.now) (shown g c.make_turns.new.core) (drill c.args.numbers.now.seed c.args.numbers.now.count c.args.callers) ((0, Begin) ∷ (0, Scan main_name 0 last_key) ∷ []) c.in-Err.stop
+    early_wider s.tells (shown g c.args.core.now) (shown g c.make_turns.new.core) (drill c.args.numbers.now.seed c.args.numbers.now.count c.args.callers) ((0, Begin) ∷ (0, Table (Scan main_name 0 last_key)) ∷ []) c.in-Err.stop
     (subst (λ (turns : List (ℕ × Call)). EndsEarly s.tells (shown g c.args.core.now) turns c.in-Err.stop (shown g c.make_turns.new.core)) (c.as_slice.ensures ∙ c.in-Ok.ensures) c.in-Err.ensures.early)
 
 pub returns-in-Err-going_on-2-clause-early : goal.returns-in-Err-going_on-2-clause-early

@@ -69,7 +69,7 @@ returns-clause-ran g c =
         λ told.
             subst (λ (s : Status). OverRecords false 0 (λ ended. TakesTurns (depth_of c.args.writing) (work.does c.args.work.now input ended said.cut said.text) old ended new)
             old s new said.cut said.text) (sym c.served_status.ensures)
-            (records_outcome media.tells told old (met.only_now c.args.media) _ c.in-Ok.ensures.attached c.in-Ok.ensures.keeps (depth_of c.args.writing) _ new (handed_back c.args.writing _ _ c.requires.of_type _ _ _ c.into_media.ensures.behind _ c.into_media.ensures.most c.into_media.ensures.counted) (met.counts_now c.into_media.result)
+            (records_outcome media.tells told old (met.only_now c.args.media) _ c.in-Ok.ensures.attached c.in-Ok.ensures.keeps (depth_of c.args.writing) (c.in-Ok.ensures.limit ∙ c.depth_of-depth.ensures.depth) _ new (handed_back c.args.writing _ _ c.requires.of_type _ _ _ c.into_media.ensures.behind _ c.into_media.ensures.most c.into_media.ensures.counted) (met.counts_now c.into_media.result)
             0 (omega arith) (λ ended. work.does c.args.work.now input ended said.cut said.text)
             c.serve-served.result.0 said.cut said.text (rw c.deref.ensures.value at (said.holds told))),
       );

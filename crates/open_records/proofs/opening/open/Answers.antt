@@ -3,6 +3,7 @@ use Rattle.eaw_device.specs.Sound.{view_of}
 use Rattle.record_table.specs.Names.{names_of}
 use Rattle.record_table.specs.Shown.{table_of}
 use Rattle.record_table.specs.Upgrading.{upgraded}
+use Rattle.caller_steps.specs.Room.{Limits}
 use Rattle.caller_steps.specs.State.{opened}
 use Rattle.mars_core.specs.Over.{limits_of, index_of}
 use Rattle.open_records.specs.declared.opening.OpenFault.TheVariants.{Callers}
@@ -21,7 +22,7 @@ returns-in-Ok-attach-clause-array g c told =
       shape = view.shape;
       array = holds_array g.M.Media.tells told (g.M.Media.view c.args.media) view attached;
       begins = record {
-        limits = begins.over.limits ∙ ap (limits_of index) begins.shape;
+        limits = begins.over.limits ∙ (λ i. limits_of index (begins.shape i) ((begins.depth ∙ c.in-Ok-attach_late.ensures.limit) i));
         state = begins.state told ∙ ap (λ (b : List ℕ). opened (names_of b) (table_of index b) (index_of index (upgraded b))) (attached.bytes told);
         sound = subst (λ (b : List ℕ). index.sound b) (attached.bytes told) (begins.sound told);
       };
@@ -33,10 +34,15 @@ returns-in-Ok-attach-clause-opened g c told shape bytes opens =
     let begins = c.in-Ok-attach.ensures.begins in
     let index = g.K.KeyIndex.index in
     record {
-      limits = begins.over.limits ∙ ap (limits_of index) (begins.shape ∙ found.0);
+      limits = begins.over.limits ∙ (λ i. limits_of index ((begins.shape ∙ found.0) i) ((begins.depth ∙ c.in-Ok-attach_late.ensures.limit) i));
       state = begins.state told ∙ ap (λ (b : List ℕ). opened (names_of b) (table_of index b) (index_of index (upgraded b))) found.1;
       sound = subst (λ (b : List ℕ). index.sound b) found.1 (begins.sound told);
     }
+
+pub returns-in-Ok-attach-clause-depth : goal.returns-in-Ok-attach-clause-depth
+returns-in-Ok-attach-clause-depth g c =
+    let begins = c.in-Ok-attach.ensures.begins in
+    ap (λ (limits : Limits). limits.depth) begins.over.limits ∙ begins.depth ∙ c.in-Ok-attach_late.ensures.limit
 
 pub returns-in-Ok-attach-clause-time : goal.returns-in-Ok-attach-clause-time
 returns-in-Ok-attach-clause-time g c told shape all =

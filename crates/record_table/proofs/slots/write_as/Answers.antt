@@ -10,6 +10,7 @@ returns-then-is_dead-clause-does g c =
     let dead = sym c.is_dead.ensures.dead ∙ c.if-is_dead.true in
     record {
       shape = refl;
+      depth = refl;
       cause = dead;
       kept = tt;
       done = tt;
@@ -17,7 +18,7 @@ returns-then-is_dead-clause-does g c =
       dies = λ failed. dead;
       others = λ u other. refl;
       time = λ told alive. absurd (false≢true (sym alive ∙ dead));
-      mirrors = none_sent g.S.EawStore.tells store store refl refl (λ fine. fine) (λ told mirrors fine. refl);
+      mirrors = none_sent g.S.EawStore.tells store store refl refl refl (λ fine. fine) (λ told mirrors fine. refl);
       sends = λ mirrors. tt;
       refused = λ mirrors. refl;
     }

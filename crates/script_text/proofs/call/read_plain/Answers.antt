@@ -5,10 +5,6 @@ pub returns-in_err-save : goal.returns-in_err-save
 returns-in_err-save c = rw c.from_residual.ensures (no_plain c.args.bytes.now (record {
   begin = c.if-is_text.ensures;
   save = c.if-is_text-2.ensures;
-  commit = c.if-is_text-3.ensures;
-  abort = c.if-is_text-4.ensures;
-  offer = c.if-is_text-5.ensures;
-  settle = c.if-is_text-6.ensures;
-  purge = c.if-is_text-7.ensures;
+  control = c.in_default.ensures;
   back = c.in_err-save.ensures;
 }))

@@ -25,7 +25,7 @@ returns-clause-ran g c =
     let new = media.view c.into_media.result in
     let work = g.W.ToldWork in
     let told = c.tell.ensures.told in
-    let ran = ran_of media.tells old _ _ new (met.only_now c.args.media) c.in-Ok.ensures.attached c.in-Ok.ensures.keeps c.into_media.ensures.behind (met.counts_now c.into_media.result) in
+    let ran = ran_of media.tells old _ _ new (met.only_now c.args.media) c.in-Ok.ensures.attached c.in-Ok.ensures.keeps c.in-Ok.ensures.limit c.into_media.ensures.behind (met.counts_now c.into_media.result) in
     record {
       cut = told.cut;
       text = told.text;

@@ -1,12 +1,13 @@
 use Rattle.std.proofs.Common.{◌≡◌, false, refl, sym, subst}
-use Rattle.history.specs.declared.call.Call.TheVariants.{Abort}
+use Rattle.history.specs.declared.call.Call.TheVariants.{Control}
+use Rattle.history.specs.declared.call.Control.TheVariants.{Abort}
 use Rattle.history.specs.declared.call.Reply.{Reply}
 use Rattle.history.specs.declared.call.Reply.TheVariants.{Fine}
 use Rattle.caller_steps.specs.Core.{Steps}
 use Rattle.transactions.proofs.Leaving.{is_answer, stays_one, keeps_one}
 use Rattle.transactions.proofs.calls.abort.Goals as goal
 
-abort_none : (reply : Reply) → (reply ≡ Fine → ⊥) → is_answer Abort reply ≡ false
+abort_none : (reply : Reply) → (reply ≡ Fine → ⊥) → is_answer (Control Abort) reply ≡ false
 abort_none Fine fine = absurd (fine refl)
 abort_none reply fine = refl
 
@@ -14,7 +15,7 @@ pub returns-in-Fine : goal.returns-in-Fine
 returns-in-Fine g c =
     let old = g.C.Core.view c.args.core.now in
     let new = g.C.Core.view c.step.new.self in
-    let call = Abort in
+    let call = Control Abort in
     let steps = c.in-Fine.ensures.steps in
     record {
       steps = steps;
@@ -28,7 +29,7 @@ pub returns-in_default : goal.returns-in_default
 returns-in_default g c =
     let old = g.C.Core.view c.args.core.now in
     let new = g.C.Core.view c.step.new.self in
-    let call = Abort in
+    let call = Control Abort in
     let steps = c.step.ensures.steps in
     let as_told = subst (λ (reply : Reply). Steps g.C.Core.tells c.args.caller call old new reply) (sym c.from.ensures.1) steps in
     record {

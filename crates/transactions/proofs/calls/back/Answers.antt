@@ -1,12 +1,13 @@
 use Rattle.std.proofs.Common.{◌≡◌, false, refl, sym, subst, ℕ}
-use Rattle.history.specs.declared.call.Call.TheVariants.{Back}
+use Rattle.history.specs.declared.call.Call.TheVariants.{Table}
+use Rattle.history.specs.declared.call.TableCall.TheVariants.{Back}
 use Rattle.history.specs.declared.call.Reply.{Reply}
 use Rattle.history.specs.declared.call.Reply.TheVariants.{Fine}
 use Rattle.caller_steps.specs.Core.{Steps}
 use Rattle.transactions.proofs.Leaving.{is_answer, stays_one, keeps_one}
 use Rattle.transactions.proofs.calls.back.Goals as goal
 
-back_none : (save : ℕ) (reply : Reply) → (reply ≡ Fine → ⊥) → is_answer (Back save) reply ≡ false
+back_none : (save : ℕ) (reply : Reply) → (reply ≡ Fine → ⊥) → is_answer (Table (Back save)) reply ≡ false
 back_none save Fine fine = absurd (fine refl)
 back_none save reply fine = refl
 
@@ -14,7 +15,7 @@ pub returns-in-Fine : goal.returns-in-Fine
 returns-in-Fine g c =
     let old = g.C.Core.view c.args.core.now in
     let new = g.C.Core.view c.step.new.self in
-    let call = Back c.args.save in
+    let call = Table (Back c.args.save) in
     let reply = Fine in
     let steps = c.in-Fine.ensures.steps in
     record {
@@ -30,7 +31,7 @@ pub returns-in_default : goal.returns-in_default
 returns-in_default g c =
     let old = g.C.Core.view c.args.core.now in
     let new = g.C.Core.view c.step.new.self in
-    let call = Back c.args.save in
+    let call = Table (Back c.args.save) in
     let steps = c.step.ensures.steps in
     let as_told = subst (λ (reply : Reply). Steps g.C.Core.tells c.args.caller call old new reply) (sym c.from.ensures.1) steps in
     record {

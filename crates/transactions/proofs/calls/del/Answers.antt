@@ -1,12 +1,13 @@
 use Rattle.std.proofs.Common.{◌≡◌, false, refl, sym, subst, ℕ, List}
-use Rattle.history.specs.declared.call.Call.TheVariants.{Del}
+use Rattle.history.specs.declared.call.Call.TheVariants.{Table}
+use Rattle.history.specs.declared.call.TableCall.TheVariants.{Del}
 use Rattle.history.specs.declared.call.Reply.{Reply}
 use Rattle.history.specs.declared.call.Reply.TheVariants.{Fine, Absent}
 use Rattle.caller_steps.specs.Core.{Steps}
 use Rattle.transactions.proofs.Leaving.{is_answer, stays_one, keeps_one}
 use Rattle.transactions.proofs.calls.del.Goals as goal
 
-del_none : (name : List ℕ) (key : ℕ) (reply : Reply) → (reply ≡ Fine → ⊥) → (reply ≡ Absent → ⊥) → is_answer (Del name key) reply ≡ false
+del_none : (name : List ℕ) (key : ℕ) (reply : Reply) → (reply ≡ Fine → ⊥) → (reply ≡ Absent → ⊥) → is_answer (Table (Del name key)) reply ≡ false
 del_none name key Fine fine absent = absurd (fine refl)
 del_none name key Absent fine absent = absurd (absent refl)
 del_none name key reply fine absent = refl
@@ -15,7 +16,7 @@ pub returns-in-Fine : goal.returns-in-Fine
 returns-in-Fine g c =
     let old = g.C.Core.view c.args.core.now in
     let new = g.C.Core.view c.step.new.self in
-    let call = Del c.args.table c.args.key in
+    let call = Table (Del c.args.table c.args.key) in
     let steps = c.in-Fine.ensures.steps in
     record {
       steps = steps;
@@ -30,7 +31,7 @@ pub returns-in-Absent : goal.returns-in-Absent
 returns-in-Absent g c =
     let old = g.C.Core.view c.args.core.now in
     let new = g.C.Core.view c.step.new.self in
-    let call = Del c.args.table c.args.key in
+    let call = Table (Del c.args.table c.args.key) in
     let steps = c.in-Absent.ensures.steps in
     record {
       steps = steps;
@@ -45,7 +46,7 @@ pub returns-in_default : goal.returns-in_default
 returns-in_default g c =
     let old = g.C.Core.view c.args.core.now in
     let new = g.C.Core.view c.step.new.self in
-    let call = Del c.args.table c.args.key in
+    let call = Table (Del c.args.table c.args.key) in
     let steps = c.step.ensures.steps in
     let as_told = subst (λ (reply : Reply). Steps g.C.Core.tells c.args.caller call old new reply) (sym c.from.ensures.1) steps in
     record {

@@ -1,12 +1,13 @@
 use Rattle.std.proofs.Common.{◌≡◌, false, refl, sym, subst, ℕ, List}
-use Rattle.history.specs.declared.call.Call.TheVariants.{Get}
+use Rattle.history.specs.declared.call.Call.TheVariants.{Table}
+use Rattle.history.specs.declared.call.TableCall.TheVariants.{Get}
 use Rattle.history.specs.declared.call.Reply.{Reply}
 use Rattle.history.specs.declared.call.Reply.TheVariants.{Found, Absent}
 use Rattle.caller_steps.specs.Core.{Steps}
 use Rattle.transactions.proofs.Leaving.{is_answer, stays_one, keeps_one}
 use Rattle.transactions.proofs.calls.get.Goals as goal
 
-get_none : (name : List ℕ) (key : ℕ) (reply : Reply) → ((value : List ℕ) → reply ≡ Found value → ⊥) → (reply ≡ Absent → ⊥) → is_answer (Get name key) reply ≡ false
+get_none : (name : List ℕ) (key : ℕ) (reply : Reply) → ((value : List ℕ) → reply ≡ Found value → ⊥) → (reply ≡ Absent → ⊥) → is_answer (Table (Get name key)) reply ≡ false
 get_none name key (Found value) found absent = absurd (found value refl)
 get_none name key Absent found absent = absurd (absent refl)
 get_none name key reply found absent = refl
@@ -15,7 +16,7 @@ pub returns-in-Found : goal.returns-in-Found
 returns-in-Found g c =
     let old = g.C.Core.view c.args.core.now in
     let new = g.C.Core.view c.step.new.self in
-    let call = Get c.args.table c.args.key in
+    let call = Table (Get c.args.table c.args.key) in
     let reply = Found c.in-Found.value in
     let steps = c.in-Found.ensures.steps in
     record {
@@ -31,7 +32,7 @@ pub returns-in-Absent : goal.returns-in-Absent
 returns-in-Absent g c =
     let old = g.C.Core.view c.args.core.now in
     let new = g.C.Core.view c.step.new.self in
-    let call = Get c.args.table c.args.key in
+    let call = Table (Get c.args.table c.args.key) in
     let reply = Absent in
     let steps = c.in-Absent.ensures.steps in
     record {
@@ -47,7 +48,7 @@ pub returns-in_default : goal.returns-in_default
 returns-in_default g c =
     let old = g.C.Core.view c.args.core.now in
     let new = g.C.Core.view c.step.new.self in
-    let call = Get c.args.table c.args.key in
+    let call = Table (Get c.args.table c.args.key) in
     let steps = c.step.ensures.steps in
     let as_told = subst (λ (reply : Reply). Steps g.C.Core.tells c.args.caller call old new reply) (sym c.from.ensures.1) steps in
     record {

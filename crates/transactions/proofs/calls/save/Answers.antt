@@ -1,12 +1,13 @@
 use Rattle.std.proofs.Common.{◌≡◌, false, refl, sym, subst, ℕ}
-use Rattle.history.specs.declared.call.Call.TheVariants.{Save}
+use Rattle.history.specs.declared.call.Call.TheVariants.{Table}
+use Rattle.history.specs.declared.call.TableCall.TheVariants.{Save}
 use Rattle.history.specs.declared.call.Reply.{Reply}
 use Rattle.history.specs.declared.call.Reply.TheVariants.{Saved}
 use Rattle.caller_steps.specs.Core.{Steps}
 use Rattle.transactions.proofs.Leaving.{is_answer, stays_one, keeps_one}
 use Rattle.transactions.proofs.calls.save.Goals as goal
 
-save_none : (reply : Reply) → ((saves : ℕ) → reply ≡ Saved saves → ⊥) → is_answer Save reply ≡ false
+save_none : (reply : Reply) → ((saves : ℕ) → reply ≡ Saved saves → ⊥) → is_answer (Table Save) reply ≡ false
 save_none (Saved saves) saved = absurd (saved saves refl)
 save_none reply saved = refl
 
@@ -14,7 +15,7 @@ pub returns-in-Saved : goal.returns-in-Saved
 returns-in-Saved g c =
     let old = g.C.Core.view c.args.core.now in
     let new = g.C.Core.view c.step.new.self in
-    let call = Save in
+    let call = Table Save in
     let reply = Saved c.in-Saved.saves in
     let steps = c.in-Saved.ensures.steps in
     record {
@@ -30,7 +31,7 @@ pub returns-in_default : goal.returns-in_default
 returns-in_default g c =
     let old = g.C.Core.view c.args.core.now in
     let new = g.C.Core.view c.step.new.self in
-    let call = Save in
+    let call = Table Save in
     let steps = c.step.ensures.steps in
     let as_told = subst (λ (reply : Reply). Steps g.C.Core.tells c.args.caller call old new reply) (sym c.from.ensures.1) steps in
     record {

@@ -1,13 +1,14 @@
 use Rattle.std.proofs.Common.{◌≡◌, false, refl, sym, subst, ℕ, List}
 use Rattle.history.specs.Writes.{Row}
-use Rattle.history.specs.declared.call.Call.TheVariants.{Scan}
+use Rattle.history.specs.declared.call.Call.TheVariants.{Table}
+use Rattle.history.specs.declared.call.TableCall.TheVariants.{Scan}
 use Rattle.history.specs.declared.call.Reply.{Reply}
 use Rattle.history.specs.declared.call.Reply.TheVariants.{Listed}
 use Rattle.caller_steps.specs.Core.{Steps}
 use Rattle.transactions.proofs.Leaving.{is_answer, stays_one, keeps_one}
 use Rattle.transactions.proofs.calls.scan.Goals as goal
 
-scan_none : (name : List ℕ) (low high : ℕ) (reply : Reply) → ((rows : List Row) → reply ≡ Listed rows → ⊥) → is_answer (Scan name low high) reply ≡ false
+scan_none : (name : List ℕ) (low high : ℕ) (reply : Reply) → ((rows : List Row) → reply ≡ Listed rows → ⊥) → is_answer (Table (Scan name low high)) reply ≡ false
 scan_none name low high (Listed rows) listed = absurd (listed rows refl)
 scan_none name low high reply listed = refl
 
@@ -15,7 +16,7 @@ pub returns-in-Listed : goal.returns-in-Listed
 returns-in-Listed g c =
     let old = g.C.Core.view c.args.core.now in
     let new = g.C.Core.view c.step.new.self in
-    let call = Scan c.args.table c.args.low c.args.high in
+    let call = Table (Scan c.args.table c.args.low c.args.high) in
     let reply = Listed c.in-Listed.rows in
     let steps = c.in-Listed.ensures.steps in
     record {
@@ -31,7 +32,7 @@ pub returns-in_default : goal.returns-in_default
 returns-in_default g c =
     let old = g.C.Core.view c.args.core.now in
     let new = g.C.Core.view c.step.new.self in
-    let call = Scan c.args.table c.args.low c.args.high in
+    let call = Table (Scan c.args.table c.args.low c.args.high) in
     let steps = c.step.ensures.steps in
     let as_told = subst (λ (reply : Reply). Steps g.C.Core.tells c.args.caller call old new reply) (sym c.from.ensures.1) steps in
     record {

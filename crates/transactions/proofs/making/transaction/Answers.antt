@@ -1,5 +1,6 @@
 use Rattle.std.proofs.Common.{◌∙◌, ⊎_elim, inl, inr, ap, refl, ◌++◌}
-use Rattle.history.specs.declared.call.Call.TheVariants.{Commit, Abort}
+use Rattle.history.specs.declared.call.Call.TheVariants.{Control}
+use Rattle.history.specs.declared.call.Control.TheVariants.{Commit, Abort}
 use Rattle.transactions.specs.Told.{told_done, told_commit}
 use Rattle.transactions.specs.declared.work.Stop.TheVariants.{Refused}
 use Rattle.transactions.proofs.Doubting.{doubts}
@@ -26,7 +27,7 @@ returns-in-Ok-commit-clause-tries g c told =
     let new = core.view c.commit.new.core in
     tries_on 1 0 c.args.caller old mid new (second.goes_on.limits ∙ first.goes_on.limits)
     (tries_on 1 0 c.args.caller old begun mid first.goes_on.limits (tries_one c.args.caller old begun (told_done c.begin.result) (c.begin.ensures.steps.step told)) (tries_none c.args.caller begun mid (c.make.ensures.within told)))
-    (tries_still c.args.caller mid new Commit (told_commit c.commit.result) refl (c.commit.ensures.steps.step told))
+    (tries_still c.args.caller mid new (Control Commit) (told_commit c.commit.result) refl (c.commit.ensures.steps.step told))
 
 pub returns-in-Err-commit-clause-tries : goal.returns-in-Err-commit-clause-tries
 returns-in-Err-commit-clause-tries g c told =
@@ -41,8 +42,8 @@ returns-in-Err-commit-clause-tries g c told =
     tries_on 1 0 c.args.caller old refused new ((c.commit.ensures.goes_on told).limits ∙ second.goes_on.limits ∙ first.goes_on.limits)
     (tries_on 1 0 c.args.caller old mid refused (second.goes_on.limits ∙ first.goes_on.limits)
     (tries_on 1 0 c.args.caller old begun mid first.goes_on.limits (tries_one c.args.caller old begun (told_done c.begin.result) (c.begin.ensures.steps.step told)) (tries_none c.args.caller begun mid (c.make.ensures.within told)))
-    (tries_still c.args.caller mid refused Commit (told_commit c.commit.result) refl (c.commit.ensures.steps.step told)))
-    (tries_still c.args.caller refused new Abort (told_done c.abort.result) refl (c.abort.ensures.steps.step told))
+    (tries_still c.args.caller mid refused (Control Commit) (told_commit c.commit.result) refl (c.commit.ensures.steps.step told)))
+    (tries_still c.args.caller refused new (Control Abort) (told_done c.abort.result) refl (c.abort.ensures.steps.step told))
 
 pub returns-in-Err-clause-tries : goal.returns-in-Err-clause-tries
 returns-in-Err-clause-tries g c told =
@@ -55,7 +56,7 @@ returns-in-Err-clause-tries g c told =
     let new = core.view c.abort-in-Err.new.core in
     tries_on 1 0 c.args.caller old mid new (second.goes_on.limits ∙ first.goes_on.limits)
     (tries_on 1 0 c.args.caller old begun mid first.goes_on.limits (tries_one c.args.caller old begun (told_done c.begin.result) (c.begin.ensures.steps.step told)) (tries_none c.args.caller begun mid (c.make.ensures.within told)))
-    (tries_still c.args.caller mid new Abort (told_done c.abort-in-Err.result) refl (c.abort-in-Err.ensures.steps.step told))
+    (tries_still c.args.caller mid new (Control Abort) (told_done c.abort-in-Err.result) refl (c.abort-in-Err.ensures.steps.step told))
 
 pub returns-in-Err-commit-clause-doubt : goal.returns-in-Err-commit-clause-doubt
 returns-in-Err-commit-clause-doubt g c told =
@@ -81,7 +82,7 @@ returns-in-Ok-commit-clause-went g c told =
     let new = core.view c.commit.new.core in
     went_on c.args.caller (core.view c.args.core.now) mid new (second.goes_on.limits ∙ first.goes_on.limits)
     (went_on c.args.caller (core.view c.args.core.now) begun mid first.goes_on.limits first.went second.went)
-    (went_one c.args.caller mid new Commit (told_commit c.commit.result) (c.commit.ensures.steps.step told))
+    (went_one c.args.caller mid new (Control Commit) (told_commit c.commit.result) (c.commit.ensures.steps.step told))
 
 pub returns-in-Err-commit-clause-went : goal.returns-in-Err-commit-clause-went
 returns-in-Err-commit-clause-went g c told =
@@ -97,7 +98,7 @@ returns-in-Err-commit-clause-went g c told =
     went_on c.args.caller old refused new ((c.commit.ensures.goes_on told).limits ∙ second.goes_on.limits ∙ first.goes_on.limits)
     (went_on c.args.caller old mid refused (second.goes_on.limits ∙ first.goes_on.limits)
     (went_on c.args.caller old begun mid first.goes_on.limits first.went second.went)
-    (went_one c.args.caller mid refused Commit (told_commit c.commit.result) (c.commit.ensures.steps.step told)))
+    (went_one c.args.caller mid refused (Control Commit) (told_commit c.commit.result) (c.commit.ensures.steps.step told)))
     last.went
 
 pub returns-in-Err-commit-clause-of_core : goal.returns-in-Err-commit-clause-of_core

@@ -1,8 +1,8 @@
 use Rattle.std.proofs.Common.{inl, inr, [], ◌∷◌, refl, ◌∙◌, arith}
 use Rattle.std.specs.Prelude.{decimal, IsTrue}
 use Rattle.history.specs.Key.{main_name}
-use Rattle.history.specs.declared.call.Call.{Call}
-use Rattle.history.specs.declared.call.Call.TheVariants.{Get}
+use Rattle.history.specs.declared.call.TableCall.{TableCall}
+use Rattle.history.specs.declared.call.TableCall.TheVariants.{Get}
 use Rattle.history.specs.declared.call.Reply.{Reply}
 use Rattle.history.specs.declared.call.Reply.TheVariants.{Found}
 use Rattle.transactions.proofs.Handing.{if_ok, if_err, handed_on, none_handed_on}
@@ -35,7 +35,7 @@ returns-in_err-paid g c =
     let old = c.args.core.now in
     let caller = c.args.caller in
     let stop = c.in_err-paid.field-0.0 in
-    let paying : Call × Reply = (Get main_name pay.from, Found (decimal c.in_ok-paying.paying)) in
+    let paying : TableCall × Reply = (Get main_name pay.from, Found (decimal c.in_ok-paying.paying)) in
     record {
       limits = c.read-2.ensures.limits ∙ c.read.ensures.limits;
       stays = λ told. c.calls_join.ensures.stays old c.read.new.core c.read-2.new.core caller (c.read.ensures.stays told) (c.read-2.ensures.stays told);
@@ -72,7 +72,7 @@ returns-in_default-checked_add g c =
     let view = g.C.Core.view in
     let old = c.args.core.now in
     let caller = c.args.caller in
-    let paying : Call × Reply = (Get main_name pay.from, Found (decimal c.in_ok-paying.paying)) in
+    let paying : TableCall × Reply = (Get main_name pay.from, Found (decimal c.in_ok-paying.paying)) in
     record {
       limits = c.read-2.ensures.limits ∙ c.read.ensures.limits;
       stays = λ told. c.calls_join.ensures.stays old c.read.new.core c.read-2.new.core caller (c.read.ensures.stays told) (c.read-2.ensures.stays told);

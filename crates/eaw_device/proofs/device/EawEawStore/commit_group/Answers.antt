@@ -56,7 +56,7 @@ returns-then-is_err-clause-does g c =
     let s = c.args.self.now in
     let said = (rw (c.deref.ensures.value) at c.commit_logs.ensures.does) in
     group_failed m.tells (m.view s.media) (m.view c.commit_logs.new.media) s.shape s.logs.items s.late s.is_dead s.sound c.in_ok-find_group.ensures.alive (members c.args.tids) c.in_ok-find_group.ensures.live
-    c.commit_logs.new.late c.commit_logs.result said.does (λ told. g.met.M.Media.long s.media told ∙ s.sound.sized) said.any_moment
+    c.commit_logs.new.late c.commit_logs.result said.does said.depth (λ told. g.met.M.Media.long s.media told ∙ s.sound.sized) said.any_moment
     (when_err c.commit_logs.result (sym c.is_err.ensures.value ∙ c.if-is_err.true) said.does.does.cause.failed)
 
 pub returns-then-is_err-clause-idle : goal.returns-then-is_err-clause-idle
@@ -101,7 +101,7 @@ invariant_of-self-2-clause-sound g c =
     let same = written_over s.logs.len s.logs.items c.clear_logs.new.logs s.logs.ok.0 many in
     let fine = sym c.is_err.ensures.value ∙ c.if-is_err.false in
     rw (same) (group_now_sound m.tells (m.view s.media) (m.view c.commit_logs.new.media) s.shape s.logs.items s.late s.is_dead s.sound c.in_ok-find_group.ensures.alive (members c.args.tids) c.in_ok-find_group.ensures.live
-    c.commit_logs.new.late c.commit_logs.result said.does (λ told. g.met.M.Media.long s.media told ∙ s.sound.sized) said.any_moment
+    c.commit_logs.new.late c.commit_logs.result said.does said.depth (λ told. g.met.M.Media.long s.media told ∙ s.sound.sized) said.any_moment
     c.commit_logs.ensures.stays.ready (λ told. when_ok c.commit_logs.result fine (said.waiting told)) (λ told. c.commit_logs.ensures.stays.held told (s.sound.told told c.in_ok-find_group.ensures.alive).shown)
     (λ told. when_ok c.commit_logs.result fine (said.committed told)) said.cells c.clear_logs.new.logs many left.kept left.freed (λ t away. left.others t away ∙ ap (λ (ls : List Log). slice_get ls t) lent)
     (group_order s.shape s.late c.commit_logs.new.late s.logs.items c.clear_logs.new.logs (members c.args.tids) left.kept left.freed (λ t away. left.others t away ∙ ap (λ (ls : List Log). slice_get ls t) lent)
@@ -121,7 +121,7 @@ returns-clause-does g c =
     let same = written_over s.logs.len s.logs.items c.clear_logs.new.logs s.logs.ok.0 many in
     let fine = sym c.is_err.ensures.value ∙ c.if-is_err.false in
     rw (same) (group_done m.tells (m.view s.media) (m.view c.commit_logs.new.media) s.shape s.logs.items s.late s.is_dead s.sound c.in_ok-find_group.ensures.alive (members c.args.tids) c.in_ok-find_group.ensures.live
-    c.commit_logs.new.late c.commit_logs.result said.does (λ told. g.met.M.Media.long s.media told ∙ s.sound.sized) said.any_moment
+    c.commit_logs.new.late c.commit_logs.result said.does said.depth (λ told. g.met.M.Media.long s.media told ∙ s.sound.sized) said.any_moment
     c.commit_logs.ensures.stays.ready (λ told. when_ok c.commit_logs.result fine (said.waiting told)) (λ told. c.commit_logs.ensures.stays.held told (s.sound.told told c.in_ok-find_group.ensures.alive).shown)
     (λ told. when_ok c.commit_logs.result fine (said.committed told)) said.cells c.clear_logs.new.logs many left.kept left.freed (λ t away. left.others t away ∙ ap (λ (ls : List Log). slice_get ls t) lent)
     (when_ok c.commit_logs.result fine said.does.does.cause.kept))

@@ -60,7 +60,7 @@ returns-then-is_err-clause-does g c =
     let there = found m.tells (m.view s.media) s.shape s.logs.items s.late s.is_dead s.sound c.in_ok-at.ensures.alive c.args.tid c.in_ok-at.at c.index.result.now c.in_ok-at.ensures.at c.in_ok-at.ensures.live c.index.ensures in
     let said = c.commit_log.ensures.does in
     nested_failed m.tells (m.view s.media) (m.view c.commit_log.new.media) s.shape s.logs.items s.late s.is_dead s.sound c.in_ok-at.ensures.alive c.args.tid c.in_ok-at.ensures.live c.index.result.now there
-    c.commit_log.new.late c.args.offset c.commit_log.result said.does (λ told. g.met.M.Media.long s.media told ∙ s.sound.sized) said.any_moment
+    c.commit_log.new.late c.args.offset c.commit_log.result said.does said.depth (λ told. g.met.M.Media.long s.media told ∙ s.sound.sized) said.any_moment
     (when_err c.commit_log.result (sym c.is_err.ensures.value ∙ c.if-is_err.true) said.does.does.cause.failed) c.args.offset refl
 
 pub returns-then-is_err-clause-idle : goal.returns-then-is_err-clause-idle
@@ -99,7 +99,7 @@ invariant_of-self-2 g c =
     let fine = sym c.is_err.ensures.value ∙ c.if-is_err.false in
     record {
       sound = commit_sound m.tells (m.view s.media) (m.view c.commit_log.new.media) s.shape s.logs.items s.late s.is_dead s.sound c.in_ok-at.ensures.alive c.args.tid c.in_ok-at.ensures.live c.index.result.now there
-          c.commit_log.new.late c.args.offset c.commit_log.result said.does (λ told. g.met.M.Media.long s.media told ∙ s.sound.sized) said.any_moment
+          c.commit_log.new.late c.args.offset c.commit_log.result said.does said.depth (λ told. g.met.M.Media.long s.media told ∙ s.sound.sized) said.any_moment
           c.commit_log.ensures.stays.ready (λ told. when_ok c.commit_log.result fine (said.waiting told)) (λ told. c.commit_log.ensures.stays.held told (s.sound.told told c.in_ok-at.ensures.alive).shown)
           (λ told. when_ok c.commit_log.result fine (said.committed told)) said.cells c.truncate.new.self c.truncate.ensures.kept (c.truncate.ensures.entries ∙ ap (λ (l : Log). take c.args.offset l.entries.items) same) c.in_ok-at.at c.in_ok-at.ensures.at
           (order_cut s.shape s.late c.commit_log.new.late s.logs.items c.args.tid c.args.offset c.index.result.now c.truncate.new.self there.there there.below c.truncate.ensures.kept (c.truncate.ensures.entries ∙ ap (λ (l : Log). take c.args.offset l.entries.items) same)
@@ -117,7 +117,7 @@ returns-clause-does g c =
     let said = c.commit_log.ensures.does in
     let fine = sym c.is_err.ensures.value ∙ c.if-is_err.false in
     nested_done m.tells (m.view s.media) (m.view c.commit_log.new.media) s.shape s.logs.items s.late s.is_dead s.sound c.in_ok-at.ensures.alive c.args.tid c.in_ok-at.ensures.live c.index.result.now there
-    c.commit_log.new.late c.args.offset c.commit_log.result said.does (λ told. g.met.M.Media.long s.media told ∙ s.sound.sized) said.any_moment
+    c.commit_log.new.late c.args.offset c.commit_log.result said.does said.depth (λ told. g.met.M.Media.long s.media told ∙ s.sound.sized) said.any_moment
     c.commit_log.ensures.stays.ready (λ told. when_ok c.commit_log.result fine (said.waiting told)) (λ told. c.commit_log.ensures.stays.held told (s.sound.told told c.in_ok-at.ensures.alive).shown)
     (λ told. when_ok c.commit_log.result fine (said.committed told)) said.cells c.truncate.new.self c.truncate.ensures.kept (c.truncate.ensures.entries ∙ ap (λ (l : Log). take c.args.offset l.entries.items) same) c.in_ok-at.at c.in_ok-at.ensures.at
     (when_ok c.commit_log.result fine said.does.does.cause.kept) c.args.offset refl (c.truncate.ensures.live ∙ again.live)

@@ -1,6 +1,6 @@
 use Rattle.std.proofs.Common.{ap, sym, subst, ◌∙◌, ◌∷◌, List, ℕ, arith}
 use Rattle.std.proofs.lemmas.Bool.{eqb-false}
-use Rattle.history.specs.declared.call.Call.{Call}
+use Rattle.history.specs.declared.call.TableCall.{TableCall}
 use Rattle.history.specs.declared.call.Reply.{Reply}
 use Rattle.history.specs.Told.{told_reply}
 use Rattle.history.specs.Packed.{CanCall, entries_in}
@@ -10,7 +10,7 @@ use Rattle.history.proofs.transaction.Entries.next.Goals as goal
 pub read_call-call-requires : goal.read_call-call-requires
 read_call-call-requires c =
     let front = front_of c.self.inside.bytes.now c.self.invariant (omega (arith, eqb-false _ 0 (sym c.if-is_empty.ensures))) in
-    subst (λ (call : Call). CanCall call) (sym (ap (λ (p : Call × List ℕ). p.0) front.call)) front.can.0
+    subst (λ (call : TableCall). CanCall call) (sym (ap (λ (p : TableCall × List ℕ). p.0) front.call)) front.can.0
 
 pub read_told-told-requires : goal.read_told-told-requires
 read_told-told-requires c =
@@ -28,5 +28,5 @@ returns c =
     let reply = told_reply c.read_told-told.result.0 in
     let rest = c.read_told-told.result.1.now in
     let all = entries_behind c.self.inside.bytes.now c.read_call-call.result.1.now rest front reply c.read_call-call.ensures.rest c.read_told-told.ensures.told c.read_told-told.ensures.rest in
-    let call = sym (c.read_call-call.ensures.call ∙ ap (λ (p : Call × List ℕ). p.0) front.call) in
-    sym c.self.view_is ∙ all ∙ ap (λ (first : Call). (first, reply) ∷ entries_in rest) call
+    let call = sym (c.read_call-call.ensures.call ∙ ap (λ (p : TableCall × List ℕ). p.0) front.call) in
+    sym c.self.view_is ∙ all ∙ ap (λ (first : TableCall). (first, reply) ∷ entries_in rest) call

@@ -1,7 +1,7 @@
 use Rattle.std.proofs.Common.{◌≡◌, ℕ, ◌+◌, inr, List, Option, None, Ok, ◌∙◌, subst, arith}
 use Rattle.std.specs.Prelude.{IsTrue}
 use Rattle.history.specs.Key.{main_name}
-use Rattle.history.specs.declared.call.Call.TheVariants.{Get}
+use Rattle.history.specs.declared.call.TableCall.TheVariants.{Get}
 use Rattle.history.specs.declared.call.Reply.TheVariants.{Absent}
 use Rattle.caller_steps.specs.Core.{CoreView}
 use Rattle.transactions.specs.Adds.{Adds}

@@ -5,7 +5,8 @@ use Rattle.eaw_face.specs.Causes.{IsAlive}
 use Rattle.page_store.specs.Shown.{pages_of}
 use Rattle.history.specs.Rows.{table_of}
 use Rattle.history.specs.Table.{Granted}
-use Rattle.history.specs.declared.call.Call.TheVariants.{Abort}
+use Rattle.history.specs.declared.call.Call.TheVariants.{Control}
+use Rattle.history.specs.declared.call.Control.TheVariants.{Abort}
 use Rattle.history.specs.declared.call.Reply.TheVariants.{Fine}
 use Rattle.record_table.specs.declared.fault.TableFault.{TableFault}
 use Rattle.caller_steps.specs.Core.{Steps}
@@ -41,7 +42,7 @@ invariant_of-self-in-Err g c = absurd (c.abort.ensures.due (c.in-Err.is ∙ ap (
 
 pub returns-in-Ok : goal.returns-in-Ok
 returns-in-Ok g c = record {
-  steps = subst (λ (h : Held g.row.S.Denot). Steps g.S.EawStore.tells c.args.caller Abort (core_of g.S.EawStore.opens g.K.KeyIndex.index (g.S.EawStore.view h.records.store) h)
+  steps = subst (λ (h : Held g.row.S.Denot). Steps g.S.EawStore.tells c.args.caller (Control Abort) (core_of g.S.EawStore.opens g.K.KeyIndex.index (g.S.EawStore.view h.records.store) h)
       (core_of g.S.EawStore.opens g.K.KeyIndex.index (g.S.EawStore.view c.abort.new.self.store)
       (record { records = c.abort.new.self; base = c.self.inside.base; seats = c.end.new.self; history = c.self.inside.history.items; doubt = c.self.inside.doubt })) Fine) c.self.view_is
       (aborted_steps g.S.EawStore.tells g.S.EawStore.opens g.K.KeyIndex.index g.met.S.EawStore.one_data (pages_of (g.S.EawStore.view c.self.inside.records.store) c.self.inside.records) (pages_of (g.S.EawStore.view c.abort.new.self.store) c.abort.new.self)

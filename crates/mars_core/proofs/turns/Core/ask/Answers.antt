@@ -10,22 +10,21 @@ use Rattle.history.specs.Table.{Granted}
 use Rattle.history.specs.declared.call.Reply.TheVariants.{NoTransaction}
 use Rattle.std.specs.Prelude.{is_some}
 use Rattle.history.specs.Locks.{has_table}
-use Rattle.history.specs.declared.call.Call.{Call}
+use Rattle.history.specs.declared.call.Call.TheVariants.{Table as OnTable}
+use Rattle.history.specs.declared.call.TableCall.{TableCall}
 use Rattle.caller_steps.specs.State.{State, Offer, unoffered}
 use Rattle.caller_steps.specs.Offers.{is_unoffered}
 use Rattle.caller_steps.specs.Locked.{IsFree, IsLocked}
 use Rattle.caller_steps.specs.Core.{Steps}
 use Rattle.mars_core.specs.Held.{Held, core_of, state_at}
 use Rattle.mars_core.specs.Kept.{IsKept}
-use Rattle.mars_core.specs.Over.{limits_of}
 use Rattle.mars_core.specs.Seats.{Seats, live_in, offers_in, bare, calls_in, IsMasked}
 use Rattle.mars_core.specs.Works.{IsShown}
 use Rattle.mars_core.proofs.Answered.{unmade_steps, unmade_plain, unmade_refuses, made_keeps, made_steps, made_plain}
 use Rattle.mars_core.proofs.Answering.{has_asked}
-use Rattle.mars_core.proofs.Mirroring.{is_of_table}
 use Rattle.record_table.proofs.Sharing.{Laws}
 use Rattle.mars_core.proofs.Prefixes.{StoreLaws}
-use Rattle.mars_core.proofs.Staying.{update_same, free_after, changed_back, changed_twice, kept_same, is_absent_at, absent_steps}
+use Rattle.mars_core.proofs.Staying.{update_same, free_after, changed_back, changed_twice, kept_same, absent_steps}
 use Rattle.mars_core.proofs.turns.Core.ask.Given.{Over}
 use Rattle.mars_core.proofs.turns.Core.ask.Goals as goal
 
@@ -45,7 +44,7 @@ nothing : (old mid : Seats) (t : ℕ) (o : Option Granted) → o ≡ live_in old
 nothing old mid t o is none out = out ∙ update_same (live_in old) t None (sym is ∙ none)
 
 -- nobody stands in the way of a live caller, also while its own transaction is out of its seat
-free_of : (s : State) (mid : Seats) (t : ℕ) (call : Call) (calls : Granted) → s.is_dead ≡ false → s.live t ≡ Some calls → s.offers t ≡ unoffered → live_in mid ≡ update nat_eq s.live t None → mid.names ≡ s.names → IsLocked s t call
+free_of : (s : State) (mid : Seats) (t : ℕ) (call : TableCall) (calls : Granted) → s.is_dead ≡ false → s.live t ≡ Some calls → s.offers t ≡ unoffered → live_in mid ≡ update nat_eq s.live t None → mid.names ≡ s.names → IsLocked s t (OnTable call)
     → has_table mid.names call ≡ true → IsFree (bare mid) t call
 free_of s mid t call calls alive is un out names locked there = free_after s (bare mid) t None out names call (locked alive (λ i. is_unoffered (un i) && is_some (is i)) (subst (λ (ns : List (List ℕ)). has_table ns call ≡ true) names there))
 
@@ -62,13 +61,13 @@ returns-in_default g c =
     let i = c.self.inside in
     let same = nothing i.seats c.take.new.self c.args.caller (calls_in c.take.result) c.take.ensures.live (ap calls_in c.in_default.is) c.take.ensures.out.live in
     record {
-      steps = subst (λ (h : Held g.row.S.Denot). Steps g.S.EawStore.tells c.args.caller c.args.call.now (core_of g.S.EawStore.opens g.K.KeyIndex.index (g.S.EawStore.view h.records.store) h)
+      steps = subst (λ (h : Held g.row.S.Denot). Steps g.S.EawStore.tells c.args.caller (OnTable c.args.asked.now) (core_of g.S.EawStore.opens g.K.KeyIndex.index (g.S.EawStore.view h.records.store) h)
           (core_of g.S.EawStore.opens g.K.KeyIndex.index (g.S.EawStore.view c.self.inside.records.store)
           (record { records = c.self.inside.records; base = c.self.inside.base; seats = c.take.new.self; history = c.self.inside.history.items; doubt = c.self.inside.doubt })) NoTransaction) c.self.view_is
           (absent_steps g.S.EawStore.tells g.S.EawStore.opens g.K.KeyIndex.index (pages_of (g.S.EawStore.view i.records.store) i.records)
           (state_at g.K.KeyIndex.index (g.S.EawStore.view i.records.store) i.seats.names (table_of i.base) i.history.items (live_in i.seats) (offers_in i.seats) i.doubt) (record { indexed = refl; dead = refl }) (length i.seats.places) i.base c.self.invariant
-          (subst (λ (h : Held g.row.S.Denot). IsAlive (g.S.EawStore.view h.records.store)) (sym c.self.view_is) c.requires.alive) c.args.caller c.args.call.now (sym c.take.ensures.live ∙ ap calls_in c.in_default.is) (subst (λ (h : Held g.row.S.Denot). offers_in h.seats c.args.caller ≡ unoffered) (sym c.self.view_is) c.requires.unoffered)
-          (is_absent_at (limits_of g.K.KeyIndex.index (g.S.EawStore.view i.records.store).shape) (state_at g.K.KeyIndex.index (g.S.EawStore.view i.records.store) i.seats.names (table_of i.base) i.history.items (live_in i.seats) (offers_in i.seats) i.doubt) c.args.caller c.args.asked c.args.call.now c.requires.said) _
+          (subst (λ (h : Held g.row.S.Denot). IsAlive (g.S.EawStore.view h.records.store)) (sym c.self.view_is) c.requires.alive) c.args.caller (OnTable c.args.asked.now) (sym c.take.ensures.live ∙ ap calls_in c.in_default.is) (subst (λ (h : Held g.row.S.Denot). offers_in h.seats c.args.caller ≡ unoffered) (sym c.self.view_is) c.requires.unoffered)
+          (refl, refl) _
           (λ j. state_at g.K.KeyIndex.index (g.S.EawStore.view c.self.inside.records.store) (c.take.ensures.out.names j) (table_of c.self.inside.base) c.self.inside.history.items (same j) (c.take.ensures.out.offers j) c.self.inside.doubt));
       sends = subst (λ (h : Held g.row.S.Denot). Mirrors g.S.EawStore.tells (g.S.EawStore.view h.records.store) (g.S.EawStore.view c.self.inside.records.store)) c.self.view_is (sends_none g.S.EawStore.tells (g.S.EawStore.view c.self.inside.records.store));
       not_busy = λ held. refl;
@@ -99,7 +98,7 @@ invariant_of-self-2 g c =
           λ j. state_at g.K.KeyIndex.index (g.S.EawStore.view c.self.inside.records.store) ((c.put.ensures.names ∙ c.take.ensures.out.names) j) (table_of c.self.inside.base) c.self.inside.history.items (back j) ((c.put.ensures.offers ∙ c.take.ensures.out.offers) j) c.self.inside.doubt))
       | inr made ↦ made_keeps T E I p s (record { indexed = refl; dead = refl }) (length i.seats.places) i.base c.self.invariant alive
           (subst (λ (h : Held g.row.S.Denot). IsShown g.S.EawStore.tells g.K.KeyIndex.index (pages_of (g.S.EawStore.view h.records.store) h.records)) (sym c.self.view_is) c.requires.shown)
-          t c.args.call.now (is_of_table c.args.asked c.args.call.now c.requires.said) c.in-Some.live.calls is un c.take.new.self None c.take.ensures.out.live c.take.ensures.out.names g.met.S.EawStore.one_data (index_laws g) q (laws_at g i.records.store) (laws_at g c.answer-live.new.records.store)
+          t c.args.asked.now c.in-Some.live.calls is un c.take.new.self None c.take.ensures.out.live c.take.ensures.out.names g.met.S.EawStore.one_data (index_laws g) q (laws_at g i.records.store) (laws_at g c.answer-live.new.records.store)
           new (record { indexed = refl; dead = refl }) (c.put.ensures.names ∙ c.take.ensures.out.names) (c.put.ensures.offers ∙ c.take.ensures.out.offers) refl refl refl (length c.put.new.self.places) count c.answer-live.result.0.calls
           (changed_twice (live_in i.seats) t None (Some c.answer-live.result.0.calls) (live_in c.take.new.self) (live_in c.put.new.self) c.take.ensures.out.live c.put.ensures.live) c.answer-live.result.1 made
     ]
@@ -107,9 +106,9 @@ invariant_of-self-2 g c =
 pub answer-live-requires-clause-locked : goal.answer-live-requires-clause-locked
 answer-live-requires-clause-locked g c held there =
     let i = c.self.inside in
-    free_of (state_at g.K.KeyIndex.index (g.S.EawStore.view i.records.store) i.seats.names (table_of i.base) i.history.items (live_in i.seats) (offers_in i.seats) i.doubt) c.take.new.self c.args.caller c.args.call.now c.in-Some.live.calls
+    free_of (state_at g.K.KeyIndex.index (g.S.EawStore.view i.records.store) i.seats.names (table_of i.base) i.history.items (live_in i.seats) (offers_in i.seats) i.doubt) c.take.new.self c.args.caller c.args.asked.now c.in-Some.live.calls
     (subst (λ (h : Held g.row.S.Denot). IsAlive (g.S.EawStore.view h.records.store)) (sym c.self.view_is) c.requires.alive) (sym c.take.ensures.live ∙ ap calls_in c.in-Some.is) (subst (λ (h : Held g.row.S.Denot). offers_in h.seats c.args.caller ≡ unoffered) (sym c.self.view_is) c.requires.unoffered) c.take.ensures.out.live c.take.ensures.out.names
-    (subst (λ (h : Held g.row.S.Denot). IsLocked (core_of g.S.EawStore.opens g.K.KeyIndex.index (g.S.EawStore.view h.records.store) h).state c.args.caller c.args.call.now) (sym c.self.view_is) (c.requires.locked held)) there
+    (subst (λ (h : Held g.row.S.Denot). IsLocked (core_of g.S.EawStore.opens g.K.KeyIndex.index (g.S.EawStore.view h.records.store) h).state c.args.caller (OnTable c.args.asked.now)) (sym c.self.view_is) (c.requires.locked held)) there
 
 pub returns : goal.returns
 returns g c =
@@ -129,22 +128,22 @@ returns g c =
     let shown = subst (λ (h : Held g.row.S.Denot). IsShown g.S.EawStore.tells g.K.KeyIndex.index (pages_of (g.S.EawStore.view h.records.store) h.records)) (sym c.self.view_is) c.requires.shown in
     let count = c.put.ensures.count ∙ c.take.ensures.out.count in
     record {
-      steps = subst (λ (h : Held g.row.S.Denot). Steps g.S.EawStore.tells c.args.caller c.args.call.now (core_of g.S.EawStore.opens g.K.KeyIndex.index (g.S.EawStore.view h.records.store) h)
+      steps = subst (λ (h : Held g.row.S.Denot). Steps g.S.EawStore.tells c.args.caller (OnTable c.args.asked.now) (core_of g.S.EawStore.opens g.K.KeyIndex.index (g.S.EawStore.view h.records.store) h)
           (core_of g.S.EawStore.opens g.K.KeyIndex.index (g.S.EawStore.view c.answer-live.new.records.store)
           (record { records = c.answer-live.new.records; base = c.self.inside.base; seats = c.put.new.self; history = c.self.inside.history.items; doubt = c.self.inside.doubt })) c.answer-live.result.1) c.self.view_is
           (elim c.answer-live.ensures.answered [
-            | inl unmade ↦ subst (λ (r : Shown g.row.S.Denot). Steps g.S.EawStore.tells c.args.caller c.args.call.now
+            | inl unmade ↦ subst (λ (r : Shown g.row.S.Denot). Steps g.S.EawStore.tells c.args.caller (OnTable c.args.asked.now)
                 (core_of g.S.EawStore.opens g.K.KeyIndex.index (g.S.EawStore.view c.self.inside.records.store)
                 (record { records = c.self.inside.records; base = c.self.inside.base; seats = c.self.inside.seats; history = c.self.inside.history.items; doubt = c.self.inside.doubt }))
                 (core_of g.S.EawStore.opens g.K.KeyIndex.index (g.S.EawStore.view r.store)
                 (record { records = r; base = c.self.inside.base; seats = c.put.new.self; history = c.self.inside.history.items; doubt = c.self.inside.doubt })) c.answer-live.result.1) (sym unmade.0)
-                (unmade_steps T E I p s (record { indexed = refl; dead = refl }) (length i.seats.places) i.base c.self.invariant alive shown t c.args.call.now (is_of_table c.args.asked c.args.call.now c.requires.said) c.in-Some.live.calls is un
+                (unmade_steps T E I p s (record { indexed = refl; dead = refl }) (length i.seats.places) i.base c.self.invariant alive shown t c.args.asked.now c.in-Some.live.calls is un
                 c.take.new.self None c.take.ensures.out.live c.take.ensures.out.names _
                 (let back = changed_back (live_in i.seats) t None (Some c.answer-live.result.0.calls) (live_in c.take.new.self) (live_in c.put.new.self) c.take.ensures.out.live c.put.ensures.live (is ∙ ap (λ (cs : Granted). Some cs) (sym unmade.1)) in
                 λ j. state_at g.K.KeyIndex.index (g.S.EawStore.view c.self.inside.records.store) ((c.put.ensures.names ∙ c.take.ensures.out.names) j) (table_of c.self.inside.base) c.self.inside.history.items (back j) ((c.put.ensures.offers ∙ c.take.ensures.out.offers) j) c.self.inside.doubt)
                 c.answer-live.result.1 unmade.2)
             | inr made ↦ made_steps T E I p s (record { indexed = refl; dead = refl }) (length i.seats.places) i.base c.self.invariant alive shown
-                t c.args.call.now (is_of_table c.args.asked c.args.call.now c.requires.said) c.in-Some.live.calls is un c.take.new.self None c.take.ensures.out.live c.take.ensures.out.names g.met.S.EawStore.one_data (index_laws g) q (laws_at g i.records.store) (laws_at g c.answer-live.new.records.store)
+                t c.args.asked.now c.in-Some.live.calls is un c.take.new.self None c.take.ensures.out.live c.take.ensures.out.names g.met.S.EawStore.one_data (index_laws g) q (laws_at g i.records.store) (laws_at g c.answer-live.new.records.store)
                 new (record { indexed = refl; dead = refl }) (c.put.ensures.names ∙ c.take.ensures.out.names) (c.put.ensures.offers ∙ c.take.ensures.out.offers) refl refl refl (length c.put.new.self.places) count c.answer-live.result.0.calls
                 (changed_twice (live_in i.seats) t None (Some c.answer-live.result.0.calls) (live_in c.take.new.self) (live_in c.put.new.self) c.take.ensures.out.live c.put.ensures.live) c.answer-live.result.1 made
           ]);
@@ -153,15 +152,15 @@ returns g c =
         | inr made ↦ made.works.does.mirrors
       ]);
       tabled = λ granted. elim c.answer-live.ensures.answered [
-        | inl unmade ↦ absurd (true≢false (sym (unmade_refuses (length (p.counts t)) c.take.new.self t c.args.call.now c.answer-live.result.1 unmade.2) ∙ granted))
-        | inr made ↦ subst (λ (h : Held g.row.S.Denot). has_table h.seats.names c.args.call.now ≡ true) c.self.view_is
-            (subst (λ (ns : List (List ℕ)). has_table ns c.args.call.now ≡ true) c.take.ensures.out.names (has_asked c.take.new.self.names c.args.call.now made.table made.number))
+        | inl unmade ↦ absurd (true≢false (sym (unmade_refuses (length (p.counts t)) c.take.new.self t c.args.asked.now c.answer-live.result.1 unmade.2) ∙ granted))
+        | inr made ↦ subst (λ (h : Held g.row.S.Denot). has_table h.seats.names c.args.asked.now ≡ true) c.self.view_is
+            (subst (λ (ns : List (List ℕ)). has_table ns c.args.asked.now ≡ true) c.take.ensures.out.names (has_asked c.take.new.self.names c.args.asked.now made.table made.number))
       ];
       not_busy = λ held. elim c.answer-live.ensures.answered [
-        | inl unmade ↦ unmade_plain (length (p.counts t)) c.take.new.self t c.args.call.now c.answer-live.result.1 (free_of s c.take.new.self t c.args.call.now c.in-Some.live.calls alive is un c.take.ensures.out.live c.take.ensures.out.names
-            (subst (λ (h : Held g.row.S.Denot). IsLocked (core_of g.S.EawStore.opens g.K.KeyIndex.index (g.S.EawStore.view h.records.store) h).state c.args.caller c.args.call.now) (sym c.self.view_is) (c.requires.locked held)))
+        | inl unmade ↦ unmade_plain (length (p.counts t)) c.take.new.self t c.args.asked.now c.answer-live.result.1 (free_of s c.take.new.self t c.args.asked.now c.in-Some.live.calls alive is un c.take.ensures.out.live c.take.ensures.out.names
+            (subst (λ (h : Held g.row.S.Denot). IsLocked (core_of g.S.EawStore.opens g.K.KeyIndex.index (g.S.EawStore.view h.records.store) h).state c.args.caller (OnTable c.args.asked.now)) (sym c.self.view_is) (c.requires.locked held)))
             unmade.2
-        | inr made ↦ made_plain T (E (V i.records.store).shape) I (length (p.counts t)) c.take.new.self t c.in-Some.live.calls c.args.call.now p q c.answer-live.result.0.calls c.answer-live.result.1 made
+        | inr made ↦ made_plain T (E (V i.records.store).shape) I (length (p.counts t)) c.take.new.self t c.in-Some.live.calls c.args.asked.now p q c.answer-live.result.0.calls c.answer-live.result.1 made
       ];
     }
 

@@ -5,6 +5,7 @@ use Rattle.eaw_face.specs.Causes.{IsAlive}
 use Rattle.page_store.specs.Shown.{pages_of}
 use Rattle.history.specs.Rows.{table_of}
 use Rattle.history.specs.declared.call.Call.TheVariants as call
+use Rattle.history.specs.declared.call.Control.TheVariants as control
 use Rattle.history.specs.declared.call.Reply.TheVariants.{Fine, NoTransaction}
 use Rattle.caller_steps.specs.State.{Offer, unoffered, offered, offers_with}
 use Rattle.caller_steps.specs.Core.{Steps}
@@ -50,11 +51,11 @@ returns-in_default g c =
     let i = c.self.inside in
     let same = c.take.ensures.out.live ∙ update_same (live_in i.seats) c.args.caller None (sym c.take.ensures.live ∙ ap calls_in c.in_default.is) in
     record {
-      steps = subst (λ (h : Held g.row.S.Denot). Steps g.S.EawStore.tells c.args.caller call.Offer (core_of g.S.EawStore.opens g.K.KeyIndex.index (V h.records.store) h)
+      steps = subst (λ (h : Held g.row.S.Denot). Steps g.S.EawStore.tells c.args.caller (call.Control control.Offer) (core_of g.S.EawStore.opens g.K.KeyIndex.index (V h.records.store) h)
           (core_of g.S.EawStore.opens g.K.KeyIndex.index (V i.records.store) (record { records = i.records; base = i.base; seats = c.take.new.self; history = i.history.items; doubt = i.doubt })) NoTransaction) c.self.view_is
           (absent_steps g.S.EawStore.tells g.S.EawStore.opens g.K.KeyIndex.index (pages_of (V i.records.store) i.records)
           (state_at g.K.KeyIndex.index (V i.records.store) i.seats.names (table_of i.base) i.history.items (live_in i.seats) (offers_in i.seats) i.doubt) (record { indexed = refl; dead = refl }) (length i.seats.places) i.base c.self.invariant
-          (subst (λ (h : Held g.row.S.Denot). IsAlive (V h.records.store)) (sym c.self.view_is) c.requires.alive) c.args.caller call.Offer (sym c.take.ensures.live ∙ ap calls_in c.in_default.is)
+          (subst (λ (h : Held g.row.S.Denot). IsAlive (V h.records.store)) (sym c.self.view_is) c.requires.alive) c.args.caller (call.Control control.Offer) (sym c.take.ensures.live ∙ ap calls_in c.in_default.is)
           (subst (λ (h : Held g.row.S.Denot). offers_in h.seats c.args.caller ≡ unoffered) (sym c.self.view_is) c.requires.unoffered) (refl, refl) _
           (λ j. state_at g.K.KeyIndex.index (V i.records.store) (c.take.ensures.out.names j) (table_of i.base) i.history.items (same j) (c.take.ensures.out.offers j) i.doubt));
       sends = subst (λ (h : Held g.row.S.Denot). Mirrors g.S.EawStore.tells (V h.records.store) (V i.records.store)) c.self.view_is (sends_none g.S.EawStore.tells (V i.records.store));
@@ -84,7 +85,7 @@ returns g c =
     let back = changed_back (live_in i.seats) c.args.caller None (Some c.in-Some.live.calls) (live_in c.take.new.self) (live_in c.put_offered.new.self) c.take.ensures.out.live c.put_offered.ensures.live is in
     let offers = c.put_offered.ensures.offers ∙ ap (λ (f : ℕ → Offer). offers_with f c.args.caller offered) c.take.ensures.out.offers in
     record {
-      steps = subst (λ (h : Held g.row.S.Denot). Steps g.S.EawStore.tells c.args.caller call.Offer (core_of g.S.EawStore.opens g.K.KeyIndex.index (V h.records.store) h)
+      steps = subst (λ (h : Held g.row.S.Denot). Steps g.S.EawStore.tells c.args.caller (call.Control control.Offer) (core_of g.S.EawStore.opens g.K.KeyIndex.index (V h.records.store) h)
           (core_of g.S.EawStore.opens g.K.KeyIndex.index (V i.records.store) (record { records = i.records; base = i.base; seats = c.put_offered.new.self; history = i.history.items; doubt = i.doubt })) Fine) c.self.view_is
           (given_steps g.S.EawStore.tells g.S.EawStore.opens g.K.KeyIndex.index (pages_of (V i.records.store) i.records) (laws_at g i.records.store)
           (state_at g.K.KeyIndex.index (V i.records.store) i.seats.names (table_of i.base) i.history.items (live_in i.seats) (offers_in i.seats) i.doubt) _ (record { indexed = refl; dead = refl })

@@ -4,7 +4,8 @@ use Rattle.eaw_face.specs.Causes.{IsAlive}
 use Rattle.page_store.specs.Shown.{pages_of}
 use Rattle.history.specs.Rows.{table_of}
 use Rattle.history.specs.Table.{Granted}
-use Rattle.history.specs.declared.call.Call.TheVariants.{Purge}
+use Rattle.history.specs.declared.call.Call.TheVariants.{Control}
+use Rattle.history.specs.declared.call.Control.TheVariants.{Purge}
 use Rattle.caller_steps.specs.Core.{Steps}
 use Rattle.caller_steps.specs.Fate.{is_busy}
 use Rattle.caller_steps.specs.Purging.{PurgeCause}
@@ -76,7 +77,7 @@ returns g c =
           (subst (λ (h : Held g.row.S.Denot). offers_in h.seats c.args.caller ≡ unoffered) (sym c.self.view_is) c.requires.unoffered)
           (pages_of (V c.clear.new.records.store) c.clear.new.records) (laws_at g c.clear.new.records.store) c.clear.result c.clear.ensures.clears));
       not_busy = ap is_busy (answer_is g c) ∙ outcome_plain c.clear.result;
-      steps = subst (λ (h : Held g.row.S.Denot). Steps g.S.EawStore.tells c.args.caller Purge (core_of g.S.EawStore.opens g.K.KeyIndex.index (V h.records.store) h)
+      steps = subst (λ (h : Held g.row.S.Denot). Steps g.S.EawStore.tells c.args.caller (Control Purge) (core_of g.S.EawStore.opens g.K.KeyIndex.index (V h.records.store) h)
           (core_of g.S.EawStore.opens g.K.KeyIndex.index (V c.clear.new.records.store)
           (record { records = c.clear.new.records; base = i.base; seats = i.seats; history = i.history.items; doubt = i.doubt })) c.match-clear.result) c.self.view_is
           (rw (answer_is g c) (purged_steps g.S.EawStore.tells g.S.EawStore.opens g.K.KeyIndex.index (index_laws g) g.met.S.EawStore.one_data (pages_of (V i.records.store) i.records) (laws_at g i.records.store) i.base (table_of i.base) i.history.items i.seats i.doubt (length i.seats.places) c.self.invariant

@@ -4,6 +4,7 @@ use Rattle.eaw_face.specs.Causes.{IsAlive}
 use Rattle.page_store.specs.Shown.{pages_of}
 use Rattle.history.specs.Rows.{table_of}
 use Rattle.history.specs.declared.call.Call.TheVariants as call
+use Rattle.history.specs.declared.call.Control.TheVariants as control
 use Rattle.history.specs.declared.call.Reply.{Reply}
 use Rattle.history.specs.declared.call.Reply.TheVariants.{Committed}
 use Rattle.history.specs.declared.transaction.Done.{Done}
@@ -82,7 +83,7 @@ returns-in-Ok-commit_group-clause-steps g c =
     let last : c.count-before.result + c.offered-count.result.1 ≡ length i.history.items + length (offered_in i.seats) = omega (arith, before, c.offered-count.ensures.count) in
     let ends = λ (state : State) (is : IsOf i.seats (length i.history.items) state). subst (λ (was : List Done). Ends ending.Committed (c.count-before.result + c.offered-count.result.1) state (offered_in i.seats) i.seats was c.take_offered.new.into.items c.take_offered.new.self)
     c.in-Ok.ensures.items (c.take_offered.ensures.ends state (record { live = is.live; offers = is.offers; long = is.long ∙ before })) in
-    subst (λ (x : Held g.row.S.Denot × List Done). Steps g.S.EawStore.tells c.args.caller call.Settle (core_of g.S.EawStore.opens I (V x.0.records.store) x.0)
+    subst (λ (x : Held g.row.S.Denot × List Done). Steps g.S.EawStore.tells c.args.caller (call.Control control.Settle) (core_of g.S.EawStore.opens I (V x.0.records.store) x.0)
     (core_of g.S.EawStore.opens I (V c.commit_group.new.self.store) (record { records = c.commit_group.new.self; base = i.base; seats = c.settle.new.self; history = x.1; doubt = i.doubt })) (Committed c.settle.result)) (λ j. (c.self.view_is j, c.take_offered.new.into.items))
     (group_steps g.S.EawStore.tells g.S.EawStore.opens I g.met.S.EawStore.one_data (pages_of (V i.records.store) i.records) q (laws_at g i.records.store) (laws_at g c.commit_group.new.self.store)
     (table_of i.base) i.history.items i.seats i.doubt i.base c.self.invariant (subst (λ (h : Held g.row.S.Denot). IsAlive (V h.records.store)) (sym c.self.view_is) c.requires.alive) c.args.caller
@@ -127,7 +128,7 @@ returns-in-Err-clause-steps g c =
     let fails = c.in-Err.is ∙ ap (λ (f : TableFault). (let r : Result (Unit {0}) TableFault = Err f in r)) fault in
     let told = c.from.ensures ∙ ap reply_to fault in
     let history = c.in-Ok.ensures.items in
-    subst (λ (x : Held g.row.S.Denot × List Done × List Done × Reply). Steps g.S.EawStore.tells c.args.caller call.Settle (core_of g.S.EawStore.opens I (V x.0.records.store) x.0)
+    subst (λ (x : Held g.row.S.Denot × List Done × List Done × Reply). Steps g.S.EawStore.tells c.args.caller (call.Control control.Settle) (core_of g.S.EawStore.opens I (V x.0.records.store) x.0)
     (core_of g.S.EawStore.opens I (V c.commit_group.new.self.store) (record { records = c.commit_group.new.self; base = i.base; seats = c.take_offered-in-Err.new.self; history = x.1; doubt = x.2 })) x.3) (λ j. (c.self.view_is j, sym history j, sym c.group.ensures j, sym told j))
     (doubt_steps g.S.EawStore.tells g.S.EawStore.opens I g.met.S.EawStore.one_data p q (laws_at g i.records.store) (laws_at g c.commit_group.new.self.store)
     (table_of i.base) i.history.items i.seats i.doubt i.base c.self.invariant alive c.args.caller

@@ -15,6 +15,7 @@ left_first bytes start kept t image is none left = ⊎_elim (λ now. now ∙ is)
 pub returns-clause-store : goal.returns-clause-store
 returns-clause-store c = record {
   shape_is = refl;
+  depth = refl;
   bytes_are = c.in_ok-from_slice.ensures.items;
   free = λ t. ap (λ (logs : List Log). outline (logged logs) t) c.in_ok-free_logs.ensures.logs ∙ ap (option_map ranges_of) (logged-replicate c.args.shape.numbers t _);
   alive = refl;

@@ -19,7 +19,7 @@ returns-in_default-clause-fault g c =
     let bytes = c.args.self.now.reader.bytes.items in
     let got = got_is c.read_u64-got.result c.deref.result.now bytes c.deref.ensures.value c.read_u64-got.ensures in
     let behind = c.in_default.ensures in
-    (refl, refl, refl, refl, (λ f. sym (sequence_said store.shape bytes f) ∙ sym got), record { other = inr (omega (arith, behind), refl) })
+    (refl, refl, refl, refl, refl, (λ f. sym (sequence_said store.shape bytes f) ∙ sym got), record { other = inr (omega (arith, behind), refl) })
 
 pub returns-in_default-clause-moments : goal.returns-in_default-clause-moments
 returns-in_default-clause-moments g c told =
@@ -33,7 +33,7 @@ returns-then-got-expected-clause-fault g c =
     let bytes = c.args.self.now.reader.bytes.items in
     let got = got_is c.read_u64-got.result c.deref.result.now bytes c.deref.ensures.value c.read_u64-got.ensures in
     let next = c.in-Some.ensures in
-    (refl, refl, refl, refl, (λ f. sym (sequence_said store.shape bytes f) ∙ sym got), record { other = inl (next.1, omega (arith, next.0, next.1), c.if-got-expected.true) })
+    (refl, refl, refl, refl, refl, (λ f. sym (sequence_said store.shape bytes f) ∙ sym got), record { other = inl (next.1, omega (arith, next.0, next.1), c.if-got-expected.true) })
 
 pub returns-then-got-expected-clause-moments : goal.returns-then-got-expected-clause-moments
 returns-then-got-expected-clause-moments g c told =

@@ -2,7 +2,8 @@ use Rattle.std.proofs.Common.{true, ℕ, ◌<◌, length, sym, subst}
 use Rattle.eaw_face.specs.Causes.{IsAlive}
 use Rattle.page_store.specs.Command as page
 use Rattle.page_store.specs.Shown.{pages_of}
-use Rattle.history.specs.declared.call.Call.TheVariants.{Commit}
+use Rattle.history.specs.declared.call.Call.TheVariants.{Control}
+use Rattle.history.specs.declared.call.Control.TheVariants.{Commit}
 use Rattle.history.specs.declared.call.Reply.TheVariants.{Committed}
 use Rattle.record_table.specs.Shown.{state_of}
 use Rattle.record_table.proofs.Ending.{ended, freed, err_same, always, commit_is, media_told}
@@ -17,7 +18,7 @@ invariant_of-self g c =
     let V = g.S.EawStore.view in
     let laws : Laws g.K.KeyIndex.index = record { rises = K.rises; given = K.given; counts = K.counts; rests = K.rests; extends = K.extends } in
     let inside = c.self.inside.pages in
-    kept_as V c.args.self.now inside c.self.view_is (ended V g.S.EawStore.tells g.S.EawStore.opens g.K.KeyIndex.index 0 c.args.tid Commit c.args.self.now inside c.self.view_is (page.end c.args.tid true) c.end.new.self c.self.invariant.0
+    kept_as V c.args.self.now inside c.self.view_is (ended V g.S.EawStore.tells g.S.EawStore.opens g.K.KeyIndex.index 0 c.args.tid (Control Commit) c.args.self.now inside c.self.view_is (page.end c.args.tid true) c.end.new.self c.self.invariant.0
     (λ alive. commit_is g.S.EawStore.tells g.K.KeyIndex.index laws (pages_of (V inside.store) inside) (c.self.invariant.0 alive) 0 c.args.tid) (Unit {0}) (λ done. Committed 0) c.end.result c.end.ensures.does
     (err_same c.end.result c.end.ensures.refused) (λ told. always c.end.result tt) c.told.result c.told.ensures) c.self.invariant.1
 
@@ -27,7 +28,7 @@ returns-clause-does g c n =
     let V = g.S.EawStore.view in
     let laws : Laws g.K.KeyIndex.index = record { rises = K.rises; given = K.given; counts = K.counts; rests = K.rests; extends = K.extends } in
     let inside = c.self.inside.pages in
-    (ended V g.S.EawStore.tells g.S.EawStore.opens g.K.KeyIndex.index 0 c.args.tid Commit c.args.self.now inside c.self.view_is (page.end c.args.tid true) c.end.new.self c.self.invariant.0
+    (ended V g.S.EawStore.tells g.S.EawStore.opens g.K.KeyIndex.index 0 c.args.tid (Control Commit) c.args.self.now inside c.self.view_is (page.end c.args.tid true) c.end.new.self c.self.invariant.0
     (λ alive. commit_is g.S.EawStore.tells g.K.KeyIndex.index laws (pages_of (V inside.store) inside) (c.self.invariant.0 alive) 0 c.args.tid) (Unit {0}) (λ done. Committed n) c.end.result c.end.ensures.does
     (err_same c.end.result c.end.ensures.refused) (λ told. always c.end.result tt) c.told.result c.told.ensures).0
 

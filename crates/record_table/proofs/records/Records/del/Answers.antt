@@ -9,7 +9,8 @@ use Rattle.page_store.specs.Index.{slots_of}
 use Rattle.record_table.specs.Names.{name_at}
 use Rattle.record_table.proofs.Rooted.{rooted_as, inside_as, called_inside}
 use Rattle.page_store.specs.Shown.{Shown, pages_of}
-use Rattle.history.specs.declared.call.Call.TheVariants.{Del}
+use Rattle.history.specs.declared.call.Call.TheVariants.{Table as OnTable}
+use Rattle.history.specs.declared.call.TableCall.TheVariants.{Del}
 use Rattle.history.specs.declared.call.Reply.{Reply}
 use Rattle.history.specs.declared.call.Reply.TheVariants as reply
 use Rattle.record_table.specs.Does.{replied}
@@ -50,7 +51,7 @@ returns-in-Ok-None-clause-does g c = λ name its.
     let root = c.of_table-root.result in
     let calls = called_inside g.S.EawStore.tells V c.args.self.now c.self.inside.pages c.self.view_is c.args.table name its in
     let roots = rooted_as g.S.EawStore.tells (pages_of (V c.self.inside.pages.store) c.self.inside.pages) c.self.inside.roots.at c.args.table c.requires.table c.self.invariant.1.1 name calls c.of_table-root.result c.of_table-root.ensures in
-    does_of V g.S.EawStore.tells g.S.EawStore.opens g.K.KeyIndex.index c.args.table c.args.tid (Del name c.args.key) c.args.self.now inside c.self.view_is (pages_of (V c.seek.new.pages.store) c.seek.new.pages) (Ok reply.Absent)
+    does_of V g.S.EawStore.tells g.S.EawStore.opens g.K.KeyIndex.index c.args.table c.args.tid (OnTable (Del name c.args.key)) c.args.self.now inside c.self.view_is (pages_of (V c.seek.new.pages.store) c.seek.new.pages) (Ok reply.Absent)
     (not_removed g.S.EawStore.tells (g.S.EawStore.opens (V inside.store).shape) g.K.KeyIndex.index c.args.table c.args.tid c.args.key name (pages_of (V inside.store) inside) (pages_of (V c.seek.new.pages.store) c.seek.new.pages) c.self.invariant.0
     c.in-Ok-None.ensures.cause c.in-Ok-None.ensures.looks (λ told. let f = rw c.in-Ok-None.field-0-is at (c.in-Ok-None.ensures.finds told name (calls told c.in-Ok-None.ensures.cause)) in f.1)).0
 
@@ -62,7 +63,7 @@ invariant_of-self-in-Err g c =
     let root = c.of_table-root.result in
     let calls = called_inside g.S.EawStore.tells V c.args.self.now c.self.inside.pages c.self.view_is c.args.table name (λ told alive. called_below (V c.args.self.now.store).state.bytes c.args.table (c.requires.there told alive)) in
     let roots = rooted_as g.S.EawStore.tells (pages_of (V c.self.inside.pages.store) c.self.inside.pages) c.self.inside.roots.at c.args.table c.requires.table c.self.invariant.1.1 name calls c.of_table-root.result c.of_table-root.ensures in
-    kept (look_refused g.S.EawStore.tells (g.S.EawStore.opens (V inside.store).shape) g.K.KeyIndex.index c.args.table c.args.tid (Del name c.args.key) (pages_of (V inside.store) inside) (pages_of (V c.seek.new.pages.store) c.seek.new.pages) c.self.invariant.0 _ c.in-Err.fault tt
+    kept (look_refused g.S.EawStore.tells (g.S.EawStore.opens (V inside.store).shape) g.K.KeyIndex.index c.args.table c.args.tid (OnTable (Del name c.args.key)) (pages_of (V inside.store) inside) (pages_of (V c.seek.new.pages.store) c.seek.new.pages) c.self.invariant.0 _ c.in-Err.fault tt
     c.in-Err.ensures.cause c.in-Err.ensures.looks (λ e. ap (λ (p : Shown g.row.S.Denot). pages_of (V p.store) p) (c.in-Err.ensures.dead e))) c.self.invariant.1
 
 pub returns-in-Err-clause-does : goal.returns-in-Err-clause-does
@@ -72,8 +73,8 @@ returns-in-Err-clause-does g c = λ name its.
     let root = c.of_table-root.result in
     let calls = called_inside g.S.EawStore.tells V c.args.self.now c.self.inside.pages c.self.view_is c.args.table name its in
     let roots = rooted_as g.S.EawStore.tells (pages_of (V c.self.inside.pages.store) c.self.inside.pages) c.self.inside.roots.at c.args.table c.requires.table c.self.invariant.1.1 name calls c.of_table-root.result c.of_table-root.ensures in
-    rw c.from.ensures (does_of V g.S.EawStore.tells g.S.EawStore.opens g.K.KeyIndex.index c.args.table c.args.tid (Del name c.args.key) c.args.self.now inside c.self.view_is (pages_of (V c.seek.new.pages.store) c.seek.new.pages) _
-    (look_refused g.S.EawStore.tells (g.S.EawStore.opens (V inside.store).shape) g.K.KeyIndex.index c.args.table c.args.tid (Del name c.args.key) (pages_of (V inside.store) inside) (pages_of (V c.seek.new.pages.store) c.seek.new.pages) c.self.invariant.0 _ c.in-Err.fault tt
+    rw c.from.ensures (does_of V g.S.EawStore.tells g.S.EawStore.opens g.K.KeyIndex.index c.args.table c.args.tid (OnTable (Del name c.args.key)) c.args.self.now inside c.self.view_is (pages_of (V c.seek.new.pages.store) c.seek.new.pages) _
+    (look_refused g.S.EawStore.tells (g.S.EawStore.opens (V inside.store).shape) g.K.KeyIndex.index c.args.table c.args.tid (OnTable (Del name c.args.key)) (pages_of (V inside.store) inside) (pages_of (V c.seek.new.pages.store) c.seek.new.pages) c.self.invariant.0 _ c.in-Err.fault tt
     c.in-Err.ensures.cause c.in-Err.ensures.looks (λ e. ap (λ (p : Shown g.row.S.Denot). pages_of (V p.store) p) (c.in-Err.ensures.dead e))).0)
 
 pub invariant_of-self-then-is_none : goal.invariant_of-self-then-is_none
@@ -94,7 +95,7 @@ returns-then-is_none-clause-does g c = λ name its.
     let root = c.of_table-root.result in
     let calls = called_inside g.S.EawStore.tells V c.args.self.now c.self.inside.pages c.self.view_is c.args.table name its in
     let roots = rooted_as g.S.EawStore.tells (pages_of (V c.self.inside.pages.store) c.self.inside.pages) c.self.inside.roots.at c.args.table c.requires.table c.self.invariant.1.1 name calls c.of_table-root.result c.of_table-root.ensures in
-    does_of V g.S.EawStore.tells g.S.EawStore.opens g.K.KeyIndex.index c.args.table c.args.tid (Del name c.args.key) c.args.self.now inside c.self.view_is (pages_of (V c.seek.new.pages.store) c.seek.new.pages) (Ok reply.Absent)
+    does_of V g.S.EawStore.tells g.S.EawStore.opens g.K.KeyIndex.index c.args.table c.args.tid (OnTable (Del name c.args.key)) c.args.self.now inside c.self.view_is (pages_of (V c.seek.new.pages.store) c.seek.new.pages) (Ok reply.Absent)
     (not_removed g.S.EawStore.tells (g.S.EawStore.opens (V inside.store).shape) g.K.KeyIndex.index c.args.table c.args.tid c.args.key name (pages_of (V inside.store) inside) (pages_of (V c.seek.new.pages.store) c.seek.new.pages) c.self.invariant.0
     c.in-Ok-Some.ensures.cause c.in-Ok-Some.ensures.looks (λ told. let f = rw c.in-Ok-Some.field-0-is at (c.in-Ok-Some.ensures.finds told name (calls told c.in-Ok-Some.ensures.cause)) in f.1 ∙ none_is c.in-Ok-Some.place.value c.if-is_none.ensures)).0
 
@@ -149,7 +150,7 @@ returns-clause-does g c = λ name its.
     let finds = λ (told : IsTrue g.S.EawStore.tells). rw c.in-Ok-Some.field-0-is at (c.in-Ok-Some.ensures.finds told name (calls told c.in-Ok-Some.ensures.cause)) in
     let does = subst (λ (s : Shape). page.Does g.S.EawStore.tells (g.S.EawStore.opens s) (write_as c.args.tid (64 * (slots_of (V mid.store).shape + c.in-Ok-Some.place.slot)) (slot_bytes (Absent c.args.table c.args.key))) (pages_of (V mid.store) mid) (pages_of (V new.store) new) c.write_as.result)
     looks.shape c.write_as.ensures.does in
-    rw (answer_is g c) (does_of V g.S.EawStore.tells g.S.EawStore.opens g.K.KeyIndex.index c.args.table c.args.tid (Del name c.args.key) c.args.self.now inside c.self.view_is (pages_of (V new.store) new) (answered reply.Fine c.write_as.result)
+    rw (answer_is g c) (does_of V g.S.EawStore.tells g.S.EawStore.opens g.K.KeyIndex.index c.args.table c.args.tid (OnTable (Del name c.args.key)) c.args.self.now inside c.self.view_is (pages_of (V new.store) new) (answered reply.Fine c.write_as.result)
     (removed g.S.EawStore.tells (g.S.EawStore.opens (V inside.store).shape) g.K.KeyIndex.index laws c.args.table c.args.tid c.args.key name (pages_of (V inside.store) inside) alive c.self.invariant.0 (λ told. calls told alive) (pages_of (V mid.store) mid) looks (pages_of (V new.store) new) c.in-Ok-Some.place.slot
     (λ told. (finds told).0) (λ told. ap is_some (finds told).1 ∙ c.if-is_none.ensures)
     (λ told. record { long = g.met.S.EawStore.long mid.store told; outlines = λ t. g.met.S.EawStore.outlines mid.store t told mid_alive; placed = λ t. g.met.S.EawStore.placed mid.store t })

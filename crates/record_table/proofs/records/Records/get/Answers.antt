@@ -7,7 +7,8 @@ use Rattle.page_store.specs.Index.{IsTable}
 use Rattle.page_store.specs.Shown.{Shown, pages_of}
 use Rattle.history.specs.Key.{of_table}
 use Rattle.history.specs.Table.{found}
-use Rattle.history.specs.declared.call.Call.TheVariants.{Get}
+use Rattle.history.specs.declared.call.Call.TheVariants.{Table as OnTable}
+use Rattle.history.specs.declared.call.TableCall.TheVariants.{Get}
 use Rattle.record_table.specs.Faults.{as_table}
 use Rattle.page_store.specs.declared.fault.PageFault.{PageFault}
 use Rattle.record_table.specs.declared.slots.Place.{Place}
@@ -33,7 +34,7 @@ invariant_of-self g c =
     let E = g.S.EawStore.opens (g.S.EawStore.view c.self.inside.pages.store).shape in
     elim c.match-seek.branch [
       | in-Ok w ↦ kept (got T E g.K.KeyIndex.index c.args.table c.args.tid c.args.key name (pages_of (V inside.store) inside) (pages_of (V new.store) new) c.self.invariant.0 w.in-Ok.ensures.cause w.in-Ok.ensures.looks w.value_at.result (λ told. found_value g.K.KeyIndex.index c.args.tid (of_table name c.args.key) (pages_of (V inside.store) inside) w.in-Ok.found (w.in-Ok.ensures.finds told name (calls told w.in-Ok.ensures.cause)) ∙ sym w.value_at.ensures)) c.self.invariant.1
-      | in-Err w ↦ kept (look_refused T E g.K.KeyIndex.index c.args.table c.args.tid (Get name c.args.key) (pages_of (V inside.store) inside) (pages_of (V new.store) new) c.self.invariant.0 _ w.in-Err.fault tt w.in-Err.ensures.cause w.in-Err.ensures.looks
+      | in-Err w ↦ kept (look_refused T E g.K.KeyIndex.index c.args.table c.args.tid (OnTable (Get name c.args.key)) (pages_of (V inside.store) inside) (pages_of (V new.store) new) c.self.invariant.0 _ w.in-Err.fault tt w.in-Err.ensures.cause w.in-Err.ensures.looks
           (λ e. ap (λ (p : Shown g.row.S.Denot). pages_of (V p.store) p) (w.in-Err.ensures.dead e))) c.self.invariant.1
     ]
 
@@ -48,10 +49,10 @@ returns-clause-does g c = λ name its.
     let T = g.S.EawStore.tells in
     let E = g.S.EawStore.opens (g.S.EawStore.view c.self.inside.pages.store).shape in
     elim c.match-seek.branch [
-      | in-Ok w ↦ rw w.result-is (does_of V T g.S.EawStore.opens g.K.KeyIndex.index c.args.table c.args.tid (Get name c.args.key) c.args.self.now inside c.self.view_is (pages_of (V new.store) new) (Ok (found w.value_at.result))
+      | in-Ok w ↦ rw w.result-is (does_of V T g.S.EawStore.opens g.K.KeyIndex.index c.args.table c.args.tid (OnTable (Get name c.args.key)) c.args.self.now inside c.self.view_is (pages_of (V new.store) new) (Ok (found w.value_at.result))
           (got T E g.K.KeyIndex.index c.args.table c.args.tid c.args.key name (pages_of (V inside.store) inside) (pages_of (V new.store) new) c.self.invariant.0 w.in-Ok.ensures.cause w.in-Ok.ensures.looks w.value_at.result (λ told. found_value g.K.KeyIndex.index c.args.tid (of_table name c.args.key) (pages_of (V inside.store) inside) w.in-Ok.found (w.in-Ok.ensures.finds told name (calls told w.in-Ok.ensures.cause)) ∙ sym w.value_at.ensures)).0)
-      | in-Err w ↦ rw (w.result-is, w.from.ensures) (does_of V T g.S.EawStore.opens g.K.KeyIndex.index c.args.table c.args.tid (Get name c.args.key) c.args.self.now inside c.self.view_is (pages_of (V new.store) new) _
-          (look_refused T E g.K.KeyIndex.index c.args.table c.args.tid (Get name c.args.key) (pages_of (V inside.store) inside) (pages_of (V new.store) new) c.self.invariant.0 _ w.in-Err.fault tt w.in-Err.ensures.cause w.in-Err.ensures.looks
+      | in-Err w ↦ rw (w.result-is, w.from.ensures) (does_of V T g.S.EawStore.opens g.K.KeyIndex.index c.args.table c.args.tid (OnTable (Get name c.args.key)) c.args.self.now inside c.self.view_is (pages_of (V new.store) new) _
+          (look_refused T E g.K.KeyIndex.index c.args.table c.args.tid (OnTable (Get name c.args.key)) (pages_of (V inside.store) inside) (pages_of (V new.store) new) c.self.invariant.0 _ w.in-Err.fault tt w.in-Err.ensures.cause w.in-Err.ensures.looks
           (λ e. ap (λ (p : Shown g.row.S.Denot). pages_of (V p.store) p) (w.in-Err.ensures.dead e))).0)
     ]
 

@@ -13,7 +13,8 @@ use Rattle.page_store.specs.Inserts.{Inserts}
 use Rattle.page_store.specs.Shown.{Shown, pages_of}
 use Rattle.page_store.specs.declared.index_fault.IndexFault.{IndexFault}
 use Rattle.page_store.specs.declared.leaf_page.Sought.{Sought}
-use Rattle.history.specs.declared.call.Call.TheVariants.{Put}
+use Rattle.history.specs.declared.call.Call.TheVariants.{Table as OnTable}
+use Rattle.history.specs.declared.call.TableCall.TheVariants.{Put}
 use Rattle.record_table.proofs.Doing.{look_refused}
 use Rattle.record_table.proofs.Ending.{does_of, err_same}
 use Rattle.record_table.proofs.Looking.{looks_as}
@@ -88,7 +89,7 @@ returns-in-Some-clause-does g c = λ name its.
     let mid_alive = (looks.same refl).still.dead ∙ alive in
     let does = subst (λ (s : Shape). page.Does g.S.EawStore.tells (g.S.EawStore.opens s) (write_as c.args.tid (64 * (slots_of (V mid.store).shape + c.in-Some.slot)) (slot_bytes (Present c.args.table c.args.key c.args.value))) (pages_of (V mid.store) mid) (pages_of (V new.store) new) c.write_as.result)
     looks.shape c.write_as.ensures.does in
-    rw (c.told.ensures, told_is_answered) (does_of V T E I c.args.table t (Put name key c.args.value) c.args.self.now inside c.self.view_is v2 _
+    rw (c.told.ensures, told_is_answered) (does_of V T E I c.args.table t (OnTable (Put name key c.args.value)) c.args.self.now inside c.self.view_is v2 _
     (put_known T (E v0.store.shape) I laws c.args.table root t key name c.args.value v0 alive c.self.invariant.0 (λ told. calls told alive) there v1 looks v2 c.in-Some.slot (λ told. found_in g.K.KeyIndex.index laws (V inside.store).state.bytes c.args.table root c.args.key name ((c.self.invariant.0 alive).tied told).sound (calls told alive) (there told) ∙ sym (c.in-Ok.ensures.found told) ∙ sym c.slot_of.ensures ∙ c.in-Some.is)
     (λ told. record { long = g.met.S.EawStore.long mid.store told; outlines = λ t. g.met.S.EawStore.outlines mid.store t told mid_alive; placed = λ t. g.met.S.EawStore.placed mid.store t })
     (c.write_as.ensures.ordered mid_alive) (c.write_as.ensures.reads_back mid_alive) (c.write_as.ensures.whole mid_alive) c.write_as.result does
@@ -158,7 +159,7 @@ returns-in-Ok-insert-clause-does g c = λ name its.
     let far_alive = (inserts.kept refl).dead ∙ mid_alive in
     let does = subst (λ (s : Shape). page.Does g.S.EawStore.tells (g.S.EawStore.opens s) (write_as c.args.tid (64 * (slots_of (V far.store).shape + c.in-Ok-insert.slot)) (slot_bytes (Present c.args.table c.args.key c.args.value))) (pages_of (V far.store) far) (pages_of (V new.store) new) c.write_as-in-Ok-insert.result)
     (inserts.shape ∙ looks.shape) c.write_as-in-Ok-insert.ensures.does in
-    rw (c.told-in-Ok-insert.ensures, told_is_answered) (does_of V T E I c.args.table t (Put name key c.args.value) c.args.self.now inside c.self.view_is v3 _
+    rw (c.told-in-Ok-insert.ensures, told_is_answered) (does_of V T E I c.args.table t (OnTable (Put name key c.args.value)) c.args.self.now inside c.self.view_is v3 _
     (put_new T (E v0.store.shape) I laws c.args.table root t key name c.args.value v0 alive c.self.invariant.0 (λ told. calls told alive) there v1 looks (λ told. sym (c.in-Ok.ensures.found told) ∙ sym c.slot_of.ensures ∙ c.in_default.is) v2
     (slot_said-slot_bytes (Absent c.args.table c.args.key) (omega (arith, c.requires.table))) c.in-Ok-insert.slot inserts v3 (λ told. record { long = g.met.S.EawStore.long far.store told; outlines = λ t. g.met.S.EawStore.outlines far.store t told far_alive; placed = λ t. g.met.S.EawStore.placed far.store t })
     (c.write_as-in-Ok-insert.ensures.ordered far_alive) (c.write_as-in-Ok-insert.ensures.reads_back far_alive) (c.write_as-in-Ok-insert.ensures.whole far_alive) c.write_as-in-Ok-insert.result does
@@ -214,7 +215,7 @@ returns-in-Err-insert-clause-does g c = λ name its.
     let there = λ (told : IsTrue g.S.EawStore.tells). roots told alive in
     let looks = looks_as T (E v0.store.shape) t false v0 v1 c.in-Ok.ensures.looks in
     let inserts = subst (λ (s : Shape). (let r : Result ℕ IndexFault = Err c.in-Err-insert.fault in Inserts g.S.EawStore.tells (g.S.EawStore.opens s) g.K.KeyIndex.index c.args.tid c.of_table-root.result c.args.table c.args.key (pages_of (V mid.store) mid) (pages_of (V far.store) far) r)) looks.shape c.in-Err-insert.ensures.inserts in
-    rw c.from-in-Err-insert.ensures (does_of V T E I c.args.table t (Put name key c.args.value) c.args.self.now inside c.self.view_is v2 _
+    rw c.from-in-Err-insert.ensures (does_of V T E I c.args.table t (OnTable (Put name key c.args.value)) c.args.self.now inside c.self.view_is v2 _
     (put_refused T (E v0.store.shape) I laws c.args.table root t key name c.args.value v0 alive c.self.invariant.0 (λ told. calls told alive) there v1 looks (λ told. sym (c.in-Ok.ensures.found told) ∙ sym c.slot_of.ensures ∙ c.in_default.is) v2
     (slot_said-slot_bytes (Absent c.args.table c.args.key) (omega (arith, c.requires.table))) c.in-Err-insert.fault inserts).0)
 
@@ -236,7 +237,7 @@ invariant_of-self g c =
     let v1 = pages_of (V mid.store) mid in
     let t = c.args.tid in
     let key = c.args.key in
-    kept (look_refused T (E v0.store.shape) I c.args.table t (Put name key c.args.value) v0 v1 c.self.invariant.0 _ c.in-Err.fault tt c.in-Err.ensures.cause (looks_as T (E v0.store.shape) t _ v0 v1 c.in-Err.ensures.looks)
+    kept (look_refused T (E v0.store.shape) I c.args.table t (OnTable (Put name key c.args.value)) v0 v1 c.self.invariant.0 _ c.in-Err.fault tt c.in-Err.ensures.cause (looks_as T (E v0.store.shape) t _ v0 v1 c.in-Err.ensures.looks)
     (λ e. ap (λ (p : Shown g.row.S.Denot). pages_of (V p.store) p) (c.in-Err.ensures.dead e))) c.self.invariant.1
 
 pub returns-in-Err-clause-does : goal.returns-in-Err-clause-does
@@ -256,8 +257,8 @@ returns-in-Err-clause-does g c = λ name its.
     let v1 = pages_of (V mid.store) mid in
     let t = c.args.tid in
     let key = c.args.key in
-    rw c.from.ensures (does_of V T E I c.args.table t (Put name key c.args.value) c.args.self.now inside c.self.view_is v1 _
-    (look_refused T (E v0.store.shape) I c.args.table t (Put name key c.args.value) v0 v1 c.self.invariant.0 _ c.in-Err.fault tt c.in-Err.ensures.cause (looks_as T (E v0.store.shape) t _ v0 v1 c.in-Err.ensures.looks)
+    rw c.from.ensures (does_of V T E I c.args.table t (OnTable (Put name key c.args.value)) c.args.self.now inside c.self.view_is v1 _
+    (look_refused T (E v0.store.shape) I c.args.table t (OnTable (Put name key c.args.value)) v0 v1 c.self.invariant.0 _ c.in-Err.fault tt c.in-Err.ensures.cause (looks_as T (E v0.store.shape) t _ v0 v1 c.in-Err.ensures.looks)
     (λ e. ap (λ (p : Shown g.row.S.Denot). pages_of (V p.store) p) (c.in-Err.ensures.dead e))).0)
 
 pub find_place-requires-clause-named : goal.find_place-requires-clause-named

@@ -11,7 +11,8 @@ use Rattle.record_table.specs.Names.{name_at}
 use Rattle.record_table.proofs.Sharing.{called_below}
 use Rattle.record_table.proofs.Rooted.{rooted_as, inside_as, called_inside}
 use Rattle.page_store.specs.Shown.{pages_of}
-use Rattle.history.specs.declared.call.Call.TheVariants.{Scan}
+use Rattle.history.specs.declared.call.Call.TheVariants.{Table as OnTable}
+use Rattle.history.specs.declared.call.TableCall.TheVariants.{Scan}
 use Rattle.record_table.proofs.Doing.{scanned_as, scanned}
 use Rattle.record_table.proofs.Ending.{does_of}
 use Rattle.record_table.proofs.records.Records.scan.Given.{Over}
@@ -46,7 +47,7 @@ returns-clause-does g c = λ name its.
     let root = c.of_table-root.result in
     let calls = called_inside g.S.EawStore.tells V c.args.self.now c.self.inside.pages c.self.view_is c.args.table name its in
     let roots = rooted_as g.S.EawStore.tells (pages_of (V c.self.inside.pages.store) c.self.inside.pages) c.self.inside.roots.at c.args.table c.requires.table c.self.invariant.1.1 name calls c.of_table-root.result c.of_table-root.ensures in
-    rw (answer_is g c) (does_of V g.S.EawStore.tells g.S.EawStore.opens g.K.KeyIndex.index c.args.table c.args.tid (Scan name c.args.low c.args.high) c.args.self.now inside c.self.view_is (pages_of (V c.gather.new.pages.store) c.gather.new.pages) _
+    rw (answer_is g c) (does_of V g.S.EawStore.tells g.S.EawStore.opens g.K.KeyIndex.index c.args.table c.args.tid (OnTable (Scan name c.args.low c.args.high)) c.args.self.now inside c.self.view_is (pages_of (V c.gather.new.pages.store) c.gather.new.pages) _
     (scanned g.S.EawStore.tells (g.S.EawStore.opens (V inside.store).shape) g.K.KeyIndex.index c.args.table c.args.tid c.args.low c.args.high name (pages_of (V inside.store) inside) (pages_of (V c.gather.new.pages.store) c.gather.new.pages) c.self.invariant.0
     (sym c.is_dead.ensures.dead ∙ c.if-is_dead.false) c.gather.new.rows c.gather.result c.gather.ensures.looks c.gather.ensures.cause (λ told. c.gather.ensures.rows told name (calls told (sym c.is_dead.ensures.dead ∙ c.if-is_dead.false)))).0)
 
@@ -67,7 +68,7 @@ returns-then-is_dead-clause-does g c = λ name its.
     let V = g.S.EawStore.view in
     let now = c.args.self.now in
     let v = pages_of (V now.store) now in
-    does_dead g.S.EawStore.tells (g.S.EawStore.opens (V now.store).shape) g.K.KeyIndex.index c.args.table c.args.tid (Scan name c.args.low c.args.high) v v refl
+    does_dead g.S.EawStore.tells (g.S.EawStore.opens (V now.store).shape) g.K.KeyIndex.index c.args.table c.args.tid (OnTable (Scan name c.args.low c.args.high)) v v refl
     (subst (λ (p : Shown g.row.S.Denot). (V p.store).is_dead ≡ true) c.self.view_is (sym c.is_dead.ensures.dead ∙ c.if-is_dead.true))
 
 pub returns-then-is_dead-clause-looks : goal.returns-then-is_dead-clause-looks

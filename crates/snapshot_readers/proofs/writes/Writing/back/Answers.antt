@@ -1,7 +1,7 @@
 use Rattle.std.proofs.Common.{sym, subst, take, List, ℕ}
 use Rattle.history.specs.Table.{after}
 use Rattle.history.specs.Writes.{Write}
-use Rattle.history.specs.declared.call.Call.TheVariants.{Back}
+use Rattle.history.specs.declared.call.TableCall.TheVariants.{Back}
 use Rattle.snapshot_readers.specs.Writing.{Writes}
 use Rattle.snapshot_readers.proofs.Writings.{back_more}
 use Rattle.snapshot_readers.proofs.writes.Writing.back.Goals as goal

@@ -16,8 +16,9 @@ pub returns-in-Ok-new-clause-opened : goal.returns-in-Ok-new-clause-opened
 returns-in-Ok-new-clause-opened c =
     let made = c.new-3.result in
     rw c.in-Ok-new.ensures.ok (record {
-      begins = subst (λ (tape : Tape). BeginsOn tree (view_of tape) (core_in made)) c.in-Ok.ensures (rw c.new-3.ensures.core (c.in-Ok-open.ensures.array refl));
+      begins = subst (λ (tape : Tape). BeginsOn tree c.args.depth (view_of tape) (core_in made)) c.in-Ok.ensures (rw c.new-3.ensures.core (c.in-Ok-open.ensures.array refl));
       keeps = subst (λ (tape : Tape). KeepsRecords true (view_of tape) (core_in made).moment (core_in made).left_since) c.in-Ok.ensures (rw c.new-3.ensures.core c.in-Ok-open.ensures.time);
       callers = c.new-3.ensures.callers;
+      depth = rw c.new-3.ensures.core c.in-Ok-open.ensures.depth;
       rows = search (rules, c.new-3.ensures.rows, c.new-2.ensures);
     })
