@@ -1,3 +1,4 @@
+mod InTurn
 pub mod Shapes
 pub mod OneAsked
 mod AskedLemmas

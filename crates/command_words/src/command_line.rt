@@ -11,19 +11,22 @@ use std::alloc::{AllocError, Global};
 pub fn command_line<'a>(alloc: Global) -> Result<Command<'a>, AllocError>
     ensures { IfOk result (λ command. app_of command ≡ command_line) }
 {
-    let commands = vec![
-        in alloc;
-        run_command(alloc)?,
-        eaw_command(alloc)?,
-        Command::new(alloc, "dump"),
-        format_command(alloc)?,
-        drill_command(alloc)?,
-        callers_command(alloc)?,
-        make_command(alloc)?,
-        Command::new(alloc, "purge"),
-        Command::new(alloc, "follow"),
-    ]?;
-    no_commands(alloc).subcommands(commands)
+    let commands = [
+        run_command(alloc),
+        eaw_command(alloc),
+        Ok(Command::new(alloc, "dump")),
+        format_command(alloc),
+        drill_command(alloc),
+        callers_command(alloc),
+        make_command(alloc),
+        Ok(Command::new(alloc, "purge")),
+        Ok(Command::new(alloc, "follow")),
+    ];
+    let mut line = no_commands(alloc);
+    for command in commands {
+        line = line.subcommand(command?)?;
+    }
+    Ok(line)
 }
 
 fn no_commands<'a>(alloc: Global) -> Command<'a>
@@ -55,8 +58,7 @@ fn format_command<'a>(alloc: Global) -> Result<Command<'a>, AllocError>
     ensures shape { IfOk result (λ command. shape_of command ≡ subcommand (codes "format") (map option_of (codes "loggers" ∷ codes "numbers" ∷ codes "entries" ∷ codes "pages" ∷ []))) }
     ensures local { IfOk result (λ command. (out-Command command).has_globals ≡ false) }
 {
-    let options = vec![
-        in alloc;
+    let options = vec![in alloc;
         option(alloc, "loggers"),
         option(alloc, "numbers"),
         option(alloc, "entries"),
@@ -69,8 +71,7 @@ fn drill_command<'a>(alloc: Global) -> Result<Command<'a>, AllocError>
     ensures shape { IfOk result (λ command. shape_of command ≡ subcommand (codes "drill") (new_rule (codes "seed") ∷ new_rule (codes "count") ∷ option_of (codes "late") ∷ [])) }
     ensures local { IfOk result (λ command. (out-Command command).has_globals ≡ false) }
 {
-    let words = vec![
-        in alloc;
+    let words = vec![in alloc;
         Arg::new(alloc, "seed"),
         Arg::new(alloc, "count"),
         option(alloc, "late"),
@@ -82,8 +83,7 @@ fn callers_command<'a>(alloc: Global) -> Result<Command<'a>, AllocError>
     ensures shape { IfOk result (λ command. shape_of command ≡ subcommand (codes "callers") (new_rule (codes "callers") ∷ option_of (codes "tries") ∷ option_of (codes "late") ∷ option_of (codes "readers") ∷ [])) }
     ensures local { IfOk result (λ command. (out-Command command).has_globals ≡ false) }
 {
-    let words = vec![
-        in alloc;
+    let words = vec![in alloc;
         Arg::new(alloc, "callers"),
         option(alloc, "tries"),
         option(alloc, "late"),

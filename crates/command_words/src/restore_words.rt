@@ -57,8 +57,7 @@ pub fn read_restore_words<'a>(
 fn restore_line<'a>(alloc: Global) -> Result<Command<'a>, AllocError>
     ensures { IfOk result (λ command. app_of command ≡ restore_line) }
 {
-    let words = vec![
-        in alloc;
+    let words = vec![in alloc;
         Arg::new(alloc, "image"),
         option(alloc, "loggers"),
         option(alloc, "numbers"),

@@ -1,26 +1,64 @@
-use Rattle.std.proofs.Common.{rules, ◌≡◌, ◌∙◌, ap, ap₂, codes}
-use Rattle.std.proofs.lemmas.Result.{IfOk-weaker}
-use Rattle.clap.specs.Words.{App, app_of, new_app, with_subcommand}
-use Rattle.command_words.specs.CommandLine.{no_commands}
-use Rattle.command_words.proofs.Shapes.{run_shape, eaw_shape, format_shape, drill_shape, callers_shape, make_shape}
+use Rattle.std.proofs.Common.{◌≡◌, [], ◌∷◌, Ok, refl, sym, ap, subst}
+use Rattle.std.proofs.lemmas.List.{nil_from_length}
+use Rattle.std.specs.Array.Iter.{array_into_iter_items}
+use Rattle.clap.specs.Words.{App, app_of}
+use Rattle.command_words.specs.CommandLine.{command_line, no_commands}
+use Rattle.command_words.proofs.InTurn.{IsWholeWith, AreCommands, all_commands}
 use Rattle.command_words.proofs.command_line.command_line.Goals as goal
 
+same_top : {app other : App} → app ≡ other → app.top ≡ other.top
+same_top is = ap (λ (app : App). app.top) is
+
+pub loop-command-init : goal.loop-command-init
+loop-command-init c =
+    let commands =
+    c.run_command.result ∷ c.eaw_command.result ∷ Ok c.new.result ∷ c.format_command.result ∷ c.drill_command.result ∷ c.callers_command.result ∷ c.make_command.result ∷ Ok c.new-2.result ∷ Ok c.new-3.result ∷ [] in
+    let are : AreCommands commands command_line.subs = (
+      c.run_command.ensures.shape,
+      c.run_command.ensures.local,
+      (
+        c.eaw_command.ensures.shape,
+        c.eaw_command.ensures.local,
+        (
+          same_top c.new.ensures.app,
+          c.new.ensures.local,
+          (
+            c.format_command.ensures.shape,
+            c.format_command.ensures.local,
+            (
+              c.drill_command.ensures.shape,
+              c.drill_command.ensures.local,
+              (
+                c.callers_command.ensures.shape,
+                c.callers_command.ensures.local,
+                (
+                  c.make_command.ensures.shape,
+                  c.make_command.ensures.local,
+                  (
+                    same_top c.new-2.ensures.app,
+                    c.new-2.ensures.local,
+                    (
+                      same_top c.new-3.ensures.app,
+                      c.new-3.ensures.local,
+                      tt,
+                    ),
+                  ),
+                ),
+              ),
+            ),
+          ),
+        ),
+      ),
+    ) in
+    rw (c.into_iter-command-iterator.ensures.into_iter_gives.0, c.no_commands-line.ensures) (all_commands command_line no_commands commands command_line.subs are refl)
+
+pub loop-command-preserved : goal.loop-command-preserved
+loop-command-preserved c =
+    let left = array_into_iter_items c.next.new.self in
+    let line = app_of c.loop-command.line in
+    let next = subst (λ commands. IsWholeWith command_line commands line) c.in-Some.ensures.steps c.loop-command.invariant in
+    let found : IsWholeWith command_line (Ok c.in_ok-command.field-0 ∷ left) line = subst (λ command. IsWholeWith command_line (command ∷ left) line) c.in_ok-command.was next in
+    subst (IsWholeWith command_line left) (sym (c.in_ok-line.ensures.shape found.0)) found.1
+
 pub returns : goal.returns
-returns c =
-    let run : app_of c.in_ok-subcommand.field-0 ≡ with_subcommand no_commands run_shape =
-    c.in_ok-subcommand.ensures.shape c.in_ok-run_command.ensures.local ∙ ap₂ with_subcommand c.no_commands.ensures c.in_ok-run_command.ensures.shape in
-    let eaw : app_of c.in_ok-subcommand-2.field-0 ≡ with_subcommand (with_subcommand no_commands run_shape) eaw_shape =
-    c.in_ok-subcommand-2.ensures.shape c.in_ok-eaw_command.ensures.local ∙ ap₂ with_subcommand run c.in_ok-eaw_command.ensures.shape in
-    let dump : app_of c.in_ok-subcommand-3.field-0 ≡ with_subcommand (with_subcommand (with_subcommand no_commands run_shape) eaw_shape) (new_app (codes "dump")).top =
-    c.in_ok-subcommand-3.ensures.shape (search rules) ∙ ap₂ with_subcommand eaw (ap (λ (a : App). a.top) c.new.ensures.app) in
-    let format : app_of c.in_ok-subcommand-4.field-0 ≡ with_subcommand (with_subcommand (with_subcommand (with_subcommand no_commands run_shape) eaw_shape) (new_app (codes "dump")).top) format_shape =
-    c.in_ok-subcommand-4.ensures.shape c.in_ok-format_command.ensures.local ∙ ap₂ with_subcommand dump c.in_ok-format_command.ensures.shape in
-    let drill : app_of c.in_ok-subcommand-5.field-0 ≡ with_subcommand (with_subcommand (with_subcommand (with_subcommand (with_subcommand no_commands run_shape) eaw_shape) (new_app (codes "dump")).top) format_shape) drill_shape =
-    c.in_ok-subcommand-5.ensures.shape c.in_ok-drill_command.ensures.local ∙ ap₂ with_subcommand format c.in_ok-drill_command.ensures.shape in
-    let callers : app_of c.in_ok-subcommand-6.field-0 ≡ with_subcommand (with_subcommand (with_subcommand (with_subcommand (with_subcommand (with_subcommand no_commands run_shape) eaw_shape) (new_app (codes "dump")).top) format_shape) drill_shape) callers_shape =
-    c.in_ok-subcommand-6.ensures.shape c.in_ok-callers_command.ensures.local ∙ ap₂ with_subcommand drill c.in_ok-callers_command.ensures.shape in
-    let make : app_of c.in_ok-subcommand-7.field-0 ≡ with_subcommand (with_subcommand (with_subcommand (with_subcommand (with_subcommand (with_subcommand (with_subcommand no_commands run_shape) eaw_shape) (new_app (codes "dump")).top) format_shape) drill_shape) callers_shape) make_shape =
-    c.in_ok-subcommand-7.ensures.shape c.in_ok-make_command.ensures.local ∙ ap₂ with_subcommand callers c.in_ok-make_command.ensures.shape in
-    let purge : app_of c.in_ok-subcommand-8.field-0 ≡ with_subcommand (with_subcommand (with_subcommand (with_subcommand (with_subcommand (with_subcommand (with_subcommand (with_subcommand no_commands run_shape) eaw_shape) (new_app (codes "dump")).top) format_shape) drill_shape) callers_shape) make_shape) (new_app (codes "purge")).top =
-    c.in_ok-subcommand-8.ensures.shape (search rules) ∙ ap₂ with_subcommand make (ap (λ (a : App). a.top) c.new-2.ensures.app) in
-    IfOk-weaker c.subcommand-9.result _ _ (λ command adds. adds.shape (search rules) ∙ ap₂ with_subcommand purge (ap (λ (a : App). a.top) c.new-3.ensures.app)) c.subcommand-9.ensures
+returns c = subst (λ commands. IsWholeWith command_line commands (app_of c.loop-command.line)) (nil_from_length _ c.in-None.ensures.steps.0) c.loop-command.invariant

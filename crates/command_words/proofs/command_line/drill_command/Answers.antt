@@ -1,18 +1,15 @@
-use Rattle.std.proofs.Common.{◌≡◌, ◌∙◌, ◌||◌, ap, ap₂, false, codes}
+use Rattle.std.proofs.Common.{◌∙◌, ap, [], ◌∷◌, codes}
 use Rattle.std.proofs.lemmas.Result.{IfOk-weaker}
-use Rattle.clap.specs.Words.{App, app_of, new_app, new_rule, with_rule}
-use Rattle.clap.specs.declared.builder.Command.TheViews.{out-Command}
+use Rattle.clap.specs.Words.{App, new_rule}
+use Rattle.command_words.specs.CommandLine.{option_of}
+use Rattle.command_words.proofs.InTurn.{added, with_rules}
 use Rattle.command_words.proofs.command_line.drill_command.Goals as goal
 
 pub returns : goal.returns
 returns c =
-    let one : app_of c.in_ok-arg.field-0 ≡ with_rule (new_app (codes "drill")) (new_rule (codes "seed")) =
-    c.in_ok-arg.ensures.shape c.new-2.ensures.optional.1 ∙ ap₂ with_rule c.new.ensures.app c.new-2.ensures.rule in
-    let two : app_of c.in_ok-arg-2.field-0 ≡ with_rule (with_rule (new_app (codes "drill")) (new_rule (codes "seed"))) (new_rule (codes "count")) =
-    c.in_ok-arg-2.ensures.shape c.new-3.ensures.optional.1 ∙ ap₂ with_rule one c.new-3.ensures.rule in
-    let local_one : (out-Command c.in_ok-arg.field-0).has_globals ≡ false = c.in_ok-arg.ensures.globals ∙ ap₂ (λ a b. a || b) c.new.ensures.local c.new-2.ensures.optional.1 in
-    let local_two : (out-Command c.in_ok-arg-2.field-0).has_globals ≡ false = c.in_ok-arg-2.ensures.globals ∙ ap₂ (λ a b. a || b) local_one c.new-3.ensures.optional.1 in
+    let rules = new_rule (codes "seed") ∷ new_rule (codes "count") ∷ option_of (codes "late") ∷ [] in
+    let all = IfOk-weaker c.args-2.result _ _ (λ command adds. added c.new-3.result command (c.new.result ∷ c.new-2.result ∷ c.option.result ∷ []) rules (c.new.ensures.rule, c.new.ensures.optional.1, (c.new-2.ensures.rule, c.new-2.ensures.optional.1, (c.option.ensures.rule, c.option.ensures.local, tt))) c.new-3.ensures.local (rw c.in_ok-words.ensures.items at adds)) c.args-2.ensures in
     record {
-      shape = IfOk-weaker c.arg-3.result _ _ (λ command adds. ap (λ (a : App). a.top) (adds.shape c.option.ensures.local ∙ ap₂ with_rule two c.option.ensures.rule)) c.arg-3.ensures;
-      local = IfOk-weaker c.arg-3.result _ _ (λ command adds. adds.globals ∙ ap₂ (λ a b. a || b) local_two c.option.ensures.local) c.arg-3.ensures;
+      shape = IfOk-weaker c.args-2.result _ _ (λ command is. ap (λ (a : App). a.top) (is.0 ∙ ap (λ (a : App). with_rules a rules) c.new-3.ensures.app)) all;
+      local = IfOk-weaker c.args-2.result _ _ (λ command is. is.1) all;
     }

@@ -1,22 +1,15 @@
-use Rattle.std.proofs.Common.{◌≡◌, ◌∙◌, ◌||◌, ap, ap₂, false, codes}
+use Rattle.std.proofs.Common.{◌∙◌, ap, [], ◌∷◌, codes, map}
 use Rattle.std.proofs.lemmas.Result.{IfOk-weaker}
-use Rattle.clap.specs.Words.{App, app_of, new_app, with_rule}
-use Rattle.clap.specs.declared.builder.Command.TheViews.{out-Command}
+use Rattle.clap.specs.Words.{App}
 use Rattle.command_words.specs.CommandLine.{option_of}
+use Rattle.command_words.proofs.InTurn.{added, with_rules}
 use Rattle.command_words.proofs.command_line.format_command.Goals as goal
 
 pub returns : goal.returns
 returns c =
-    let one : app_of c.in_ok-arg.field-0 ≡ with_rule (new_app (codes "format")) (option_of (codes "loggers")) =
-    c.in_ok-arg.ensures.shape c.option.ensures.local ∙ ap₂ with_rule c.new.ensures.app c.option.ensures.rule in
-    let two : app_of c.in_ok-arg-2.field-0 ≡ with_rule (with_rule (new_app (codes "format")) (option_of (codes "loggers"))) (option_of (codes "numbers")) =
-    c.in_ok-arg-2.ensures.shape c.option-2.ensures.local ∙ ap₂ with_rule one c.option-2.ensures.rule in
-    let three : app_of c.in_ok-arg-3.field-0 ≡ with_rule (with_rule (with_rule (new_app (codes "format")) (option_of (codes "loggers"))) (option_of (codes "numbers"))) (option_of (codes "entries")) =
-    c.in_ok-arg-3.ensures.shape c.option-3.ensures.local ∙ ap₂ with_rule two c.option-3.ensures.rule in
-    let local_one : (out-Command c.in_ok-arg.field-0).has_globals ≡ false = c.in_ok-arg.ensures.globals ∙ ap₂ (λ a b. a || b) c.new.ensures.local c.option.ensures.local in
-    let local_two : (out-Command c.in_ok-arg-2.field-0).has_globals ≡ false = c.in_ok-arg-2.ensures.globals ∙ ap₂ (λ a b. a || b) local_one c.option-2.ensures.local in
-    let local_three : (out-Command c.in_ok-arg-3.field-0).has_globals ≡ false = c.in_ok-arg-3.ensures.globals ∙ ap₂ (λ a b. a || b) local_two c.option-3.ensures.local in
+    let rules = map option_of (codes "loggers" ∷ codes "numbers" ∷ codes "entries" ∷ codes "pages" ∷ []) in
+    let all = IfOk-weaker c.args-2.result _ _ (λ command adds. added c.new.result command (c.option.result ∷ c.option-2.result ∷ c.option-3.result ∷ c.option-4.result ∷ []) rules (c.option.ensures.rule, c.option.ensures.local, (c.option-2.ensures.rule, c.option-2.ensures.local, (c.option-3.ensures.rule, c.option-3.ensures.local, (c.option-4.ensures.rule, c.option-4.ensures.local, tt)))) c.new.ensures.local (rw c.in_ok-options.ensures.items at adds)) c.args-2.ensures in
     record {
-      shape = IfOk-weaker c.arg-4.result _ _ (λ command adds. ap (λ (a : App). a.top) (adds.shape c.option-4.ensures.local ∙ ap₂ with_rule three c.option-4.ensures.rule)) c.arg-4.ensures;
-      local = IfOk-weaker c.arg-4.result _ _ (λ command adds. adds.globals ∙ ap₂ (λ a b. a || b) local_three c.option-4.ensures.local) c.arg-4.ensures;
+      shape = IfOk-weaker c.args-2.result _ _ (λ command is. ap (λ (a : App). a.top) (is.0 ∙ ap (λ (a : App). with_rules a rules) c.new.ensures.app)) all;
+      local = IfOk-weaker c.args-2.result _ _ (λ command is. is.1) all;
     }

@@ -1,5 +1,5 @@
 use Rattle.std.proofs.Common.{codes, sym, ◌∙◌}
-use Rattle.clap.specs.Words.{found_of, rows_of}
+use Rattle.clap.specs.Words.{found_of}
 use Rattle.clap.proofs.WalkLemmas.{first_value-rows}
 use Rattle.command_words.proofs.AskedLemmas.{some_is_none}
 use Rattle.command_words.proofs.restore_words.asked.Goals as goal
