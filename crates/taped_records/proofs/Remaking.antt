@@ -27,7 +27,7 @@ use Rattle.caller_steps.specs.Room.{Limits}
 use Rattle.caller_steps.specs.Core.{CoreView}
 use Rattle.caller_steps.specs.State.{State, Index as KeysIndex, records_of}
 use Rattle.mars_core.specs.Making.{MakesTable, OpensAsNamed, OpensWithName}
-use Rattle.mars_core.specs.Over.{IsOver}
+use Rattle.mars_core.specs.Over.{IsOver, limits_of}
 use Rattle.mars_core.specs.declared.fault.CoreFault.{CoreFault}
 use Rattle.open_records.specs.Opens.{Begins, OfData, KeepsRecords, OpensAsLeft}
 use Rattle.taped_records.specs.declared.making.Unmade.{Unmade}
@@ -68,16 +68,16 @@ pub made_of : (P : Result ℕ MakeFault → Type 0) (told : Result (Result ℕ M
 made_of P told made holds is = subst (λ (o : Result (Result ℕ MakeFault) CoreFault). IfOk o P) is holds
 
 -- a core is put down
-pub is_down : (store : StoreView) (core : CoreView) (media : View) (defers : Bool) → IsOver true (Opens store.shape) tree store core → store.is_dead ≡ false → IsBehind true defers store media
-    → ((image : List ℕ) → MayLeave media.content image → Opens store.shape image store.state.bytes) → IsPutDown store.shape store.depth core media
-is_down store core media defers over alive behind opens = record {
+pub is_down : (store : StoreView) (depth : ℕ) (core : CoreView) (media : View) (defers : Bool) → depth ≡ store.depth → IsOver true (Opens store.shape) tree store core → store.is_dead ≡ false → IsBehind true defers store media
+    → ((image : List ℕ) → MayLeave media.content image → Opens store.shape image store.state.bytes) → IsPutDown store.shape depth core media
+is_down store depth core media defers told over alive behind opens = record {
   bytes = store.state.bytes;
   opens = opens;
   sound = over.sound refl alive;
   named = over.names refl alive;
   shows = over.table refl alive;
   pages = ap (λ (i : KeysIndex). i.next_page) (over.keys refl);
-  limits = over.limits;
+  limits = over.limits ∙ ap (limits_of tree store.shape) (sym told);
   moment = behind.moment ∙ sym over.moment;
   left = λ t image left. (over.left t image).0 (behind.left t image left);
 }

@@ -4,7 +4,6 @@ use Rattle.tape_media.specs.Tape.{LeftSince, view_of, counts_now, only_now}
 use Rattle.eaw_device.specs.Laws as device
 use Rattle.eaw_device.specs.Opens.{Opens}
 use Rattle.eaw_device.specs.Sound as store
-use Rattle.taped_records.specs.Remaking.{IsPutDown}
 use Rattle.taped_records.proofs.Remaking.{is_down}
 use Rattle.taped_records.proofs.making.put_down.Goals as goal
 
@@ -18,5 +17,4 @@ returns-clause-down c =
     let opens : (image : List ℕ) → MayLeave (view_of media).content image → Opens s.shape image view.state.bytes =
     λ image left. device.only_now true (view_of s.media) s.shape s.logs.items s.late s.is_dead image s.sound refl alive
     (only_now s.media image (subst (λ (t : ℕ). LeftSince s.media t image) behind.moment (behind.left media.moment image (counts_now media media.moment image left)))) in
-    let down = subst (λ (depth : ℕ). IsPutDown s.shape depth _ (view_of media)) (sym c.depth-depth.ensures.depth) (is_down view _ (view_of media) _ c.into_store-store.ensures.over alive behind opens) in
-    rw (← c.into_core.ensures) (rw (← c.into_store-store.ensures.store) down)
+    rw (← c.into_core.ensures) (rw (← c.into_store-store.ensures.store) (is_down view c.depth-depth.result _ (view_of media) _ c.depth-depth.ensures.depth c.into_store-store.ensures.over alive behind opens))
