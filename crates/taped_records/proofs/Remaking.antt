@@ -1,5 +1,5 @@
 -- An array whose records begin anew, with one table more or without.
-use Rattle.std.proofs.Common.{◌≡◌, ℕ, ◌≤◌, ◌⊎◌, inl, inr, ⊎_elim, ◌++◌, ◌∷◌, [], List, length, Bool, true, false, Result, Ok, Err, refl, sym, ◌∙◌, ap, subst, arith}
+use Rattle.std.proofs.Common.{◌≡◌, ℕ, inl, inr, ⊎_elim, ◌++◌, ◌∷◌, [], List, length, Bool, true, false, Result, Ok, Err, refl, sym, ◌∙◌, ap, subst, arith}
 use Rattle.std.specs.Prelude.{Option, Some, None, IfOk}
 use Rattle.pcm_media.specs.Images.{MayLeave}
 use Rattle.pcm_media.specs.View.{View}
@@ -11,7 +11,7 @@ use Rattle.eaw_device.specs.Opens.{Opens, AllOpen, OpensLike, FindsData, KeepsDa
 use Rattle.page_store.specs.Index.{Index, index_pages_of}
 use Rattle.record_slots.specs.Places.{next_page, tables_of}
 use Rattle.history.specs.Key.{of_table}
-use Rattle.history.specs.Writes.{Table, rows_of}
+use Rattle.history.specs.Writes.{rows_of}
 use Rattle.history.proofs.Keyed.{rows_of-found}
 use Rattle.record_table.specs.Does.{OpensNamed}
 use Rattle.record_table.specs.Names.{names_of, IsNew}

@@ -1,4 +1,4 @@
-use Rattle.std.proofs.Common.{ℕ, List, true, refl, sym, ◌∙◌, subst, arith}
+use Rattle.std.proofs.Common.{ℕ, List, true, refl, sym, ◌∙◌, subst}
 use Rattle.pcm_media.specs.Images.{MayLeave}
 use Rattle.tape_media.specs.Tape.{LeftSince, view_of, counts_now, only_now}
 use Rattle.eaw_device.specs.Laws as device
