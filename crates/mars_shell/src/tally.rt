@@ -74,11 +74,11 @@ impl Tally {
         ensures one { total self.new ≤ total self.old + 1 }
     {
         match call {
-            Call::Control(Control::Abort) => self.aborted += 1,
-            Call::Begin
-            | Call::Table(_)
-            | Call::Control(Control::Commit | Control::Offer | Control::Settle | Control::Purge) =>
-                {}
+            Call::Control(control) => match control {
+                Control::Abort => self.aborted += 1,
+                Control::Commit | Control::Offer | Control::Settle | Control::Purge => {}
+            },
+            Call::Begin | Call::Table(_) => {}
         }
     }
 }

@@ -4,7 +4,6 @@ use Rattle.caller_steps.proofs.Running.{turns_of_runs, turns_no_others}
 use Rattle.caller_plans.specs.Plans.{planned, calls_by}
 use Rattle.caller_work.specs.Worked.{of_caller}
 use Rattle.caller_work.specs.declared.tries.Tries.TheVariants.{Times}
-use Rattle.caller_work.proofs.Plain.{outside}
 use Rattle.caller_work.proofs.Histories.{fated}
 use Rattle.mars_shell.proofs.laws.what_callers_are_told.Goals as goal
 
@@ -12,7 +11,7 @@ pub returns : goal.returns
 returns g = record {
   fated = λ names base index limits turns final runs callers readers tries input text ended cut work caller less.
       let its = work.works caller less in
-      fated limits caller (opened names base index) final turns runs refl refl refl (Times tries) (planned None (calls_by caller work.said)) (of_caller work.fates caller) its.0 (outside (calls_by caller work.said)) its.1;
+      fated limits caller (opened names base index) final turns runs refl refl refl (Times tries) (planned None (calls_by caller work.said)) (of_caller work.fates caller) its.0 its.1;
   others = λ names base index limits turns final runs callers readers tries input text ended cut work.
       turns_no_others true limits callers (opened names base index) final turns (turns_of_runs limits (opened names base index) final turns runs) work.whose (λ caller most. (refl, refl, refl));
 }
