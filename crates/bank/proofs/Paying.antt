@@ -1,10 +1,9 @@
 -- What the calls of a payment come to, if each of them was granted.
-use Rattle.std.proofs.Common.{◌≡◌, ℕ, ◌+◌, ◌-◌, ◌^◌, ◌<◌, ◌≤◌, List, [], ◌∷◌, ◌++◌, Option, Some, unwrap_or, refl, sym, ◌∙◌, ap}
+use Rattle.std.proofs.Common.{◌≡◌, ℕ, ◌+◌, ◌-◌, ◌^◌, ◌<◌, ◌≤◌, [], ◌∷◌, ◌++◌, Option, Some, unwrap_or, refl, sym, ◌∙◌, ap}
 use Rattle.std.specs.Prelude.{decimal}
 use Rattle.std.specs.FinMap.{insert}
 use Rattle.history.specs.Key.{main_name, of_main}
 use Rattle.history.specs.Table.{Granted, left_by}
-use Rattle.history.specs.Writes.{Table}
 use Rattle.history.specs.declared.call.TableCall.{TableCall}
 use Rattle.history.specs.declared.call.TableCall.TheVariants.{Get, Put}
 use Rattle.history.specs.declared.call.Reply.{Reply}

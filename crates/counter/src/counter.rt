@@ -31,6 +31,17 @@ pub enum CountFault {
     Array(EawFault),
 }
 
+impl From<EawFault> for CountFault {
+    ghost use Rattle.std.specs.Prelude.{◌≡◌};
+    ghost use Rattle.counter.specs.declared.counter.CountFault.TheVariants.{Array};
+
+    ghost from_gives = { λ fault told. told ≡ Array fault };
+
+    fn from(fault: EawFault) -> Self {
+        CountFault::Array(fault)
+    }
+}
+
 /// A counter in an array of editable atomic writes, over any store of them. It is eight bytes of the data.
 #[derive(Drop)]
 pub struct Counter<S: EawStore> {
@@ -58,10 +69,8 @@ impl<M: Media> Counter<Eaw<M>> {
         ensures keeps_on_err { IfErr result (λ failed. KeepsData M.tells (M.view media) (M.view failed.1).moment (M.view failed.1).left_since) }
         ensures cause { IfErr result (λ failed. AttachCause M.tells (M.view media) (M.view failed.1).faults failed.0) }
     {
-        match Eaw::attach(alloc, media) {
-            Ok(store) => Ok(Counter { store }),
-            Err(failed) => Err(failed),
-        }
+        let store = Eaw::attach(alloc, media)?;
+        Ok(Counter { store })
     }
 
     /// The medium below.
@@ -101,17 +110,12 @@ impl<S: EawStore> Counter<S> {
             → LeavesOnly (CountsEither (S.opens (S.view self.old).shape) (S.view self.old).state.bytes (number_in (S.view self.old).state.bytes)) (S.view self.old) (S.view self.new) }
         ensures refused { IfErr result (IsRefused S.tells (S.view self.old) (S.view self.new)) }
     {
-        let number = match self.value() {
-            Ok(number) => number,
-            Err(fault) => return Err(CountFault::Array(fault)),
-        };
+        let number = self.value()?;
         let Some(next) = number.checked_add(1) else {
             return Err(CountFault::Last);
         };
-        match self.set(next) {
-            Ok(()) => Ok(next),
-            Err(fault) => Err(CountFault::Array(fault)),
-        }
+        self.set(next)?;
+        Ok(next)
     }
 
     // Writes the number into the log of a transaction and commits it.
@@ -126,9 +130,7 @@ impl<S: EawStore> Counter<S> {
     {
         let mut bytes = [0; 8];
         LittleEndian::write_u64(&mut bytes, number);
-        match self.store.log_write(NUMBER, COUNTER_AT, &bytes) {
-            Ok(_) => self.store.commit(NUMBER),
-            Err(fault) => Err(fault),
-        }
+        self.store.log_write(NUMBER, COUNTER_AT, &bytes)?;
+        self.store.commit(NUMBER)
     }
 }

@@ -55,10 +55,7 @@ impl<R: Mirrored> Responder for Framed<R> {
     ghost comes_on = { λ first mid last s t u told ready stands. R.comes_on first.responder mid.responder last.responder s.inner t.inner u.inner told ready.0 stands.0 };
 
     fn answer(&mut self, line: &[u8], n: u64, out: &mut Vec<u8>) -> Result<(), Stop> {
-        match self.responder.answer(line, n, &mut self.reply) {
-            Ok(()) => {}
-            Err(stop) => return Err(stop),
-        }
+        self.responder.answer(line, n, &mut self.reply)?;
         if self.responder.link_down() {
             return Err(Stop::NoMemory);
         }

@@ -36,10 +36,8 @@ pub(crate) fn take_line<S: EawStore>(
     if !is_frame(bytes, shape) {
         return Err(FollowEnd::BadFrame { line: n });
     }
-    match feed_frame(follower, bytes) {
-        Ok(count) => Ok(Some(count)),
-        Err(ended) => Err(ended),
-    }
+    let count = feed_frame(follower, bytes)?;
+    Ok(Some(count))
 }
 
 // Feeds one whole frame. Returns how many are applied by now.

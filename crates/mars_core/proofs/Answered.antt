@@ -13,7 +13,7 @@ use Rattle.history.specs.declared.call.Reply.{Reply}
 use Rattle.history.specs.declared.call.Reply.TheVariants as reply
 use Rattle.record_table.specs.Does.{Does}
 use Rattle.record_table.specs.declared.fault.TableFault.{TableFault}
-use Rattle.record_table.specs.declared.fault.TableFault.TheVariants.{SlotsFull, PagesFull, SavesFull, LogFull, Media, Dead, Damaged, NoMemory}
+use Rattle.record_table.specs.declared.fault.TableFault.TheVariants.{SlotsFull, Media, NoMemory}
 use Rattle.record_table.specs.Faults.{reply_to}
 use Rattle.std.proofs.lemmas.Bool.{true≢false}
 use Rattle.history.specs.declared.call.Call.TheVariants.{Table as OnTable}

@@ -18,7 +18,7 @@ use Rattle.history.specs.Legal.{records}
 use Rattle.history.specs.Log.{Log, log_of}
 use Rattle.history.specs.declared.call.Call.TheVariants.{Table as OnTable}
 use Rattle.history.specs.declared.call.TableCall.{TableCall}
-use Rattle.history.specs.declared.call.TableCall.TheVariants.{Get, Put, Del, Scan, Save, Back}
+use Rattle.history.specs.declared.call.TableCall.TheVariants.{Get, Put, Del, Scan, Save}
 use Rattle.history.specs.declared.call.Reply.{Reply}
 use Rattle.history.specs.declared.call.Reply.TheVariants as reply
 use Rattle.record_table.specs.State.{TableState}
@@ -87,11 +87,7 @@ saved_out p t _ saves out = out
 -- a call of a table that inserts no key writes nothing into the data
 quiet_of : (index : below.Index) (p : PagesView) (t : ℕ) (call : TableCall) → InsertsNone (keys_of index p.store.state.bytes) call → IsQuiet index p t (OnTable call)
 quiet_of index p t (Put name key value) inserts = inserts
-quiet_of index p t (Get name key) inserts = tt
-quiet_of index p t (Del name key) inserts = tt
-quiet_of index p t (Scan name low high) inserts = tt
-quiet_of index p t Save inserts = tt
-quiet_of index p t (Back n) inserts = tt
+quiet_of index p t _ inserts = tt
 
 scan_same : (limits : Limits) (call : TableCall) (answer : Reply) (old new : Index) → IsScan (OnTable call) → Indexes limits call answer old new → new ≡ old
 scan_same limits (Put name key value) answer old new scan same = absurd scan

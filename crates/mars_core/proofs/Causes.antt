@@ -24,7 +24,7 @@ use Rattle.caller_steps.specs.Locked.{IsFree}
 use Rattle.caller_steps.specs.Room.{Limits}
 use Rattle.caller_steps.specs.Step.{StepAt, uses_index}
 use Rattle.caller_steps.specs.Fate.{is_refusal}
-use Rattle.caller_steps.specs.Cause.{saves_of, misplaced, save_refusal, IsOfKind, MayMeet, TableCause, CommitCause, SettleCause, CallCause, ReplyCause}
+use Rattle.caller_steps.specs.Cause.{saves_of, misplaced, save_refusal, IsOfKind, MayMeet, TableCause, CommitCause, SettleCause, ReplyCause}
 use Rattle.caller_steps.proofs.Causing.{misplaced_cause, plain_cause}
 use Rattle.mars_core.specs.Over.{limits_of}
 use Rattle.mars_core.specs.Works.{HasSaves, IsSaveRefusal}

@@ -9,7 +9,7 @@ use Rattle.history.specs.Key.{of_table}
 use Rattle.history.specs.declared.key.Key.{Key}
 use Rattle.history.specs.declared.call.Call.TheVariants.{Table as OnTable}
 use Rattle.history.specs.declared.call.TableCall.{TableCall}
-use Rattle.history.specs.declared.call.TableCall.TheVariants.{Get, Put, Del, Scan, Save, Back}
+use Rattle.history.specs.declared.call.TableCall.TheVariants.{Put}
 use Rattle.history.specs.declared.call.Reply.{Reply}
 use Rattle.history.specs.declared.call.Reply.TheVariants.{Fine}
 use Rattle.history.specs.declared.call.Reply.TheVariants as reply
@@ -102,22 +102,14 @@ module _ (index : below.Index) (shape : Shape) (depth table : ℕ) (names : List
   pub indexes_refused : (T : Type 0) (call : TableCall) (f : TableFault) → number_for names call ≡ Some table → (InsertsNone old call → b ≡ a) → (let r : Result T TableFault = Err f in IsFalse (is_failed r))
       → (let r : Result T TableFault = Err f in Indexed table (OnTable call) old new r) → Indexes (limits_of index shape depth) call (reply_to f) (index_with names a old) (index_with names b new)
   indexes_refused T (Put name key value) f asked quiet well indexed = refused_at T (of_table name key) asked (old.slot_of (of_table name key)) refl quiet f well indexed
-  indexes_refused T (Get name key) f asked quiet well same = both same (quiet tt)
-  indexes_refused T (Del name key) f asked quiet well same = both same (quiet tt)
-  indexes_refused T (Scan name low high) f asked quiet well same = both same (quiet tt)
-  indexes_refused T Save f asked quiet well same = both same (quiet tt)
-  indexes_refused T (Back n) f asked quiet well same = both same (quiet tt)
+  indexes_refused T _ f asked quiet well same = both same (quiet tt)
 
   -- a granted call
   pub indexes_granted : {T : Type 0} (call : TableCall) (answer : T) (told : Reply) → (InsertsNone old call → b ≡ a) → ((name : List ℕ) (key : ℕ) (value : List ℕ) → call ≡ Put name key value → told ≡ Fine)
       → (let r : Result T TableFault = Ok answer in Indexed table (OnTable call) old new r) → Indexes (limits_of index shape depth) call told (index_with names a old) (index_with names b new)
   indexes_granted (Put name key value) answer told quiet fine indexed =
       subst (λ (r : Reply). IndexesAt (limits_of index shape depth) (of_table name key) (old.slot_of (of_table name key)) r (index_with names a old) (index_with names b new)) (sym (fine name key value refl)) (granted_at (of_table name key) (old.slot_of (of_table name key)) refl quiet answer indexed)
-  indexes_granted (Get name key) answer told quiet fine same = both same (quiet tt)
-  indexes_granted (Del name key) answer told quiet fine same = both same (quiet tt)
-  indexes_granted (Scan name low high) answer told quiet fine same = both same (quiet tt)
-  indexes_granted Save answer told quiet fine same = both same (quiet tt)
-  indexes_granted (Back n) answer told quiet fine same = both same (quiet tt)
+  indexes_granted _ answer told quiet fine same = both same (quiet tt)
 
 -- the keys stay, or the index gains one that it lacked
 abbrev pub Slots : Limits → Index → Index → Type 0

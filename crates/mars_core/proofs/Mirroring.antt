@@ -14,7 +14,7 @@ use Rattle.history.specs.declared.call.Reply.{Reply}
 use Rattle.history.proofs.OneMore.{log_of-push}
 use Rattle.history.proofs.Pending.{left_is_written, saves_are_written, as_many_saves, has_same_saves}
 use Rattle.record_table.specs.State.{TableState, seen_by, work_of}
-use Rattle.record_table.specs.Calls.{Replies, table_after, own_after, after}
+use Rattle.record_table.specs.Calls.{Replies, own_after, after}
 use Rattle.caller_steps.specs.State.{State, calls_of, records_of, view_of}
 use Rattle.mars_core.specs.Kept.{Mirrors}
 

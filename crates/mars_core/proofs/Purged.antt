@@ -38,7 +38,7 @@ use Rattle.record_table.specs.Shown.{table_of, state_of, pairs_of, keys_of}
 use Rattle.record_table.specs.Shown as shown
 use Rattle.record_table.specs.State.{TableState}
 use Rattle.record_table.specs.declared.fault.TableFault.{TableFault}
-use Rattle.record_table.specs.declared.fault.TableFault.TheVariants.{SlotsFull, PagesFull, SavesFull, LogFull, Media, Dead, Damaged, NoMemory}
+use Rattle.record_table.specs.declared.fault.TableFault.TheVariants.{Media, Damaged}
 use Rattle.caller_steps.specs.Core.{IsSafe, Steps}
 use Rattle.caller_steps.specs.Cause as cause
 use Rattle.caller_steps.proofs.Causing.{plain_cause}

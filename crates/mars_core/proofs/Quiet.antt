@@ -1,5 +1,5 @@
 -- A core whose store shows the same.
-use Rattle.std.proofs.Common.{◌≡◌, ℕ, Bool, inl, IsTrue, List, length, refl, sym, ap, subst, ◌∙◌}
+use Rattle.std.proofs.Common.{◌≡◌, ℕ, Bool, inl, IsTrue, List, length, sym, ap, subst, ◌∙◌}
 use Rattle.std.specs.Prelude.{◌↔◌, Option}
 use Rattle.array_shape.specs.declared.shape.Shape.{Shape}
 use Rattle.eaw_face.specs.State as store

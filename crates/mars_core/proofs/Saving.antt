@@ -8,7 +8,7 @@ use Rattle.history.specs.Writes.{Table}
 use Rattle.history.specs.Table.{Granted, Work, begun, worked, after}
 use Rattle.history.specs.declared.call.Call.TheVariants.{Table as OnTable}
 use Rattle.history.specs.declared.call.TableCall.{TableCall}
-use Rattle.history.specs.declared.call.TableCall.TheVariants.{Get, Put, Del, Scan, Save, Back}
+use Rattle.history.specs.declared.call.TableCall.TheVariants.{Save, Back}
 use Rattle.history.specs.declared.call.Reply.{Reply}
 use Rattle.history.proofs.OneMore.{worked-push}
 use Rattle.record_table.specs.Calls.{saves_after}
@@ -39,10 +39,7 @@ saves_of_call work Save has = length-append work.saves (work.table ∷ [])
 saves_of_call work (Back n) has =
     ap (λ (b : Bool). (let left : Work = if b then record { table = slice_index_or work.saves (n - 1) work.table; saves = take n work.saves } else work in length left.saves)) (has_save_is work.saves n has.0 has.1)
     ∙ length-take-le n work.saves has.1
-saves_of_call work (Get name key) has = refl
-saves_of_call work (Put name key value) has = refl
-saves_of_call work (Del name key) has = refl
-saves_of_call work (Scan name low high) has = refl
+saves_of_call work _ has = refl
 
 -- and so a granted call
 pub saves_granted : (n m : ℕ) (table : Table) (calls : Granted) (call : TableCall) (answer : Reply) → n ≡ saves_in table calls → HasSaves n call → m ≡ saves_after (OnTable call) n → m ≡ saves_in table (calls ++ (call, answer) ∷ [])

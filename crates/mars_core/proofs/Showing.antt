@@ -7,7 +7,7 @@ use Rattle.record_table.specs.Shown.{table_of}
 use Rattle.caller_steps.specs.Core.{CoreView}
 use Rattle.caller_steps.specs.Room.{Limits, IsShown}
 use Rattle.caller_steps.specs.State.{Index}
-use Rattle.mars_core.specs.Over.{limits_of, index_of, Begins, ShowsAll}
+use Rattle.mars_core.specs.Over.{index_of, Begins, ShowsAll}
 
 module _ (tells : Bool) (Opens : List ℕ → List ℕ → Type 0) (index : below.Index) (old new : StoreView) (core : CoreView) (begins : Begins tells Opens index old new core) (told : IsTrue tells) where
   bytes_are : core.state.index.bytes ≡ new.state.bytes

@@ -26,7 +26,6 @@ use Rattle.caller_steps.specs.Cause.{saves_of, save_refusal}
 use Rattle.caller_steps.proofs.Able.{takes_within, free_outside}
 use Rattle.caller_steps.proofs.Causing.{save_cause, table_cause, call_cause, plain_cause}
 use Rattle.caller_steps.specs.Locked.{Blocks, IsFree, IsBusyWith}
-use Rattle.caller_steps.specs.Room.{Limits}
 use Rattle.caller_steps.specs.Step.{Acts, StepAt}
 use Rattle.caller_steps.specs.Fate.{is_refusal, is_media, is_committed}
 use Rattle.caller_steps.specs.Core.{IsSafe, Steps}

@@ -22,9 +22,8 @@ use Rattle.history.specs.Log.{Log, log_of}
 use Rattle.history.specs.declared.call.Call.{Call}
 use Rattle.history.specs.declared.call.Call.TheVariants.{Table as OnTable}
 use Rattle.history.specs.declared.call.TableCall.{TableCall}
-use Rattle.history.specs.declared.call.TableCall.TheVariants.{Get, Put, Del, Scan, Save, Back}
+use Rattle.history.specs.declared.call.TableCall.TheVariants.{Put, Del, Save, Back}
 use Rattle.history.specs.declared.call.Reply.{Reply}
-use Rattle.history.specs.declared.call.Reply.TheVariants.{Fine}
 use Rattle.history.specs.declared.call.Reply.TheVariants as reply
 use Rattle.history.specs.declared.transaction.Done.{Done}
 use Rattle.record_table.specs.State.{seen_by}
@@ -33,11 +32,10 @@ use Rattle.record_table.specs.Shown.{state_of, pairs_of, keys_of, held_on, is_wr
 use Rattle.record_table.specs.Shown as shown
 use Rattle.caller_steps.specs.State as state
 use Rattle.caller_steps.specs.State.{State, Index, unoffered, calls_of, commits_of, records_of, view_of}
-use Rattle.caller_steps.specs.Offers.{takes_calls, may_do}
 use Rattle.caller_steps.proofs.Able.{takes_within}
 use Rattle.caller_steps.specs.Room.{Limits, IsShown, HasEntry, IndexesAt, Indexes}
-use Rattle.caller_steps.specs.Step.{Asks, StepAt, StepBy, StepIf, Acts, Step, most_saves}
-use Rattle.caller_steps.specs.Fate.{Moves, is_refusal, is_media, is_committed, committed_by, live_with, offer_with}
+use Rattle.caller_steps.specs.Step.{Asks, StepAt, StepBy, StepIf, Acts, most_saves}
+use Rattle.caller_steps.specs.Fate.{Moves, is_refusal, is_media, is_committed, committed_by, live_with}
 use Rattle.caller_steps.specs.Prefix.{HasPrefix, HasPrefixOf}
 use Rattle.caller_steps.specs.Core.{IsSafe, Steps}
 use Rattle.caller_steps.specs.Cause.{ReplyCause}
@@ -122,12 +120,9 @@ SavesAt s t (Back n) = IsTrue (has_save (view_of s t).saves n)
 SavesAt s t _ = Unit {0}
 
 pub asks_at : (limits : Limits) (calls : Granted) (s new : State) (t : ℕ) (call : TableCall) (answer : Reply) → has_table s.names call ≡ true → SavesAt s t call → Asks limits calls s t call answer new → StepAt limits (Some calls) s t (OnTable call) answer new
-asks_at limits calls s new t (Get name key) answer there saves asks = inr (there, asks)
-asks_at limits calls s new t (Put name key value) answer there saves asks = inr (there, asks)
-asks_at limits calls s new t (Del name key) answer there saves asks = inr (there, asks)
-asks_at limits calls s new t (Scan name low high) answer there saves asks = inr (there, asks)
 asks_at limits calls s new t Save answer there saves asks = inr (saves, asks)
 asks_at limits calls s new t (Back n) answer there saves asks = inr (saves, asks)
+asks_at limits calls s new t _ answer there saves asks = inr (there, asks)
 
 -- while the store is not dead, its data shows the state
 pub shows_tied : (index : below.Index) (q : PagesView) (new : State) → new.index ≡ index_of index q.store.state.bytes → IsTied index q new → ShowsAll index new
@@ -219,7 +214,6 @@ module _ (index : below.Index) (table : ℕ) (p : PagesView) (s : State) (shows 
   pub returns_at : (calls : Granted) → calls_of s t ≡ calls → (call : TableCall) → HasSaves (length ((state_of index p).logs t).saved) call → Returns (log_of calls).saved call
   returns_at calls at (Back n) saves =
       subst (λ (ls : List (List Write)). has_save ls n ≡ true) (ap (λ (l : Log). l.saved) (mirrors.logs t) ∙ ap (λ (cs : Granted). (log_of cs).saved) at) (has_save_is ((state_of index p).logs t).saved n saves.0 saves.1)
-  returns_at calls at (Get name key) saves = tt
   returns_at calls at _ saves = tt
 
   -- if a call writes, it finds an entry

@@ -62,38 +62,26 @@ pub fn work<S: EawStore, K: KeyIndex>(
         (pages_of (S.view records.old.store) records.old) (pages_of (S.view records.new.store) records.new) result }
 {
     match asked {
-        TableCall::Get { table: _, key } => match records.get(tid, table, *key) {
-            Ok(value) => Ok(found(&value)),
-            Err(fault) => Err(fault),
-        },
+        TableCall::Get { table: _, key } => Ok(found(&records.get(tid, table, *key)?)),
         TableCall::Put {
             table: _,
             key,
             value,
-        } => match records.put(tid, table, *key, *value) {
-            Ok(()) => Ok(Reply::Fine),
-            Err(fault) => Err(fault),
-        },
-        TableCall::Del { table: _, key } => match records.del(tid, table, *key) {
-            Ok(was) => Ok(removed(was)),
-            Err(fault) => Err(fault),
-        },
+        } => {
+            records.put(tid, table, *key, *value)?;
+            Ok(Reply::Fine)
+        }
+        TableCall::Del { table: _, key } => Ok(removed(records.del(tid, table, *key)?)),
         TableCall::Scan {
             table: _,
             low,
             high,
-        } => match records.scan(alloc, tid, table, *low, *high) {
-            Ok(rows) => Ok(Reply::Listed(rows)),
-            Err(fault) => Err(fault),
-        },
-        TableCall::Save => match records.save(tid) {
-            Ok(n) => Ok(Reply::Saved(n)),
-            Err(fault) => Err(fault),
-        },
-        TableCall::Back { save } => match records.back(tid, *save) {
-            Ok(()) => Ok(Reply::Fine),
-            Err(fault) => Err(fault),
-        },
+        } => Ok(Reply::Listed(records.scan(alloc, tid, table, *low, *high)?)),
+        TableCall::Save => Ok(Reply::Saved(records.save(tid)?)),
+        TableCall::Back { save } => {
+            records.back(tid, *save)?;
+            Ok(Reply::Fine)
+        }
     }
 }
 

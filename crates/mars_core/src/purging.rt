@@ -68,15 +68,11 @@ fn clear_table<S: EawStore, K: KeyIndex, H: Keeper>(
     let mut taken: u32 = 0;
     let mut from = 0;
     loop {
-        let key = match records.next_absent(table, from) {
-            Ok(Some(key)) => key,
-            Ok(None) => return Ok(taken),
-            Err(fault) => return Err(fault),
+        let Some(key) = records.next_absent(table, from)? else {
+            return Ok(taken);
         };
-        match try_key(records, seats, caller, table, name, key) {
-            Ok(was) => taken = taken.saturating_add(u32::from(was)),
-            Err(fault) => return Err(fault),
-        }
+        let was = try_key(records, seats, caller, table, name, key)?;
+        taken = taken.saturating_add(u32::from(was));
         if key == u64::MAX {
             return Ok(taken);
         }
@@ -105,10 +101,8 @@ pub fn clear<S: EawStore, K: KeyIndex, H: Keeper>(
         let Some(name) = seats.names().name(table) else {
             unreachable!();
         };
-        match clear_table(records, seats, caller, table, &name) {
-            Ok(more) => taken = taken.saturating_add(more),
-            Err(fault) => return Err(fault),
-        }
+        let more = clear_table(records, seats, caller, table, &name)?;
+        taken = taken.saturating_add(more);
     }
     Ok(taken)
 }

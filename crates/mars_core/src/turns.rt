@@ -546,10 +546,7 @@ fn begin_over<S: EawStore, K: KeyIndex, H: Keeper>(
         Ok(seats) => seats,
         Err(_) => return Err((CoreFault::NoMemory, records.into_pages().into_store())),
     };
-    let records = match upgraded(records) {
-        Ok(records) => records,
-        Err(failed) => return Err(failed),
-    };
+    let records = upgraded(records)?;
     Ok(Core {
         alloc,
         records,

@@ -5,3 +5,4 @@ mod WriteLemmas
 mod FillLemmas
 mod ShowLemmas
 mod TakeLemmas
+mod Keeping

@@ -285,9 +285,9 @@ pub fn work_with<R: Threads + Wait + Sync, C: Core + Drop + Send, G: Gate + Sync
 {
     match readership {
         Some(readership) => work_beside(rt, alloc, core, readership, plans, tries, gate),
-        None => match work(rt, alloc, core, plans, tries, gate) {
-            Ok((core, fates, end)) => Ok((core, fates, Ok(Vec::new(alloc)), end)),
-            Err(failed) => Err(failed),
-        },
+        None => {
+            let (core, fates, end) = work(rt, alloc, core, plans, tries, gate)?;
+            Ok((core, fates, Ok(Vec::new(alloc)), end))
+        }
     }
 }

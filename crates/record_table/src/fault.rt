@@ -3,7 +3,8 @@ ghost use Rattle.std.specs.Prelude.{◌≡◌};
 ghost use Rattle.record_table.specs.Faults.{IsOfAttach, as_attach};
 
 use history::Reply;
-use page_store::{IndexFault, PageFault};
+use mars_base::NoMemory;
+use page_store::{CheckFault, IndexFault, PageFault};
 use thiserror::Error;
 
 /// Why a call on records was refused. `Dead` goes first, then the kinds in their order: a later one comes only if no earlier one does.
@@ -86,6 +87,17 @@ impl From<IndexFault> for TableFault {
     }
 }
 
+impl From<NoMemory> for TableFault {
+    ghost use Rattle.std.specs.Prelude.{◌≡◌};
+    ghost use Rattle.record_table.specs.declared.fault.TableFault.TheVariants as table;
+
+    ghost from_gives = { λ _ fault. fault ≡ table.NoMemory };
+
+    fn from(_none: NoMemory) -> Self {
+        TableFault::NoMemory
+    }
+}
+
 /// A refusal as a reply.
 impl From<TableFault> for Reply {
     ghost use Rattle.std.specs.Prelude.{◌≡◌};
@@ -130,6 +142,34 @@ pub enum AttachRecords {
     /// There was no memory for the records.
     #[error("no memory")]
     NoMemory,
+}
+
+/// Why the records are not read whose index was not tested to its end.
+impl From<CheckFault> for AttachRecords {
+    ghost use Rattle.std.specs.Prelude.{◌≡◌};
+    ghost use Rattle.record_table.specs.AllTables.{as_unread};
+
+    ghost from_gives = { λ below fault. fault ≡ as_unread below };
+
+    fn from(below: CheckFault) -> Self {
+        match below {
+            CheckFault::Damaged { page } => AttachRecords::Damaged { page },
+            CheckFault::Media => AttachRecords::Media,
+            CheckFault::Dead => AttachRecords::Dead,
+            CheckFault::NoMemory => AttachRecords::NoMemory,
+        }
+    }
+}
+
+impl From<NoMemory> for AttachRecords {
+    ghost use Rattle.std.specs.Prelude.{◌≡◌};
+    ghost use Rattle.record_table.specs.declared.fault.AttachRecords.TheVariants as attach;
+
+    ghost from_gives = { λ _ fault. fault ≡ attach.NoMemory };
+
+    fn from(_none: NoMemory) -> Self {
+        AttachRecords::NoMemory
+    }
 }
 
 /// A refusal of pages, to which records were to be attached.

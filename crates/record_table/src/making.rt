@@ -140,10 +140,7 @@ pub fn make<S: EawStore, K: KeyIndex>(
         Ok(front) => front,
         Err(fault) => return Err(refusal(fault)),
     };
-    let number = match place_for(&front, name, index_page_count(pages)) {
-        Ok(number) => number,
-        Err(fault) => return Err(fault),
-    };
+    let number = place_for(&front, name, index_page_count(pages))?;
     match write_table(pages, &with_table(&front, name), front.next_page) {
         Ok(()) => {}
         Err(fault) => return Err(refusal(fault)),

@@ -7,7 +7,7 @@ ghost use Rattle.page_store.specs.Looks.{Looks};
 ghost use Rattle.record_table.specs.Attached.{BlamesTested};
 ghost use Rattle.record_table.specs.Names.{names_of, AreRootsOf, ArePages, BeginsWithMain};
 ghost use Rattle.page_store.specs.Shown.{pages_of};
-ghost use Rattle.record_table.specs.AllTables.{place, by_name, ReadCause, is_unread, as_unread};
+ghost use Rattle.record_table.specs.AllTables.{place, by_name, ReadCause, is_unread};
 ghost use Rattle.history.specs.Rows.{records_in};
 ghost use Rattle.record_table.specs.Shown.{table_of};
 
@@ -17,7 +17,7 @@ use eaw_face::EawStore;
 use history::Rows;
 use mars_base::NoMemory;
 use noted::{Keeper, KeepsAll, NotedRows};
-use page_store::{CheckFault, KeyIndex, Pages, TableRows};
+use page_store::{KeyIndex, Pages, TableRows};
 use record_slots::{Name, Names};
 use std::alloc::Global;
 
@@ -48,10 +48,7 @@ pub fn read_whole<S: EawStore, K: KeyIndex, H: Keeper>(
     ensures dead { IsErrOf result AttachRecords.Dead → pages.new ≡ pages.old }
 {
     let mut tables = TableRows::new(alloc);
-    match K::check(alloc, pages, &mut tables) {
-        Ok(()) => {}
-        Err(fault) => return Err(unread(fault)),
-    }
+    K::check(alloc, pages, &mut tables)?;
     let (names, roots) = match names_and_roots(pages) {
         Ok(read) => read,
         Err(fault) => return Err(unattached(fault)),
@@ -61,14 +58,12 @@ pub fn read_whole<S: EawStore, K: KeyIndex, H: Keeper>(
     if usize::from(names.count()) != rows.len() {
         return Err(AttachRecords::Damaged { page: 0 });
     }
-    match with_names(alloc, &names, rows) {
-        Ok(tables) => Ok(Whole {
-            names,
-            roots,
-            tables,
-        }),
-        Err(NoMemory) => Err(AttachRecords::NoMemory),
-    }
+    let tables = with_names(alloc, &names, rows)?;
+    Ok(Whole {
+        names,
+        roots,
+        tables,
+    })
 }
 
 /// The records of all tables, once the whole index has been tested: each table's name and its rows, in the order of the names. Nothing is
@@ -84,13 +79,8 @@ pub fn read_tables<S: EawStore, K: KeyIndex>(
         (pages_of (S.view pages.old.store) pages.old) (pages_of (S.view pages.new.store) pages.new) }
     ensures dead { IsErrOf result AttachRecords.Dead → pages.new ≡ pages.old }
 {
-    match read_whole::<S, K, KeepsAll>(alloc, pages) {
-        Ok(whole) => match kept_rows(alloc, whole.tables) {
-            Ok(tables) => Ok(tables),
-            Err(NoMemory) => Err(AttachRecords::NoMemory),
-        },
-        Err(fault) => Err(fault),
-    }
+    let whole = read_whole::<S, K, KeepsAll>(alloc, pages)?;
+    Ok(kept_rows(alloc, whole.tables)?)
 }
 
 // The rows of each table, which are kept, as they stand.
@@ -142,16 +132,4 @@ fn place_of<H: Keeper>(tables: &[(Name, NotedRows<H>)], name: &Name) -> usize
         }
     }
     tables.len()
-}
-
-// Why the records are not read whose index was not tested to its end.
-fn unread(fault: CheckFault) -> AttachRecords
-    ensures { result ≡ as_unread fault }
-{
-    match fault {
-        CheckFault::Damaged { page } => AttachRecords::Damaged { page },
-        CheckFault::Media => AttachRecords::Media,
-        CheckFault::Dead => AttachRecords::Dead,
-        CheckFault::NoMemory => AttachRecords::NoMemory,
-    }
 }

@@ -137,14 +137,10 @@ impl<S: EawStore, K: KeyIndex> Records<S, K> {
         ensures dead { IsErrOf result MakeFault.Dead → self.new ≡ self.old }
     {
         let mut root = 0;
-        match make::<S, K>(&mut self.pages, name, &mut root) {
-            Ok(number) => {
-                self.names.push(name);
-                self.roots.at[usize::from(number)] = root;
-                Ok(number)
-            }
-            Err(fault) => Err(fault),
-        }
+        let number = make::<S, K>(&mut self.pages, name, &mut root)?;
+        self.names.push(name);
+        self.roots.at[usize::from(number)] = root;
+        Ok(number)
     }
 
     /// The number of the table of this name, if there is one: of those that the records were attached with, and those made since.
@@ -249,10 +245,8 @@ impl<S: EawStore, K: KeyIndex> Records<S, K> {
     {
         let root = self.roots.of_table(table);
         let mut hearings = Hearings::new();
-        match seek::<S, K>(&mut self.pages, tid, table, root, key, &mut hearings) {
-            Ok(found) => Ok(value_at(&found)),
-            Err(fault) => Err(TableFault::from(fault)),
-        }
+        let found = seek::<S, K>(&mut self.pages, tid, table, root, key, &mut hearings)?;
+        Ok(value_at(&found))
     }
 
     /// Gives the key this value, at once in the number's own view, and in the table once it commits. A key that the index lacks is inserted
@@ -269,18 +263,13 @@ impl<S: EawStore, K: KeyIndex> Records<S, K> {
     {
         let root = self.roots.of_table(table);
         let present = Slot::Present { table, key, value };
-        let sought = match K::find_place(&mut self.pages, root, table, key) {
-            Ok(sought) => sought,
-            Err(fault) => return Err(TableFault::from(fault)),
-        };
+        let sought = K::find_place(&mut self.pages, root, table, key)?;
         if let Some(slot) = slot_of(&sought) {
             return told(write_as(&mut self.pages, tid, slot, &present));
         }
         let place = place_of(sought);
-        match K::insert(&mut self.pages, tid, root, table, key, place) {
-            Ok(slot) => told(write_as(&mut self.pages, tid, slot, &present)),
-            Err(fault) => Err(TableFault::from(fault)),
-        }
+        let slot = K::insert(&mut self.pages, tid, root, table, key, place)?;
+        told(write_as(&mut self.pages, tid, slot, &present))
     }
 
     /// Removes the record of a key, at once in the number's own view, and in the table once it commits. Returns whether the number saw one.
@@ -296,23 +285,20 @@ impl<S: EawStore, K: KeyIndex> Records<S, K> {
     {
         let root = self.roots.of_table(table);
         let mut hearings = Hearings::new();
-        let place = match seek::<S, K>(&mut self.pages, tid, table, root, key, &mut hearings) {
-            Ok(Some(place)) => place,
-            Ok(None) => return Ok(false),
-            Err(fault) => return Err(TableFault::from(fault)),
+        let sought = seek::<S, K>(&mut self.pages, tid, table, root, key, &mut hearings)?;
+        let Some(place) = sought else {
+            return Ok(false);
         };
         if place.value.is_none() {
             return Ok(false);
         }
-        match write_as(
+        write_as(
             &mut self.pages,
             tid,
             place.slot,
             &Slot::Absent { table, key },
-        ) {
-            Ok(()) => Ok(true),
-            Err(fault) => Err(TableFault::from(fault)),
-        }
+        )?;
+        Ok(true)
     }
 
     /// The records from one key to another, both included, as the number sees them. The memory for them is taken here. It looks for keys at
@@ -344,7 +330,7 @@ impl<S: EawStore, K: KeyIndex> Records<S, K> {
         let mut rows = Rows::new(alloc);
         let root = self.roots.of_table(table);
         let mut hearings = Hearings::new();
-        match gather::<S, K>(
+        gather::<S, K>(
             &mut self.pages,
             tid,
             table,
@@ -353,10 +339,8 @@ impl<S: EawStore, K: KeyIndex> Records<S, K> {
             high,
             &mut rows,
             &mut hearings,
-        ) {
-            Ok(()) => Ok(rows),
-            Err(fault) => Err(fault),
-        }
+        )?;
+        Ok(rows)
     }
 
     /// Saves what the number has written, and returns how many saves it has now.

@@ -70,28 +70,20 @@ fn next_in_data<S: EawStore, K: KeyIndex>(
     ensures hears { HearsOne (S.view pages.old.store).shape hearings.old.said hearings.new.said result }
     ensures dead { IsErrOf result PageFault.Dead → pages.new ≡ pages.old }
 {
-    let some = match K::next_pairs(pages, root, table, from) {
-        Ok(some) => some,
-        Err(fault) => return Err(fault),
-    };
+    let some = K::next_pairs(pages, root, table, from)?;
     let some = some.as_slice();
     if some.is_empty() {
         return Ok(None);
     }
     let (key, slot) = some[0];
     let page = page_of(pages, slot);
-    let said = match read_said(pages, slot) {
-        Ok(said) => said,
-        Err(fault) => return Err(fault),
-    };
-    match heard(hearings, key, slot, said, page) {
-        Ok(said) => Ok(Some(Next {
-            key,
-            slot,
-            value: value_in(&said),
-        })),
-        Err(fault) => Err(fault),
-    }
+    let said = read_said(pages, slot)?;
+    let held = heard(hearings, key, slot, said, page)?;
+    Ok(Some(Next {
+        key,
+        slot,
+        value: value_in(&held),
+    }))
 }
 
 /// The least key of a table from `from` on whose slot is absent in the data.
@@ -120,10 +112,8 @@ pub fn next_absent<S: EawStore, K: KeyIndex>(
     let mut low = from;
     let mut left = slot_count(pages);
     loop {
-        let next = match next_in_data::<S, K>(pages, table, root, low, hearings) {
-            Ok(Some(next)) => next,
-            Ok(None) => return Ok(None),
-            Err(fault) => return Err(fault),
+        let Some(next) = next_in_data::<S, K>(pages, table, root, low, hearings)? else {
+            return Ok(None);
         };
         if next.value.is_none() {
             return Ok(Some(next.key));

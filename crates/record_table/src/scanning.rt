@@ -69,18 +69,13 @@ fn read_row<S: EawStore, K: KeyIndex>(
 {
     let (key, slot) = pair;
     let page = page_of(pages, slot);
-    let said = match read_as(pages, tid, slot) {
-        Ok(said) => said,
-        Err(fault) => return Err(fault),
-    };
-    match heard(hearings, key, slot, said, page) {
-        Ok(said) => Ok(Next {
-            key,
-            slot,
-            value: value_in(&said),
-        }),
-        Err(fault) => Err(fault),
-    }
+    let said = read_as(pages, tid, slot)?;
+    let held = heard(hearings, key, slot, said, page)?;
+    Ok(Next {
+        key,
+        slot,
+        value: value_in(&held),
+    })
 }
 
 // Appends a row if there is a record.
@@ -131,14 +126,8 @@ fn push_rows<S: EawStore, K: KeyIndex>(
         if pair.0 > span.high {
             return Ok(None);
         }
-        let row = match read_row::<S, K>(pages, tid, Span { low: from, ..span }, *pair, hearings) {
-            Ok(row) => row,
-            Err(fault) => return Err(TableFault::from(fault)),
-        };
-        match push_row(rows, &row) {
-            Ok(()) => {}
-            Err(_) => return Err(TableFault::NoMemory),
-        }
+        let row = read_row::<S, K>(pages, tid, Span { low: from, ..span }, *pair, hearings)?;
+        push_row(rows, &row)?;
         if row.key == span.high {
             return Ok(None);
         }
@@ -177,10 +166,7 @@ pub fn gather<S: EawStore, K: KeyIndex>(
     let mut from = low;
     let mut left = slot_count(pages);
     while from <= high {
-        let pairs = match K::next_pairs(pages, root, table, from) {
-            Ok(pairs) => pairs,
-            Err(fault) => return Err(TableFault::from(fault)),
-        };
+        let pairs = K::next_pairs(pages, root, table, from)?;
         if pairs.is_empty() {
             return Ok(());
         }
@@ -191,10 +177,8 @@ pub fn gather<S: EawStore, K: KeyIndex>(
             high,
         };
         let pairs = pairs.as_slice();
-        let next = match push_rows::<S, K>(pages, tid, span, pairs, rows, hearings) {
-            Ok(Some(next)) => next,
-            Ok(None) => return Ok(()),
-            Err(fault) => return Err(fault),
+        let Some(next) = push_rows::<S, K>(pages, tid, span, pairs, rows, hearings)? else {
+            return Ok(());
         };
         let met = pairs.len() as u64;
         if met > left {

@@ -155,23 +155,16 @@ pub fn seek<S: EawStore, K: KeyIndex>(
     ensures inside { IfOk result (λ place. IfSome place (λ place. place.slot < slots_of (S.view pages.old.store).shape)) }
     ensures dead { IsErrOf result PageFault.Dead → pages.new ≡ pages.old }
 {
-    let slot = match K::find(pages, root, table, key) {
-        Ok(Some(slot)) => slot,
-        Ok(None) => return Ok(None),
-        Err(fault) => return Err(fault),
+    let Some(slot) = K::find(pages, root, table, key)? else {
+        return Ok(None);
     };
     let page = page_of(pages, slot);
-    let said = match read_as(pages, tid, slot) {
-        Ok(said) => said,
-        Err(fault) => return Err(fault),
-    };
-    match heard(hearings, key, slot, said, page) {
-        Ok(said) => Ok(Some(Place {
-            slot,
-            value: value_in(&said),
-        })),
-        Err(fault) => Err(fault),
-    }
+    let said = read_as(pages, tid, slot)?;
+    let held = heard(hearings, key, slot, said, page)?;
+    Ok(Some(Place {
+        slot,
+        value: value_in(&held),
+    }))
 }
 
 // The value that was found.

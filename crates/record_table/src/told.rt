@@ -9,8 +9,5 @@ use page_store::PageFault;
 pub fn told<T: Drop>(answer: Result<T, PageFault>) -> Result<T, TableFault>
     ensures { result ≡ told_as answer }
 {
-    match answer {
-        Ok(answer) => Ok(answer),
-        Err(fault) => Err(TableFault::from(fault)),
-    }
+    Ok(answer?)
 }

@@ -1,5 +1,5 @@
 -- An array whose records begin anew, with one table more or without.
-use Rattle.std.proofs.Common.{◌≡◌, ℕ, ◌≤◌, ◌⊎◌, inl, inr, ⊎_elim, ◌++◌, ◌∷◌, [], List, length, Bool, true, false, Result, Ok, Err, refl, sym, ◌∙◌, ap, subst, arith}
+use Rattle.std.proofs.Common.{◌≡◌, ℕ, inl, inr, ⊎_elim, ◌++◌, ◌∷◌, [], List, length, Bool, true, false, Result, Ok, Err, refl, sym, ◌∙◌, ap, subst, arith}
 use Rattle.std.specs.Prelude.{Option, Some, None, IfOk}
 use Rattle.pcm_media.specs.Images.{MayLeave}
 use Rattle.pcm_media.specs.View.{View}
@@ -11,7 +11,7 @@ use Rattle.eaw_device.specs.Opens.{Opens, AllOpen, OpensLike, FindsData, KeepsDa
 use Rattle.page_store.specs.Index.{Index, index_pages_of}
 use Rattle.record_slots.specs.Places.{next_page, tables_of}
 use Rattle.history.specs.Key.{of_table}
-use Rattle.history.specs.Writes.{Table, rows_of}
+use Rattle.history.specs.Writes.{rows_of}
 use Rattle.history.proofs.Keyed.{rows_of-found}
 use Rattle.record_table.specs.Does.{OpensNamed}
 use Rattle.record_table.specs.Names.{names_of, IsNew}
@@ -27,7 +27,7 @@ use Rattle.caller_steps.specs.Room.{Limits}
 use Rattle.caller_steps.specs.Core.{CoreView}
 use Rattle.caller_steps.specs.State.{State, Index as KeysIndex, records_of}
 use Rattle.mars_core.specs.Making.{MakesTable, OpensAsNamed, OpensWithName}
-use Rattle.mars_core.specs.Over.{IsOver}
+use Rattle.mars_core.specs.Over.{IsOver, limits_of}
 use Rattle.mars_core.specs.declared.fault.CoreFault.{CoreFault}
 use Rattle.open_records.specs.Opens.{Begins, OfData, KeepsRecords, OpensAsLeft}
 use Rattle.taped_records.specs.declared.making.Unmade.{Unmade}
@@ -68,16 +68,16 @@ pub made_of : (P : Result ℕ MakeFault → Type 0) (told : Result (Result ℕ M
 made_of P told made holds is = subst (λ (o : Result (Result ℕ MakeFault) CoreFault). IfOk o P) is holds
 
 -- a core is put down
-pub is_down : (store : StoreView) (core : CoreView) (media : View) (defers : Bool) → IsOver true (Opens store.shape) tree store core → store.is_dead ≡ false → IsBehind true defers store media
-    → ((image : List ℕ) → MayLeave media.content image → Opens store.shape image store.state.bytes) → IsPutDown store.shape store.depth core media
-is_down store core media defers over alive behind opens = record {
+pub is_down : (store : StoreView) (depth : ℕ) (core : CoreView) (media : View) (defers : Bool) → depth ≡ store.depth → IsOver true (Opens store.shape) tree store core → store.is_dead ≡ false → IsBehind true defers store media
+    → ((image : List ℕ) → MayLeave media.content image → Opens store.shape image store.state.bytes) → IsPutDown store.shape depth core media
+is_down store depth core media defers told over alive behind opens = record {
   bytes = store.state.bytes;
   opens = opens;
   sound = over.sound refl alive;
   named = over.names refl alive;
   shows = over.table refl alive;
   pages = ap (λ (i : KeysIndex). i.next_page) (over.keys refl);
-  limits = over.limits;
+  limits = over.limits ∙ ap (limits_of tree store.shape) (sym told);
   moment = behind.moment ∙ sym over.moment;
   left = λ t image left. (over.left t image).0 (behind.left t image left);
 }

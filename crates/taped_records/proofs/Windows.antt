@@ -3,7 +3,7 @@ use Rattle.std.proofs.Common.{◌≡◌, ℕ, ◌+◌, ◌≤◌, Bool, false, c
 use Rattle.std.specs.Prelude.{nat_le, filter, slice_get, Option, Some, None, IfOk, IfErr}
 use Rattle.std.proofs.lemmas.Bool.{cases_Bool}
 use Rattle.history.specs.Writes.{Table, Row, is_within, rows_of, rows_within}
-use Rattle.history.specs.declared.call.Call.TheVariants.{Scan}
+use Rattle.history.specs.declared.call.TableCall.TheVariants.{Scan}
 use Rattle.history.specs.declared.call.Reply.TheVariants.{Listed}
 use Rattle.caller_steps.specs.Core.{CoreView}
 use Rattle.transactions.specs.Adds.{Stays, Adds}

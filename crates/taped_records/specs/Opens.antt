@@ -11,13 +11,13 @@ use Rattle.taped_calls.specs.Formats.{fresh}
 use Rattle.taped_records.specs.declared.records.TapedRecords.{TapedRecords}
 use Rattle.taped_records.specs.Shown.{core_in}
 
--- The array in these bytes, for so many callers, where so many commits may wait for their write-back: it begins with its records, and at each moment
--- of the opening a loss of power leaves them. No rows are kept.
-pub record IsOpened (index : Index) (asked depth : ℕ) (bytes : List ℕ) (taped : TapedRecords) : Type 0 where
-  pub begins : BeginsOn index depth (view_of (fresh bytes)) (core_in taped)
+-- The array in these bytes, for so many callers: it begins with its records, and at each moment of the opening a loss of power leaves them. As many
+-- commits may wait for their write-back as were asked for. No rows are kept.
+pub record IsOpened (index : Index) (asked most : ℕ) (bytes : List ℕ) (taped : TapedRecords) : Type 0 where
+  pub begins : BeginsOn index most (view_of (fresh bytes)) (core_in taped)
   pub keeps : KeepsRecords true (view_of (fresh bytes)) (core_in taped).moment (core_in taped).left_since
   pub callers : taped.callers ≡ asked
-  pub depth : (core_in taped).limits.depth ≡ depth
+  pub depth : (core_in taped).limits.depth ≡ most
   pub rows : taped.rows ≡ []
 
 -- A fault of the medium, as it is told: it is in memory, and had nothing to do, so memory ran out in a write.

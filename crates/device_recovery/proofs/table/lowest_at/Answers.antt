@@ -21,7 +21,7 @@ loop-logger-preserved-then-order-from c =
       so_far.0,
       so_far.1,
       one_more c.args.shape.now c.args.rows.now c.args.from c.args.tid c.loop-logger.logger c.loop-logger.lowest c.loop-logger.lowest so_far.2 (omega arith)
-      (λ is le. absurd (omega (arith, le, order, c.from-order.ensures, c.if-order-from.true))),
+          (λ is le. absurd (omega (arith, le, order, c.from-order.ensures, c.if-order-from.true))),
       so_far.3,
     )
 
@@ -33,7 +33,7 @@ loop-logger-preserved-then-order-lowest c =
       so_far.0,
       so_far.1,
       one_more c.args.shape.now c.args.rows.now c.args.from c.args.tid c.loop-logger.logger c.loop-logger.lowest c.loop-logger.lowest so_far.2 (omega arith)
-      (λ is le. (omega (arith, order, c.from-order.ensures, c.if-order-lowest.true), omega (arith, order, fits))),
+          (λ is le. (omega (arith, order, c.from-order.ensures, c.if-order-lowest.true), omega (arith, order, fits))),
       so_far.3,
     )
 
@@ -47,22 +47,22 @@ loop-logger-preserved c =
     let fits : c.row_in.result.order < 65536 = omega (arith, c.row_in.type_inv) in
     elim c.if-is_decided.branch [
       | then-is_decided w ↦ (
-          omega (arith, w.lowest-is, c.if-order-from.false),
-          omega (arith, w.lowest-is, c.if-order-lowest.false, so_far.1),
-          more (omega (arith, w.lowest-is, c.if-order-lowest.false)) (λ is le. (omega (arith, w.lowest-is, order, c.from-order.ensures), omega (arith, order, fits))),
-          inr (record {
-            logger = c.loop-logger.logger;
-            tid = c.args.tid;
-            one_logger = omega (arith, c.loop-logger-test.true);
-            one_number = c.requires.tid;
-            is_decided = sym c.is_decided.ensures ∙ w.if-is_decided.true;
-            order_is = sym order ∙ sym c.from-order.ensures ∙ sym w.lowest-is;
-          }),
-        )
+        omega (arith, w.lowest-is, c.if-order-from.false),
+        omega (arith, w.lowest-is, c.if-order-lowest.false, so_far.1),
+        more (omega (arith, w.lowest-is, c.if-order-lowest.false)) (λ is le. (omega (arith, w.lowest-is, order, c.from-order.ensures), omega (arith, order, fits))),
+        inr (record {
+          logger = c.loop-logger.logger;
+          tid = c.args.tid;
+          one_logger = omega (arith, c.loop-logger-test.true);
+          one_number = c.requires.tid;
+          is_decided = sym c.is_decided.ensures ∙ w.if-is_decided.true;
+          order_is = sym order ∙ sym c.from-order.ensures ∙ sym w.lowest-is;
+        }),
+      )
       | else-is_decided w ↦ (
-          omega (arith, w.lowest-is, so_far.0),
-          omega (arith, w.lowest-is, so_far.1),
-          more (omega (arith, w.lowest-is)) (λ is le. absurd (false≢true (sym w.if-is_decided.false ∙ c.is_decided.ensures ∙ is))),
-          ⊎_elim (λ same. inl (w.lowest-is ∙ same)) (λ has. inr (subst (HasOrder shape rows) (sym w.lowest-is) has)) so_far.3,
-        )
+        omega (arith, w.lowest-is, so_far.0),
+        omega (arith, w.lowest-is, so_far.1),
+        more (omega (arith, w.lowest-is)) (λ is le. absurd (false≢true (sym w.if-is_decided.false ∙ c.is_decided.ensures ∙ is))),
+        ⊎_elim (λ same. inl (w.lowest-is ∙ same)) (λ has. inr (subst (HasOrder shape rows) (sym w.lowest-is) has)) so_far.3,
+      )
     ]

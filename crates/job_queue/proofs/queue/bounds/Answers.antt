@@ -6,6 +6,7 @@ use Rattle.history.specs.declared.call.TableCall.TheVariants.{Get}
 use Rattle.caller_steps.specs.Core.{CoreView}
 use Rattle.caller_steps.specs.State.{calls_of}
 use Rattle.transactions.specs.Adds.{Adds}
+use Rattle.transactions.proofs.Handing.{handed_on}
 use Rattle.job_queue.specs.Queue.{IsNumber, Reads}
 use Rattle.job_queue.proofs.Missing.{first_out, count_out}
 use Rattle.job_queue.proofs.queue.bounds.Goals as goal
@@ -52,3 +53,14 @@ pub returns-clause-found : goal.returns-clause-found
 returns-clause-found g c told =
     both_read c.args.caller c.in_ok-first.first c.in_ok-count.count (g.C.Core.view c.args.core.now) (g.C.Core.view c.read_number.new.core) (g.C.Core.view c.read_number-2.new.core)
     (c.in_ok-first.ensures.found told) (c.in_ok-count.ensures.found told)
+
+-- the second was not
+pub returns-in_err-count-clause-stays : goal.returns-in_err-count-clause-stays
+returns-in_err-count-clause-stays g c told =
+    c.calls_join.ensures.stays c.args.core.now c.read_number.new.core c.read_number-2.new.core c.args.caller (c.in_ok-first.ensures.stays told) (c.read_number-2.ensures.stays told)
+
+pub returns-in_err-count-clause-of_core : goal.returns-in_err-count-clause-of_core
+returns-in_err-count-clause-of_core g c told =
+    let stop = c.in_err-count.field-0.0 in
+    handed_on c.from_residual-in_err-count.result stop c.from_residual-in_err-count.ensures _
+    (c.calls_join.ensures.later c.args.core.now c.read_number.new.core c.read_number-2.new.core c.args.caller stop (c.in_ok-first.ensures.stays told) (c.in_err-count.ensures.of_core told))

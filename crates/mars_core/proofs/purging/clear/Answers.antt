@@ -5,6 +5,7 @@ use Rattle.page_store.specs.Shown.{pages_of}
 use Rattle.mars_core.specs.Purging.{IsOfTable, IsOfFirst, Clears}
 use Rattle.mars_core.proofs.Clearing.{going_first, going_more, counted_more, more_refused, going_to, all_tried}
 use Rattle.mars_core.proofs.Passing.{first_none, first_more, first_both, first_before, first_all, sum_is}
+use Rattle.std.proofs.lemmas.Result.{err_from_is_err_and}
 use Rattle.mars_core.proofs.purging.clear.Goals as goal
 
 pub loop-table-init : goal.loop-table-init
@@ -24,28 +25,30 @@ loop-table-preserved g c =
     let m = pages_of (V c.loop-table.records.store) c.loop-table.records in
     let q = pages_of (V c.clear_table.new.records.store) c.clear_table.new.records in
     let clears = subst (λ (s : Shape). Clears g.S.EawStore.tells (g.S.EawStore.opens s) g.K.KeyIndex.index c.args.seats.now c.args.caller (IsOfTable c.in-Some.name) (pages_of (g.S.EawStore.view c.loop-table.records.store) c.loop-table.records)
-    (pages_of (g.S.EawStore.view c.clear_table.new.records.store) c.clear_table.new.records) (Ok c.in-Ok.more)) c.loop-table.invariant.shape c.in-Ok.ensures.clears in
+    (pages_of (g.S.EawStore.view c.clear_table.new.records.store) c.clear_table.new.records) (Ok c.in_ok-more.more)) c.loop-table.invariant.shape c.in_ok-more.ensures.clears in
     let at = ap (λ (ns : List (List ℕ)). slice_get ns c.loop-table.table) (sym c.names-in-loop-table.ensures) ∙ (sym c.name.ensures ∙ c.in-Some.is) in
-    let on = going_more T E I c.args.seats.now c.args.caller p c.requires.alive (IsOfFirst names c.loop-table.table) c.loop-table.taken m c.loop-table.invariant q (IsOfTable c.in-Some.name) c.in-Ok.more clears
+    let on = going_more T E I c.args.seats.now c.args.caller p c.requires.alive (IsOfFirst names c.loop-table.table) c.loop-table.taken m c.loop-table.invariant q (IsOfTable c.in-Some.name) c.in_ok-more.more clears
     (λ told. first_before names c.loop-table.table c.in-Some.name at) in
-    going_to T E I c.args.seats.now c.args.caller (c.loop-table.taken + c.in-Ok.more) c.saturating_add-taken.result _ (IsOfFirst names (c.loop-table.table + 1)) p q
-    (λ told. sum_is c.loop-table.taken c.in-Ok.more c.saturating_add-taken.result c.saturating_add-taken.ensures
-    (counted_more T E I c.args.seats.now c.args.caller p c.requires.alive (IsOfFirst names c.loop-table.table) c.loop-table.taken m c.loop-table.invariant q (IsOfTable c.in-Some.name) c.in-Ok.more clears told (c.requires.ready told)))
+    going_to T E I c.args.seats.now c.args.caller (c.loop-table.taken + c.in_ok-more.more) c.saturating_add-taken.result _ (IsOfFirst names (c.loop-table.table + 1)) p q
+    (λ told. sum_is c.loop-table.taken c.in_ok-more.more c.saturating_add-taken.result c.saturating_add-taken.ensures
+    (counted_more T E I c.args.seats.now c.args.caller p c.requires.alive (IsOfFirst names c.loop-table.table) c.loop-table.taken m c.loop-table.invariant q (IsOfTable c.in-Some.name) c.in_ok-more.more clears told (c.requires.ready told)))
     (λ told key of is. first_more names c.loop-table.table c.in-Some.name at key of) (λ told. first_both names c.loop-table.table c.in-Some.name at) on
 
-pub returns-in-Err : goal.returns-in-Err
-returns-in-Err g c =
+pub returns-in_err-more : goal.returns-in_err-more
+returns-in_err-more g c =
+    let exit = err_from_is_err_and c.from_residual.result c.from_residual.ensures.1 in
+    rw (exit.1, exit.2) (
     let V = g.S.EawStore.view in
     let names = c.args.seats.now.names in
     let p = pages_of (V c.args.records.now.store) c.args.records.now in
     let m = pages_of (V c.loop-table.records.store) c.loop-table.records in
     let q = pages_of (V c.clear_table.new.records.store) c.clear_table.new.records in
     let clears = subst (λ (s : Shape). Clears g.S.EawStore.tells (g.S.EawStore.opens s) g.K.KeyIndex.index c.args.seats.now c.args.caller (IsOfTable c.in-Some.name) (pages_of (g.S.EawStore.view c.loop-table.records.store) c.loop-table.records)
-    (pages_of (g.S.EawStore.view c.clear_table.new.records.store) c.clear_table.new.records) (Err c.in-Err.fault)) c.loop-table.invariant.shape c.in-Err.ensures.clears in
+    (pages_of (g.S.EawStore.view c.clear_table.new.records.store) c.clear_table.new.records) (Err c.in_err-more.field-0.0)) c.loop-table.invariant.shape c.in_err-more.ensures.clears in
     record {
       clears = more_refused g.S.EawStore.tells (g.S.EawStore.opens (V c.args.records.now.store).shape) g.K.KeyIndex.index c.args.seats.now c.args.caller p c.requires.alive (IsOfFirst names c.loop-table.table) c.loop-table.taken m c.loop-table.invariant q (IsOfTable c.in-Some.name)
-          (IsOfFirst names (length names)) c.in-Err.fault clears;
-    }
+          (IsOfFirst names (length names)) c.in_err-more.field-0.0 clears;
+    })
 
 pub returns : goal.returns
 returns g c =

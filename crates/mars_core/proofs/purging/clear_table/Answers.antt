@@ -13,6 +13,7 @@ use Rattle.record_table.specs.declared.fault.TableFault.{TableFault}
 use Rattle.mars_core.specs.Purging.{IsBelow, IsOfTable, Tries}
 use Rattle.mars_core.proofs.Clearing.{one_if, going_first, going_look, going_on, going_to, next_still, all_tried, counted, was_absent, look_refused, try_refused}
 use Rattle.mars_core.proofs.Passing.{there, all_below, below_next, below_none, below_more, below_both, below_before}
+use Rattle.std.proofs.lemmas.Result.{err_from_is_err_and}
 use Rattle.mars_core.proofs.purging.clear_table.Goals as goal
 
 -- what is found is found in the table of this name
@@ -21,8 +22,8 @@ named_next : (names : List (List ℕ)) (table : ℕ) (name : List ℕ) (index : 
 named_next names table name index bytes from found same at next =
     subst (λ (n : List ℕ). IsNextAbsent index bytes n from found) (ap (λ (ns : List (List ℕ)). unwrap_or (slice_get ns table) []) same ∙ ap (λ (o : Option (List ℕ)). unwrap_or o []) at) next
 
-pub returns-in-Ok-None : goal.returns-in-Ok-None
-returns-in-Ok-None g c =
+pub returns-in_default : goal.returns-in_default
+returns-in_default g c =
     let V = g.S.EawStore.view in
     let T = g.S.EawStore.tells in
     let I = g.K.KeyIndex.index in
@@ -30,9 +31,9 @@ returns-in-Ok-None g c =
     let p = pages_of (V c.args.records.now.store) c.args.records.now in
     let m = pages_of (V c.loop-key.records.store) c.loop-key.records in
     let q = pages_of (V c.next_absent.new.self.store) c.next_absent.new.self in
-    let looks = subst (λ (s : Shape). Looks g.S.EawStore.tells (g.S.EawStore.opens s) false (pages_of (g.S.EawStore.view c.loop-key.records.store) c.loop-key.records) (pages_of (g.S.EawStore.view c.next_absent.new.self.store) c.next_absent.new.self)) c.loop-key.invariant.0.shape c.in-Ok-None.ensures.looks in
+    let looks = subst (λ (s : Shape). Looks g.S.EawStore.tells (g.S.EawStore.opens s) false (pages_of (g.S.EawStore.view c.loop-key.records.store) c.loop-key.records) (pages_of (g.S.EawStore.view c.next_absent.new.self.store) c.next_absent.new.self)) c.loop-key.invariant.0.shape c.in_ok-key.ensures.looks in
     let going = going_look T E I c.args.seats.now c.args.caller p c.requires.alive (IsBelow c.args.name.now c.loop-key.from) c.loop-key.taken m c.loop-key.invariant.0 q looks in
-    let next = λ (told : IsTrue g.S.EawStore.tells). next_still T E I m q c.args.name.now c.loop-key.from (None) looks told (named_next c.args.seats.now.names c.args.table c.args.name.now I (V c.loop-key.records.store).state.bytes c.loop-key.from (None) (c.loop-key.invariant.0.ready told).named c.requires.named (rw c.in-Ok-None.field-0-is at (c.in-Ok-None.ensures.next told))) in
+    let next = λ (told : IsTrue g.S.EawStore.tells). next_still T E I m q c.args.name.now c.loop-key.from (None) looks told (named_next c.args.seats.now.names c.args.table c.args.name.now I (V c.loop-key.records.store).state.bytes c.loop-key.from (None) (c.loop-key.invariant.0.ready told).named c.requires.named (rw c.in_default.is at (c.in_ok-key.ensures.next told))) in
     record {
       clears = all_tried T E I c.args.seats.now c.args.caller p c.requires.alive (IsBelow c.args.name.now c.loop-key.from) c.loop-key.taken q going (IsOfTable c.args.name.now) (λ told. all_below I q.store.state.bytes c.args.name.now c.loop-key.from (next told))
           (λ told. below_more c.args.name.now c.loop-key.from (2 ^ 64) (omega (arith, c.loop-key.invariant.1)));
@@ -51,7 +52,7 @@ try_key-requires-clause-ready g c =
     let p = pages_of (V c.args.records.now.store) c.args.records.now in
     let m = pages_of (V c.loop-key.records.store) c.loop-key.records in
     let q = pages_of (V c.next_absent.new.self.store) c.next_absent.new.self in
-    let looks = subst (λ (s : Shape). Looks g.S.EawStore.tells (g.S.EawStore.opens s) false (pages_of (g.S.EawStore.view c.loop-key.records.store) c.loop-key.records) (pages_of (g.S.EawStore.view c.next_absent.new.self.store) c.next_absent.new.self)) c.loop-key.invariant.0.shape c.in-Ok-Some.ensures.looks in
+    let looks = subst (λ (s : Shape). Looks g.S.EawStore.tells (g.S.EawStore.opens s) false (pages_of (g.S.EawStore.view c.loop-key.records.store) c.loop-key.records) (pages_of (g.S.EawStore.view c.next_absent.new.self.store) c.next_absent.new.self)) c.loop-key.invariant.0.shape c.in_ok-key.ensures.looks in
     (going_look T E I c.args.seats.now c.args.caller p c.requires.alive (IsBelow c.args.name.now c.loop-key.from) c.loop-key.taken m c.loop-key.invariant.0 q looks).ready
 
 pub try_key-requires-clause-absent : goal.try_key-requires-clause-absent
@@ -63,8 +64,8 @@ try_key-requires-clause-absent g c =
     let p = pages_of (V c.args.records.now.store) c.args.records.now in
     let m = pages_of (V c.loop-key.records.store) c.loop-key.records in
     let q = pages_of (V c.next_absent.new.self.store) c.next_absent.new.self in
-    let looks = subst (λ (s : Shape). Looks g.S.EawStore.tells (g.S.EawStore.opens s) false (pages_of (g.S.EawStore.view c.loop-key.records.store) c.loop-key.records) (pages_of (g.S.EawStore.view c.next_absent.new.self.store) c.next_absent.new.self)) c.loop-key.invariant.0.shape c.in-Ok-Some.ensures.looks in
-    let next = λ (told : IsTrue g.S.EawStore.tells). next_still T E I m q c.args.name.now c.loop-key.from (Some c.in-Ok-Some.key) looks told (named_next c.args.seats.now.names c.args.table c.args.name.now I (V c.loop-key.records.store).state.bytes c.loop-key.from (Some c.in-Ok-Some.key) (c.loop-key.invariant.0.ready told).named c.requires.named (rw c.in-Ok-Some.field-0-is at (c.in-Ok-Some.ensures.next told))) in
+    let looks = subst (λ (s : Shape). Looks g.S.EawStore.tells (g.S.EawStore.opens s) false (pages_of (g.S.EawStore.view c.loop-key.records.store) c.loop-key.records) (pages_of (g.S.EawStore.view c.next_absent.new.self.store) c.next_absent.new.self)) c.loop-key.invariant.0.shape c.in_ok-key.ensures.looks in
+    let next = λ (told : IsTrue g.S.EawStore.tells). next_still T E I m q c.args.name.now c.loop-key.from (Some c.in-Some.key) looks told (named_next c.args.seats.now.names c.args.table c.args.name.now I (V c.loop-key.records.store).state.bytes c.loop-key.from (Some c.in-Some.key) (c.loop-key.invariant.0.ready told).named c.requires.named (rw c.in-Some.is at (c.in_ok-key.ensures.next told))) in
     (λ told. (next told).1)
 
 -- the count after a key was tried
@@ -81,19 +82,19 @@ loop-key-preserved g c =
     let p = pages_of (V c.args.records.now.store) c.args.records.now in
     let m = pages_of (V c.loop-key.records.store) c.loop-key.records in
     let q = pages_of (V c.next_absent.new.self.store) c.next_absent.new.self in
-    let looks = subst (λ (s : Shape). Looks g.S.EawStore.tells (g.S.EawStore.opens s) false (pages_of (g.S.EawStore.view c.loop-key.records.store) c.loop-key.records) (pages_of (g.S.EawStore.view c.next_absent.new.self.store) c.next_absent.new.self)) c.loop-key.invariant.0.shape c.in-Ok-Some.ensures.looks in
+    let looks = subst (λ (s : Shape). Looks g.S.EawStore.tells (g.S.EawStore.opens s) false (pages_of (g.S.EawStore.view c.loop-key.records.store) c.loop-key.records) (pages_of (g.S.EawStore.view c.next_absent.new.self.store) c.next_absent.new.self)) c.loop-key.invariant.0.shape c.in_ok-key.ensures.looks in
     let going = going_look T E I c.args.seats.now c.args.caller p c.requires.alive (IsBelow c.args.name.now c.loop-key.from) c.loop-key.taken m c.loop-key.invariant.0 q looks in
-    let next = λ (told : IsTrue g.S.EawStore.tells). next_still T E I m q c.args.name.now c.loop-key.from (Some c.in-Ok-Some.key) looks told (named_next c.args.seats.now.names c.args.table c.args.name.now I (V c.loop-key.records.store).state.bytes c.loop-key.from (Some c.in-Ok-Some.key) (c.loop-key.invariant.0.ready told).named c.requires.named (rw c.in-Ok-Some.field-0-is at (c.in-Ok-Some.ensures.next told))) in
+    let next = λ (told : IsTrue g.S.EawStore.tells). next_still T E I m q c.args.name.now c.loop-key.from (Some c.in-Some.key) looks told (named_next c.args.seats.now.names c.args.table c.args.name.now I (V c.loop-key.records.store).state.bytes c.loop-key.from (Some c.in-Some.key) (c.loop-key.invariant.0.ready told).named c.requires.named (rw c.in-Some.is at (c.in_ok-key.ensures.next told))) in
     let r = pages_of (V c.try_key.new.records.store) c.try_key.new.records in
-    let key = of_table c.args.name.now c.in-Ok-Some.key in
-    let tries = subst (λ (s : Shape). Tries g.S.EawStore.tells (g.S.EawStore.opens s) g.K.KeyIndex.index c.args.seats.now c.args.table (of_table c.args.name.now c.in-Ok-Some.key) (pages_of (g.S.EawStore.view c.next_absent.new.self.store) c.next_absent.new.self) (pages_of (g.S.EawStore.view c.try_key.new.records.store) c.try_key.new.records) (Ok c.in-Ok.was)) going.shape c.in-Ok.ensures.tries in
-    let on = going_on T E I c.args.seats.now c.args.caller p c.requires.alive (IsBelow c.args.name.now c.loop-key.from) c.loop-key.taken q going c.args.table key r (λ told. (next told).1) c.in-Ok.was tries
-    (λ told. below_before c.args.seats.now.names c.args.name.now c.loop-key.from c.in-Ok-Some.key (next told).0) in
-    let count = λ (told : IsTrue g.S.EawStore.tells). count_is c.in-Ok.was c.loop-key.taken c.from.result c.saturating_add-taken.result c.from.ensures c.saturating_add-taken.ensures (counted T E I c.args.seats.now c.args.caller p c.requires.alive (IsBelow c.args.name.now c.loop-key.from) c.loop-key.taken q going c.args.table key r (λ told. (next told).1) c.in-Ok.was tries told (c.requires.ready told)) in
-    let passed = λ (told : IsTrue g.S.EawStore.tells) (to : ℕ) (le : to ≤ suc c.in-Ok-Some.key) (one : Key) (below : IsBelow c.args.name.now to one) (is : IsAbsent g.K.KeyIndex.index (g.S.EawStore.view c.try_key.new.records.store).state.bytes one).
-    below_next I q.store.state.bytes c.args.name.now c.loop-key.from c.in-Ok-Some.key (next told).2 one (below.0, omega (arith, le, below.1)) (was_absent T E I c.args.seats.now c.args.caller p c.requires.alive (IsBelow c.args.name.now c.loop-key.from) c.loop-key.taken q going c.args.table key r (λ told. (next told).1) c.in-Ok.was tries told one is) in (
-      going_to T E I c.args.seats.now c.args.caller (c.loop-key.taken + one_if c.in-Ok.was) c.saturating_add-taken.result _ (IsBelow c.args.name.now (c.in-Ok-Some.key + 1)) p r count (λ told. passed told (c.in-Ok-Some.key + 1) (omega arith))
-          (λ told. below_both c.args.name.now c.loop-key.from c.in-Ok-Some.key (c.in-Ok-Some.key + 1) (next told).0 (omega arith)) on,
+    let key = of_table c.args.name.now c.in-Some.key in
+    let tries = subst (λ (s : Shape). Tries g.S.EawStore.tells (g.S.EawStore.opens s) g.K.KeyIndex.index c.args.seats.now c.args.table (of_table c.args.name.now c.in-Some.key) (pages_of (g.S.EawStore.view c.next_absent.new.self.store) c.next_absent.new.self) (pages_of (g.S.EawStore.view c.try_key.new.records.store) c.try_key.new.records) (Ok c.in_ok-was.was')) going.shape c.in_ok-was.ensures.tries in
+    let on = going_on T E I c.args.seats.now c.args.caller p c.requires.alive (IsBelow c.args.name.now c.loop-key.from) c.loop-key.taken q going c.args.table key r (λ told. (next told).1) c.in_ok-was.was' tries
+    (λ told. below_before c.args.seats.now.names c.args.name.now c.loop-key.from c.in-Some.key (next told).0) in
+    let count = λ (told : IsTrue g.S.EawStore.tells). count_is c.in_ok-was.was' c.loop-key.taken c.from.result c.saturating_add-taken.result c.from.ensures c.saturating_add-taken.ensures (counted T E I c.args.seats.now c.args.caller p c.requires.alive (IsBelow c.args.name.now c.loop-key.from) c.loop-key.taken q going c.args.table key r (λ told. (next told).1) c.in_ok-was.was' tries told (c.requires.ready told)) in
+    let passed = λ (told : IsTrue g.S.EawStore.tells) (to : ℕ) (le : to ≤ suc c.in-Some.key) (one : Key) (below : IsBelow c.args.name.now to one) (is : IsAbsent g.K.KeyIndex.index (g.S.EawStore.view c.try_key.new.records.store).state.bytes one).
+    below_next I q.store.state.bytes c.args.name.now c.loop-key.from c.in-Some.key (next told).2 one (below.0, omega (arith, le, below.1)) (was_absent T E I c.args.seats.now c.args.caller p c.requires.alive (IsBelow c.args.name.now c.loop-key.from) c.loop-key.taken q going c.args.table key r (λ told. (next told).1) c.in_ok-was.was' tries told one is) in (
+      going_to T E I c.args.seats.now c.args.caller (c.loop-key.taken + one_if c.in_ok-was.was') c.saturating_add-taken.result _ (IsBelow c.args.name.now (c.in-Some.key + 1)) p r count (λ told. passed told (c.in-Some.key + 1) (omega arith))
+          (λ told. below_both c.args.name.now c.loop-key.from c.in-Some.key (c.in-Some.key + 1) (next told).0 (omega arith)) on,
       omega arith,
     )
 
@@ -106,21 +107,21 @@ returns-then-key g c =
     let p = pages_of (V c.args.records.now.store) c.args.records.now in
     let m = pages_of (V c.loop-key.records.store) c.loop-key.records in
     let q = pages_of (V c.next_absent.new.self.store) c.next_absent.new.self in
-    let looks = subst (λ (s : Shape). Looks g.S.EawStore.tells (g.S.EawStore.opens s) false (pages_of (g.S.EawStore.view c.loop-key.records.store) c.loop-key.records) (pages_of (g.S.EawStore.view c.next_absent.new.self.store) c.next_absent.new.self)) c.loop-key.invariant.0.shape c.in-Ok-Some.ensures.looks in
+    let looks = subst (λ (s : Shape). Looks g.S.EawStore.tells (g.S.EawStore.opens s) false (pages_of (g.S.EawStore.view c.loop-key.records.store) c.loop-key.records) (pages_of (g.S.EawStore.view c.next_absent.new.self.store) c.next_absent.new.self)) c.loop-key.invariant.0.shape c.in_ok-key.ensures.looks in
     let going = going_look T E I c.args.seats.now c.args.caller p c.requires.alive (IsBelow c.args.name.now c.loop-key.from) c.loop-key.taken m c.loop-key.invariant.0 q looks in
-    let next = λ (told : IsTrue g.S.EawStore.tells). next_still T E I m q c.args.name.now c.loop-key.from (Some c.in-Ok-Some.key) looks told (named_next c.args.seats.now.names c.args.table c.args.name.now I (V c.loop-key.records.store).state.bytes c.loop-key.from (Some c.in-Ok-Some.key) (c.loop-key.invariant.0.ready told).named c.requires.named (rw c.in-Ok-Some.field-0-is at (c.in-Ok-Some.ensures.next told))) in
+    let next = λ (told : IsTrue g.S.EawStore.tells). next_still T E I m q c.args.name.now c.loop-key.from (Some c.in-Some.key) looks told (named_next c.args.seats.now.names c.args.table c.args.name.now I (V c.loop-key.records.store).state.bytes c.loop-key.from (Some c.in-Some.key) (c.loop-key.invariant.0.ready told).named c.requires.named (rw c.in-Some.is at (c.in_ok-key.ensures.next told))) in
     let r = pages_of (V c.try_key.new.records.store) c.try_key.new.records in
-    let key = of_table c.args.name.now c.in-Ok-Some.key in
-    let tries = subst (λ (s : Shape). Tries g.S.EawStore.tells (g.S.EawStore.opens s) g.K.KeyIndex.index c.args.seats.now c.args.table (of_table c.args.name.now c.in-Ok-Some.key) (pages_of (g.S.EawStore.view c.next_absent.new.self.store) c.next_absent.new.self) (pages_of (g.S.EawStore.view c.try_key.new.records.store) c.try_key.new.records) (Ok c.in-Ok.was)) going.shape c.in-Ok.ensures.tries in
-    let on = going_on T E I c.args.seats.now c.args.caller p c.requires.alive (IsBelow c.args.name.now c.loop-key.from) c.loop-key.taken q going c.args.table key r (λ told. (next told).1) c.in-Ok.was tries
-    (λ told. below_before c.args.seats.now.names c.args.name.now c.loop-key.from c.in-Ok-Some.key (next told).0) in
-    let count = λ (told : IsTrue g.S.EawStore.tells). count_is c.in-Ok.was c.loop-key.taken c.from.result c.saturating_add-taken.result c.from.ensures c.saturating_add-taken.ensures (counted T E I c.args.seats.now c.args.caller p c.requires.alive (IsBelow c.args.name.now c.loop-key.from) c.loop-key.taken q going c.args.table key r (λ told. (next told).1) c.in-Ok.was tries told (c.requires.ready told)) in
-    let passed = λ (told : IsTrue g.S.EawStore.tells) (to : ℕ) (le : to ≤ suc c.in-Ok-Some.key) (one : Key) (below : IsBelow c.args.name.now to one) (is : IsAbsent g.K.KeyIndex.index (g.S.EawStore.view c.try_key.new.records.store).state.bytes one).
-    below_next I q.store.state.bytes c.args.name.now c.loop-key.from c.in-Ok-Some.key (next told).2 one (below.0, omega (arith, le, below.1)) (was_absent T E I c.args.seats.now c.args.caller p c.requires.alive (IsBelow c.args.name.now c.loop-key.from) c.loop-key.taken q going c.args.table key r (λ told. (next told).1) c.in-Ok.was tries told one is) in
+    let key = of_table c.args.name.now c.in-Some.key in
+    let tries = subst (λ (s : Shape). Tries g.S.EawStore.tells (g.S.EawStore.opens s) g.K.KeyIndex.index c.args.seats.now c.args.table (of_table c.args.name.now c.in-Some.key) (pages_of (g.S.EawStore.view c.next_absent.new.self.store) c.next_absent.new.self) (pages_of (g.S.EawStore.view c.try_key.new.records.store) c.try_key.new.records) (Ok c.in_ok-was.was')) going.shape c.in_ok-was.ensures.tries in
+    let on = going_on T E I c.args.seats.now c.args.caller p c.requires.alive (IsBelow c.args.name.now c.loop-key.from) c.loop-key.taken q going c.args.table key r (λ told. (next told).1) c.in_ok-was.was' tries
+    (λ told. below_before c.args.seats.now.names c.args.name.now c.loop-key.from c.in-Some.key (next told).0) in
+    let count = λ (told : IsTrue g.S.EawStore.tells). count_is c.in_ok-was.was' c.loop-key.taken c.from.result c.saturating_add-taken.result c.from.ensures c.saturating_add-taken.ensures (counted T E I c.args.seats.now c.args.caller p c.requires.alive (IsBelow c.args.name.now c.loop-key.from) c.loop-key.taken q going c.args.table key r (λ told. (next told).1) c.in_ok-was.was' tries told (c.requires.ready told)) in
+    let passed = λ (told : IsTrue g.S.EawStore.tells) (to : ℕ) (le : to ≤ suc c.in-Some.key) (one : Key) (below : IsBelow c.args.name.now to one) (is : IsAbsent g.K.KeyIndex.index (g.S.EawStore.view c.try_key.new.records.store).state.bytes one).
+    below_next I q.store.state.bytes c.args.name.now c.loop-key.from c.in-Some.key (next told).2 one (below.0, omega (arith, le, below.1)) (was_absent T E I c.args.seats.now c.args.caller p c.requires.alive (IsBelow c.args.name.now c.loop-key.from) c.loop-key.taken q going c.args.table key r (λ told. (next told).1) c.in_ok-was.was' tries told one is) in
     record {
       clears = all_tried T E I c.args.seats.now c.args.caller p c.requires.alive (IsBelow c.args.name.now (2 ^ 64)) c.saturating_add-taken.result r
-          (going_to T E I c.args.seats.now c.args.caller (c.loop-key.taken + one_if c.in-Ok.was) c.saturating_add-taken.result _ (IsBelow c.args.name.now (2 ^ 64)) p r count (λ told. passed told (2 ^ 64) (omega (arith, c.if-key.true)))
-          (λ told. below_both c.args.name.now c.loop-key.from c.in-Ok-Some.key (2 ^ 64) (next told).0 (omega (arith, c.if-key.true))) on)
+          (going_to T E I c.args.seats.now c.args.caller (c.loop-key.taken + one_if c.in_ok-was.was') c.saturating_add-taken.result _ (IsBelow c.args.name.now (2 ^ 64)) p r count (λ told. passed told (2 ^ 64) (omega (arith, c.if-key.true)))
+          (λ told. below_both c.args.name.now c.loop-key.from c.in-Some.key (2 ^ 64) (next told).0 (omega (arith, c.if-key.true))) on)
           (IsOfTable c.args.name.now) (λ told one wanted is. wanted) (λ told one passed. passed);
     }
 
@@ -130,8 +131,10 @@ loop-key-init g c =
     let p = pages_of (V c.args.records.now.store) c.args.records.now in
     (going_first g.S.EawStore.tells (g.S.EawStore.opens (V c.args.records.now.store).shape) g.K.KeyIndex.index c.args.seats.now c.args.caller p c.requires.alive (IsBelow c.args.name.now 0) (below_none c.args.name.now) c.requires.ready, omega arith)
 
-pub returns-in-Err : goal.returns-in-Err
-returns-in-Err g c =
+pub returns-in_err-key : goal.returns-in_err-key
+returns-in_err-key g c =
+    let exit = err_from_is_err_and c.from_residual.result c.from_residual.ensures.1 in
+    rw (exit.1, exit.2) (
     let V = g.S.EawStore.view in
     let T = g.S.EawStore.tells in
     let I = g.K.KeyIndex.index in
@@ -139,11 +142,13 @@ returns-in-Err g c =
     let p = pages_of (V c.args.records.now.store) c.args.records.now in
     let m = pages_of (V c.loop-key.records.store) c.loop-key.records in
     let q = pages_of (V c.next_absent.new.self.store) c.next_absent.new.self in
-    let looks = subst (λ (s : Shape). Looks g.S.EawStore.tells (g.S.EawStore.opens s) (let r : Result (Option ℕ) TableFault = Err c.in-Err.fault in is_failed r) (pages_of (g.S.EawStore.view c.loop-key.records.store) c.loop-key.records) (pages_of (g.S.EawStore.view c.next_absent.new.self.store) c.next_absent.new.self)) c.loop-key.invariant.0.shape c.in-Err.ensures.looks in
-    record { clears = look_refused T E I c.args.seats.now c.args.caller p c.requires.alive (IsBelow c.args.name.now c.loop-key.from) c.loop-key.taken m c.loop-key.invariant.0 (IsOfTable c.args.name.now) q c.in-Err.fault (looks, c.in-Err.ensures.cause) }
+    let looks = subst (λ (s : Shape). Looks g.S.EawStore.tells (g.S.EawStore.opens s) (let r : Result (Option ℕ) TableFault = Err c.in_err-key.field-0.0 in is_failed r) (pages_of (g.S.EawStore.view c.loop-key.records.store) c.loop-key.records) (pages_of (g.S.EawStore.view c.next_absent.new.self.store) c.next_absent.new.self)) c.loop-key.invariant.0.shape c.in_err-key.ensures.looks in
+    record { clears = look_refused T E I c.args.seats.now c.args.caller p c.requires.alive (IsBelow c.args.name.now c.loop-key.from) c.loop-key.taken m c.loop-key.invariant.0 (IsOfTable c.args.name.now) q c.in_err-key.field-0.0 (looks, c.in_err-key.ensures.cause) })
 
-pub returns-in-Err-try_key : goal.returns-in-Err-try_key
-returns-in-Err-try_key g c =
+pub returns-in_err-was : goal.returns-in_err-was
+returns-in_err-was g c =
+    let exit = err_from_is_err_and c.from_residual-in_err-was.result c.from_residual-in_err-was.ensures.1 in
+    rw (exit.1, exit.2) (
     let V = g.S.EawStore.view in
     let T = g.S.EawStore.tells in
     let I = g.K.KeyIndex.index in
@@ -151,9 +156,9 @@ returns-in-Err-try_key g c =
     let p = pages_of (V c.args.records.now.store) c.args.records.now in
     let m = pages_of (V c.loop-key.records.store) c.loop-key.records in
     let q = pages_of (V c.next_absent.new.self.store) c.next_absent.new.self in
-    let looks = subst (λ (s : Shape). Looks g.S.EawStore.tells (g.S.EawStore.opens s) false (pages_of (g.S.EawStore.view c.loop-key.records.store) c.loop-key.records) (pages_of (g.S.EawStore.view c.next_absent.new.self.store) c.next_absent.new.self)) c.loop-key.invariant.0.shape c.in-Ok-Some.ensures.looks in
+    let looks = subst (λ (s : Shape). Looks g.S.EawStore.tells (g.S.EawStore.opens s) false (pages_of (g.S.EawStore.view c.loop-key.records.store) c.loop-key.records) (pages_of (g.S.EawStore.view c.next_absent.new.self.store) c.next_absent.new.self)) c.loop-key.invariant.0.shape c.in_ok-key.ensures.looks in
     let going = going_look T E I c.args.seats.now c.args.caller p c.requires.alive (IsBelow c.args.name.now c.loop-key.from) c.loop-key.taken m c.loop-key.invariant.0 q looks in
     let r = pages_of (V c.try_key.new.records.store) c.try_key.new.records in
-    let key = of_table c.args.name.now c.in-Ok-Some.key in
-    let tries = subst (λ (s : Shape). Tries g.S.EawStore.tells (g.S.EawStore.opens s) g.K.KeyIndex.index c.args.seats.now c.args.table (of_table c.args.name.now c.in-Ok-Some.key) (pages_of (g.S.EawStore.view c.next_absent.new.self.store) c.next_absent.new.self) (pages_of (g.S.EawStore.view c.try_key.new.records.store) c.try_key.new.records) (Err c.in-Err-try_key.fault)) going.shape c.in-Err-try_key.ensures.tries in
-    record { clears = try_refused T E I c.args.seats.now c.args.caller p c.requires.alive (IsBelow c.args.name.now c.loop-key.from) c.loop-key.taken q going c.args.table key r (IsOfTable c.args.name.now) c.in-Err-try_key.fault tries }
+    let key = of_table c.args.name.now c.in-Some.key in
+    let tries = subst (λ (s : Shape). Tries g.S.EawStore.tells (g.S.EawStore.opens s) g.K.KeyIndex.index c.args.seats.now c.args.table (of_table c.args.name.now c.in-Some.key) (pages_of (g.S.EawStore.view c.next_absent.new.self.store) c.next_absent.new.self) (pages_of (g.S.EawStore.view c.try_key.new.records.store) c.try_key.new.records) (Err c.in_err-was.field-0.0)) going.shape c.in_err-was.ensures.tries in
+    record { clears = try_refused T E I c.args.seats.now c.args.caller p c.requires.alive (IsBelow c.args.name.now c.loop-key.from) c.loop-key.taken q going c.args.table key r (IsOfTable c.args.name.now) c.in_err-was.field-0.0 tries })

@@ -21,16 +21,16 @@ laws_at g store = record {
 pub invariant_of-result : goal.invariant_of-result
 invariant_of-result g c =
     let V = g.S.EawStore.view in
-    let after = c.in-Ok-upgraded.records in
+    let after = c.in_ok-records.records in
     opened_keeps g.S.EawStore.tells g.S.EawStore.opens g.K.KeyIndex.index (pages_of (V c.args.records.store) c.args.records) (pages_of (V after.store) after) (laws_at g after.store) c.requires.alive c.requires.sound c.requires.idle c.requires.unsaved c.requires.unmarked
-    c.in-Ok-upgraded.ensures.upgrades c.in-Ok.base (λ told. ap records_in c.in-Ok.ensures ∙ c.requires.base told) c.requires.free c.in-Ok-new.seats (λ told. c.in-Ok-new.ensures.names ∙ c.names.ensures.names told c.requires.alive) (c.in-Ok-new.ensures.count ∙ ap (λ (h : Shape). h.numbers) c.shape.ensures) c.in-Ok-new.ensures.none c.in-Ok-new.ensures.unoffered c.new-2.result.items c.new-2.ensures.items c.none.result c.none.ensures
+    c.in_ok-records.ensures.upgrades c.in-Ok.base (λ told. ap records_in c.in-Ok.ensures ∙ c.requires.base told) c.requires.free c.in-Ok-new.seats (λ told. c.in-Ok-new.ensures.names ∙ c.names.ensures.names told c.requires.alive) (c.in-Ok-new.ensures.count ∙ ap (λ (h : Shape). h.numbers) c.shape.ensures) c.in-Ok-new.ensures.none c.in-Ok-new.ensures.unoffered c.new-2.result.items c.new-2.ensures.items c.none.result c.none.ensures
 
 pub returns-clause-begins : goal.returns-clause-begins
 returns-clause-begins g c =
     let V = g.S.EawStore.view in
-    let after = c.in-Ok-upgraded.records in
+    let after = c.in_ok-records.records in
     opened_begins g.S.EawStore.tells g.S.EawStore.opens g.K.KeyIndex.index (pages_of (V c.args.records.store) c.args.records) (pages_of (V after.store) after) (laws_at g after.store) c.requires.alive c.requires.sound c.requires.idle c.requires.unsaved c.requires.unmarked
-    c.in-Ok-upgraded.ensures.upgrades c.in-Ok.base (λ told. ap records_in c.in-Ok.ensures ∙ c.requires.base told) c.requires.free c.in-Ok-new.seats (λ told. c.in-Ok-new.ensures.names ∙ c.names.ensures.names told c.requires.alive) (c.in-Ok-new.ensures.count ∙ ap (λ (h : Shape). h.numbers) c.shape.ensures) c.in-Ok-new.ensures.none c.in-Ok-new.ensures.unoffered c.new-2.result.items c.new-2.ensures.items c.none.result c.none.ensures
+    c.in_ok-records.ensures.upgrades c.in-Ok.base (λ told. ap records_in c.in-Ok.ensures ∙ c.requires.base told) c.requires.free c.in-Ok-new.seats (λ told. c.in-Ok-new.ensures.names ∙ c.names.ensures.names told c.requires.alive) (c.in-Ok-new.ensures.count ∙ ap (λ (h : Shape). h.numbers) c.shape.ensures) c.in-Ok-new.ensures.none c.in-Ok-new.ensures.unoffered c.new-2.result.items c.new-2.ensures.items c.none.result c.none.ensures
 
 pub returns-in-Err-clause-begins : goal.returns-in-Err-clause-begins
 returns-in-Err-clause-begins g c = tt

@@ -15,6 +15,7 @@ use Rattle.record_table.specs.Sought.{LooksAs}
 use Rattle.record_table.proofs.Made.{not_upgraded, ready_of, not_read, not_placed, not_written, far_holds, written}
 use Rattle.record_table.proofs.Sharing.{Laws}
 use Rattle.record_table.proofs.Blaming.{front_made, acted_front}
+use Rattle.std.proofs.lemmas.Result.{err_from_is_err_and}
 use Rattle.record_table.proofs.making.make.Goals as goal
 
 pub returns-in-Err-clause-makes : goal.returns-in-Err-clause-makes
@@ -69,8 +70,10 @@ returns-in-Err-read_front-clause-holds g c =
     let both = not_read T O I name v0 v1 v2 up c.in-Ok.ensures.holds c.in-Err-read_front.fault (failed, c.in-Err-read_front.ensures.cause) in
     both.1
 
-pub returns-in-Err-place_for-clause-makes : goal.returns-in-Err-place_for-clause-makes
-returns-in-Err-place_for-clause-makes g c =
+pub returns-in_err-number-clause-makes : goal.returns-in_err-number-clause-makes
+returns-in_err-number-clause-makes g c =
+    let exit = err_from_is_err_and c.from_residual.result c.from_residual.ensures.1 in
+    rw (exit.1, exit.2) (
     let V = g.S.EawStore.view in
     let T = g.S.EawStore.tells in
     let E = g.S.EawStore.opens in
@@ -91,10 +94,10 @@ returns-in-Err-place_for-clause-makes g c =
     let ready = ready_of T O I name v0 v1 v2 up c.in-Ok.ensures.holds looks in
     let says = λ (told : IsTrue T). subst (λ (s : State). SaysSuper (page_bytes s.bytes 0) front) (sym ((looks.same refl).still.state told)) (c.in-Ok-read_front.ensures.says told) in
     let long = λ (told : IsTrue T). g.met.S.EawStore.long now.store told in
-    not_placed T O I name laws v0 v2 ready front c.index_page_count.result says c.index_page_count.ensures.count long c.in-Err-place_for.fault c.in-Err-place_for.ensures.cause
+    not_placed T O I name laws v0 v2 ready front c.index_page_count.result says c.index_page_count.ensures.count long c.in_err-number.field-0.0 c.in_err-number.ensures.cause)
 
-pub returns-in-Err-place_for-clause-holds : goal.returns-in-Err-place_for-clause-holds
-returns-in-Err-place_for-clause-holds g c =
+pub returns-in_err-number-clause-holds : goal.returns-in_err-number-clause-holds
+returns-in_err-number-clause-holds g c =
     let V = g.S.EawStore.view in
     let T = g.S.EawStore.tells in
     let E = g.S.EawStore.opens in
@@ -166,7 +169,7 @@ returns-in-Err-write_table-clause-makes g c =
     let far = c.write_table.new.pages in
     let v3 = pages_of (V far.store) far in
     let after = c.with_table.result in
-    let number = c.in-Ok-place_for.number in
+    let number = c.in_ok-number.number in
     let half = c.index_page_count.result in
     let whole : IsWhole after = record {
       entries = omega arith;
@@ -178,7 +181,7 @@ returns-in-Err-write_table-clause-makes g c =
       free_pages = omega arith;
     } in
     let acts = subst (λ (s : Shape). (let r : Result (Unit {0}) PageFault = Err c.in-Err-write_table.fault in Acts T (E s) 0 (front.next_page ∷ 0 ∷ []) ((512 * front.next_page + 0, fresh_page 1) ∷ (512 * 0 + 0, super_bytes after) ∷ []) v2 v3 r)) ready.shape c.in-Err-write_table.ensures.acts in
-    rw c.refusal-in-Err-write_table.ensures (not_written T O I name laws v0 v2 ready front half says c.index_page_count.ensures.count long number c.in-Ok-place_for.ensures.cause after c.with_table.ensures.said c.with_table.ensures.tables c.with_table.ensures.has whole v3 (g.met.S.EawStore.shaped now.store).some_entries c.requires.free c.in-Err-write_table.fault acts).0
+    rw c.refusal-in-Err-write_table.ensures (not_written T O I name laws v0 v2 ready front half says c.index_page_count.ensures.count long number c.in_ok-number.ensures.cause after c.with_table.ensures.said c.with_table.ensures.tables c.with_table.ensures.has whole v3 (g.met.S.EawStore.shaped now.store).some_entries c.requires.free c.in-Err-write_table.fault acts).0
 
 pub end-requires-clause-closed : goal.end-requires-clause-closed
 end-requires-clause-closed g c =
@@ -205,7 +208,7 @@ end-requires-clause-closed g c =
     let far = c.write_table.new.pages in
     let v3 = pages_of (V far.store) far in
     let after = c.with_table.result in
-    let number = c.in-Ok-place_for.number in
+    let number = c.in_ok-number.number in
     let half = c.index_page_count.result in
     let whole : IsWhole after = record {
       entries = omega arith;
@@ -217,7 +220,7 @@ end-requires-clause-closed g c =
       free_pages = omega arith;
     } in
     let acts = subst (λ (s : Shape). (let r : Result (Unit {0}) PageFault = Ok tt in Acts T (E s) 0 (front.next_page ∷ 0 ∷ []) ((512 * front.next_page + 0, fresh_page 1) ∷ (512 * 0 + 0, super_bytes after) ∷ []) v2 v3 r)) ready.shape c.in-Ok-write_table.ensures.acts in
-    λ living. (far_holds T O I name laws v0 v2 ready front half says c.index_page_count.ensures.count long number c.in-Ok-place_for.ensures.cause after c.with_table.ensures.said c.with_table.ensures.tables c.with_table.ensures.has whole v3 acts living).closed 0
+    λ living. (far_holds T O I name laws v0 v2 ready front half says c.index_page_count.ensures.count long number c.in_ok-number.ensures.cause after c.with_table.ensures.said c.with_table.ensures.tables c.with_table.ensures.has whole v3 acts living).closed 0
 
 pub returns-in-Ok-end-clause-makes : goal.returns-in-Ok-end-clause-makes
 returns-in-Ok-end-clause-makes g c =
@@ -244,7 +247,7 @@ returns-in-Ok-end-clause-makes g c =
     let far = c.write_table.new.pages in
     let v3 = pages_of (V far.store) far in
     let after = c.with_table.result in
-    let number = c.in-Ok-place_for.number in
+    let number = c.in_ok-number.number in
     let half = c.index_page_count.result in
     let whole : IsWhole after = record {
       entries = omega arith;
@@ -259,7 +262,7 @@ returns-in-Ok-end-clause-makes g c =
     let new = c.end.new.self in
     let v4 = pages_of (V new.store) new in
     let does = subst (λ (s : Shape). (let r : Result (Unit {0}) PageFault = Ok tt in page_does.Does T (E s) (page.end 0 false) v3 v4 r)) (acts.shape ∙ ready.shape) c.in-Ok-end.ensures.does in
-    (written T O I name laws v0 v2 ready front half says c.index_page_count.ensures.count long number c.in-Ok-place_for.ensures.cause after c.with_table.ensures.said c.with_table.ensures.tables c.with_table.ensures.has whole v3 acts v4 does).0
+    (written T O I name laws v0 v2 ready front half says c.index_page_count.ensures.count long number c.in_ok-number.ensures.cause after c.with_table.ensures.said c.with_table.ensures.tables c.with_table.ensures.has whole v3 acts v4 does).0
 
 pub returns-in-Ok-end-clause-holds : goal.returns-in-Ok-end-clause-holds
 returns-in-Ok-end-clause-holds g c =
@@ -286,7 +289,7 @@ returns-in-Ok-end-clause-holds g c =
     let far = c.write_table.new.pages in
     let v3 = pages_of (V far.store) far in
     let after = c.with_table.result in
-    let number = c.in-Ok-place_for.number in
+    let number = c.in_ok-number.number in
     let half = c.index_page_count.result in
     let whole : IsWhole after = record {
       entries = omega arith;
@@ -301,7 +304,7 @@ returns-in-Ok-end-clause-holds g c =
     let new = c.end.new.self in
     let v4 = pages_of (V new.store) new in
     let does = subst (λ (s : Shape). (let r : Result (Unit {0}) PageFault = Ok tt in page_does.Does T (E s) (page.end 0 false) v3 v4 r)) (acts.shape ∙ ready.shape) c.in-Ok-end.ensures.does in
-    (written T O I name laws v0 v2 ready front half says c.index_page_count.ensures.count long number c.in-Ok-place_for.ensures.cause after c.with_table.ensures.said c.with_table.ensures.tables c.with_table.ensures.has whole v3 acts v4 does).1
+    (written T O I name laws v0 v2 ready front half says c.index_page_count.ensures.count long number c.in_ok-number.ensures.cause after c.with_table.ensures.said c.with_table.ensures.tables c.with_table.ensures.has whole v3 acts v4 does).1
 
 pub returns-in-Err-clause-blames : goal.returns-in-Err-clause-blames
 returns-in-Err-clause-blames g c = rw c.refusal.ensures (front_made (Unit {0}) c.in-Err.fault c.in-Err.ensures.blames)
@@ -309,8 +312,10 @@ returns-in-Err-clause-blames g c = rw c.refusal.ensures (front_made (Unit {0}) c
 pub returns-in-Err-read_front-clause-blames : goal.returns-in-Err-read_front-clause-blames
 returns-in-Err-read_front-clause-blames g c = rw c.refusal-in-Err-read_front.ensures (front_made Super c.in-Err-read_front.fault c.in-Err-read_front.ensures.blames)
 
-pub returns-in-Err-place_for-clause-blames : goal.returns-in-Err-place_for-clause-blames
-returns-in-Err-place_for-clause-blames g c = c.in-Err-place_for.ensures.blames
+pub returns-in_err-number-clause-blames : goal.returns-in_err-number-clause-blames
+returns-in_err-number-clause-blames g c =
+    let exit = err_from_is_err_and c.from_residual.result c.from_residual.ensures.1 in
+    rw (exit.1, exit.2) (c.in_err-number.ensures.blames)
 
 pub returns-in-Err-write_table-clause-blames : goal.returns-in-Err-write_table-clause-blames
 returns-in-Err-write_table-clause-blames g c = rw c.refusal-in-Err-write_table.ensures (front_made (Unit {0}) c.in-Err-write_table.fault (acted_front _ _ _ _ _ _ c.in-Err-write_table.fault c.in-Err-write_table.ensures.acts))

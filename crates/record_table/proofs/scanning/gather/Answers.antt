@@ -28,6 +28,7 @@ use Rattle.record_table.specs.Walked.{Walked}
 use Rattle.record_table.proofs.Counting.{many, keys_few, many_behind, slot_inside}
 use Rattle.record_table.proofs.Walking.{paid_same, row_same, walk_begins, walk_looks, walk_hears, walk_more, walk_ends}
 use Rattle.record_table.proofs.Hearing.{all_spoke_yet, no_rows_yet, index_refused, rows_refused}
+use Rattle.std.proofs.lemmas.Result.{err_from_is_err_and}
 use Rattle.record_table.proofs.scanning.gather.Goals as goal
 
 pub next_pairs-requires-clause-sound : goal.next_pairs-requires-clause-sound
@@ -58,19 +59,19 @@ push_rows-requires-clause-holds g c = λ living.
     let rests = c.requires.holds c.requires.alive in
     let v2 = pages_of (V c.next_pairs.new.pages.store) c.next_pairs.new.pages in
     let looked : LooksAs g.S.EawStore.tells (g.S.EawStore.opens (g.S.EawStore.view c.args.pages.now.store).shape) c.args.tid false (pages_of (g.S.EawStore.view c.args.pages.now.store) c.args.pages.now) (pages_of (g.S.EawStore.view c.next_pairs.new.pages.store) c.next_pairs.new.pages) =
-    looks_next T g.S.EawStore.opens t false v0 v1 v2 c.loop-from.invariant.looks (looks_as T (g.S.EawStore.opens v1.store.shape) t false v1 v2 c.in-Ok.ensures.looks) in
+    looks_next T g.S.EawStore.opens t false v0 v1 v2 c.loop-from.invariant.looks (looks_as T (g.S.EawStore.opens v1.store.shape) t false v1 v2 c.in_ok-pairs.ensures.looks) in
     rests_moved T E I t v0 v2 rests (moved_by_look T E I t v0 v2 c.requires.alive rests looked)
 
 pub push_rows-requires-clause-turn : goal.push_rows-requires-clause-turn
 push_rows-requires-clause-turn g c = λ told.
     subst (λ (l : List Pair). InTurn (g.K.KeyIndex.index.pairs (g.S.EawStore.view c.next_pairs.new.pages.store).state.bytes c.args.root) c.loop-from.from l) (sym c.as_slice-pairs.ensures.value)
-    (subst (λ (s : State). InTurn (g.K.KeyIndex.index.pairs s.bytes c.args.root) c.loop-from.from c.in-Ok.pairs.items) (sym ((c.in-Ok.ensures.looks.still refl).state told))
-    (next_first (g.K.KeyIndex.index.pairs (g.S.EawStore.view c.loop-from.pages.store).state.bytes c.args.root) c.loop-from.from c.in-Ok.pairs.items (omega (arith, eqb-false _ 0 (sym c.if-is_empty.ensures))) (c.in-Ok.ensures.next told)))
+    (subst (λ (s : State). InTurn (g.K.KeyIndex.index.pairs s.bytes c.args.root) c.loop-from.from c.in_ok-pairs.pairs.items) (sym ((c.in_ok-pairs.ensures.looks.still refl).state told))
+    (next_first (g.K.KeyIndex.index.pairs (g.S.EawStore.view c.loop-from.pages.store).state.bytes c.args.root) c.loop-from.from c.in_ok-pairs.pairs.items (omega (arith, eqb-false _ 0 (sym c.if-is_empty.ensures))) (c.in_ok-pairs.ensures.next told)))
 
 pub push_rows-requires-clause-inside : goal.push_rows-requires-clause-inside
 push_rows-requires-clause-inside g c =
     subst (λ (l : List Pair). AreInside c.loop-from.from (slots_of (g.S.EawStore.view c.next_pairs.new.pages.store).shape) l) (sym c.as_slice-pairs.ensures.value)
-    (subst (λ (n : ℕ). AreInside c.loop-from.from n c.in-Ok.pairs.items) (ap slots_of (sym c.in-Ok.ensures.looks.shape)) c.in-Ok.ensures.inside)
+    (subst (λ (n : ℕ). AreInside c.loop-from.from n c.in_ok-pairs.pairs.items) (ap slots_of (sym c.in_ok-pairs.ensures.looks.shape)) c.in_ok-pairs.ensures.inside)
 
 pub returns-then-is_empty-clause-rows : goal.returns-then-is_empty-clause-rows
 returns-then-is_empty-clause-rows g c = λ told name called.
@@ -84,13 +85,13 @@ returns-then-is_empty-clause-rows g c = λ told name called.
     let v1 = pages_of (V c.loop-from.pages.store) c.loop-from.pages in
     let t = c.args.tid in
     let rests = c.requires.holds c.requires.alive in
-    let none = subst (λ (s : State). AreNext (g.K.KeyIndex.index.pairs s.bytes c.args.root) c.loop-from.from c.in-Ok.pairs.items) ((c.loop-from.invariant.looks.same refl).still.state told) (c.in-Ok.ensures.next told) in
+    let none = subst (λ (s : State). AreNext (g.K.KeyIndex.index.pairs s.bytes c.args.root) c.loop-from.from c.in_ok-pairs.pairs.items) ((c.loop-from.invariant.looks.same refl).still.state told) (c.in_ok-pairs.ensures.next told) in
     no_row (c.loop-from.rows) _ _ (c.loop-from.invariant.rows told name called)
     (follows_end I laws t v0 (rests.tied told) c.args.table c.args.root name called (c.requires.named told c.requires.alive) c.loop-from.from c.args.high
-    (next_empty (I.pairs v0.store.state.bytes c.args.root) c.loop-from.from c.in-Ok.pairs.items (eqb-true _ 0 (sym c.if-is_empty.ensures)) none))
+    (next_empty (I.pairs v0.store.state.bytes c.args.root) c.loop-from.from c.in_ok-pairs.pairs.items (eqb-true _ 0 (sym c.if-is_empty.ensures)) none))
 
-pub returns-in-Ok-None-clause-rows : goal.returns-in-Ok-None-clause-rows
-returns-in-Ok-None-clause-rows g c = λ told name called.
+pub returns-in_default-clause-rows : goal.returns-in_default-clause-rows
+returns-in_default-clause-rows g c = λ told name called.
     let K = g.met.K.KeyIndex in
     let V = g.S.EawStore.view in
     let I = g.K.KeyIndex.index in
@@ -103,9 +104,9 @@ returns-in-Ok-None-clause-rows g c = λ told name called.
     let rests = c.requires.holds c.requires.alive in
     let v2 = pages_of (V c.next_pairs.new.pages.store) c.next_pairs.new.pages in
     let looked : LooksAs g.S.EawStore.tells (g.S.EawStore.opens (g.S.EawStore.view c.args.pages.now.store).shape) c.args.tid false (pages_of (g.S.EawStore.view c.args.pages.now.store) c.args.pages.now) (pages_of (g.S.EawStore.view c.next_pairs.new.pages.store) c.next_pairs.new.pages) =
-    looks_next T g.S.EawStore.opens t false v0 v1 v2 c.loop-from.invariant.looks (looks_as T (g.S.EawStore.opens v1.store.shape) t false v1 v2 c.in-Ok.ensures.looks) in
+    looks_next T g.S.EawStore.opens t false v0 v1 v2 c.loop-from.invariant.looks (looks_as T (g.S.EawStore.opens v1.store.shape) t false v1 v2 c.in_ok-pairs.ensures.looks) in
     let moved = moved_by_look T E I t v0 v2 c.requires.alive rests looked in
-    sym (append-nil (c.push_rows.new.rows)) ∙ (rw c.in-Ok-None.field-0-is at (c.in-Ok-None.ensures.rows told name (subst (λ (s : State). IsCalled s.bytes c.args.table name) (sym ((looked.same refl).still.state told)) called)))
+    sym (append-nil (c.push_rows.new.rows)) ∙ (rw c.in_default.is at (c.in_ok-next.ensures.rows told name (subst (λ (s : State). IsCalled s.bytes c.args.table name) (sym ((looked.same refl).still.state told)) called)))
     ∙ ap (λ (s : TableState). c.loop-from.rows ++ rows_within name c.loop-from.from c.args.high (seen_by s t)) (moved.state told)
     ∙ c.loop-from.invariant.rows told name called
 
@@ -152,63 +153,67 @@ loop-from-init g c =
       rows = λ told name called. ap (λ (r : List Row). r ++ rows_seen g.K.KeyIndex.index c.args.tid name (pages_of (V c.args.pages.now.store) c.args.pages.now) c.args.low c.args.high) c.requires.empty;
     }
 
-pub returns-in-Err-clause-looks : goal.returns-in-Err-clause-looks
-returns-in-Err-clause-looks g c =
+pub returns-in_err-pairs-clause-looks : goal.returns-in_err-pairs-clause-looks
+returns-in_err-pairs-clause-looks g c =
+    let exit = err_from_is_err_and c.from_residual.result c.from_residual.ensures.1 in
+    rw (exit.1) (
     let V = g.S.EawStore.view in
     let T = g.S.EawStore.tells in
     let E = g.S.EawStore.opens in
     let A = λ (b : Bool). LooksAs T (E (V c.args.pages.now.store).shape) c.args.tid b (pages_of (V c.args.pages.now.store) c.args.pages.now) (pages_of (V c.next_pairs.new.pages.store) c.next_pairs.new.pages) in
-    subst (λ (e : TableFault). A (let r : Result (Unit {0}) TableFault = Err e in answers.is_failed r)) (sym c.from.ensures)
-    (subst A (sym (failed_told c.in-Err.fault)) (looks_next T E c.args.tid _ (pages_of (V c.args.pages.now.store) c.args.pages.now) (pages_of (V c.loop-from.pages.store) c.loop-from.pages) (pages_of (V c.next_pairs.new.pages.store) c.next_pairs.new.pages) c.loop-from.invariant.looks (looks_as T (E (V c.loop-from.pages.store).shape) c.args.tid _ (pages_of (V c.loop-from.pages.store) c.loop-from.pages) (pages_of (V c.next_pairs.new.pages.store) c.next_pairs.new.pages) c.in-Err.ensures.looks)))
+    subst (λ (e : TableFault). A (let r : Result (Unit {0}) TableFault = Err e in answers.is_failed r)) (sym exit.2)
+    (subst A (sym (failed_told c.in_err-pairs.field-0.0)) (looks_next T E c.args.tid _ (pages_of (V c.args.pages.now.store) c.args.pages.now) (pages_of (V c.loop-from.pages.store) c.loop-from.pages) (pages_of (V c.next_pairs.new.pages.store) c.next_pairs.new.pages) c.loop-from.invariant.looks (looks_as T (E (V c.loop-from.pages.store).shape) c.args.tid _ (pages_of (V c.loop-from.pages.store) c.loop-from.pages) (pages_of (V c.next_pairs.new.pages.store) c.next_pairs.new.pages) c.in_err-pairs.ensures.looks))))
 
 pub returns-then-is_empty-clause-looks : goal.returns-then-is_empty-clause-looks
 returns-then-is_empty-clause-looks g c =
     let V = g.S.EawStore.view in
     let T = g.S.EawStore.tells in
     let E = g.S.EawStore.opens in
-    looks_next T E c.args.tid false (pages_of (V c.args.pages.now.store) c.args.pages.now) (pages_of (V c.loop-from.pages.store) c.loop-from.pages) (pages_of (V c.next_pairs.new.pages.store) c.next_pairs.new.pages) c.loop-from.invariant.looks (looks_as T (E (V c.loop-from.pages.store).shape) c.args.tid false (pages_of (V c.loop-from.pages.store) c.loop-from.pages) (pages_of (V c.next_pairs.new.pages.store) c.next_pairs.new.pages) c.in-Ok.ensures.looks)
+    looks_next T E c.args.tid false (pages_of (V c.args.pages.now.store) c.args.pages.now) (pages_of (V c.loop-from.pages.store) c.loop-from.pages) (pages_of (V c.next_pairs.new.pages.store) c.next_pairs.new.pages) c.loop-from.invariant.looks (looks_as T (E (V c.loop-from.pages.store).shape) c.args.tid false (pages_of (V c.loop-from.pages.store) c.loop-from.pages) (pages_of (V c.next_pairs.new.pages.store) c.next_pairs.new.pages) c.in_ok-pairs.ensures.looks)
 
-pub returns-in-Ok-None-clause-looks : goal.returns-in-Ok-None-clause-looks
-returns-in-Ok-None-clause-looks g c =
+pub returns-in_default-clause-looks : goal.returns-in_default-clause-looks
+returns-in_default-clause-looks g c =
     let V = g.S.EawStore.view in
     let T = g.S.EawStore.tells in
     let E = g.S.EawStore.opens in
-    looks_next T E c.args.tid false (pages_of (V c.args.pages.now.store) c.args.pages.now) (pages_of (V c.next_pairs.new.pages.store) c.next_pairs.new.pages) (pages_of (V c.push_rows.new.pages.store) c.push_rows.new.pages) (looks_next T E c.args.tid false (pages_of (V c.args.pages.now.store) c.args.pages.now) (pages_of (V c.loop-from.pages.store) c.loop-from.pages) (pages_of (V c.next_pairs.new.pages.store) c.next_pairs.new.pages) c.loop-from.invariant.looks (looks_as T (E (V c.loop-from.pages.store).shape) c.args.tid false (pages_of (V c.loop-from.pages.store) c.loop-from.pages) (pages_of (V c.next_pairs.new.pages.store) c.next_pairs.new.pages) c.in-Ok.ensures.looks)) c.in-Ok-None.ensures.looks
+    looks_next T E c.args.tid false (pages_of (V c.args.pages.now.store) c.args.pages.now) (pages_of (V c.next_pairs.new.pages.store) c.next_pairs.new.pages) (pages_of (V c.push_rows.new.pages.store) c.push_rows.new.pages) (looks_next T E c.args.tid false (pages_of (V c.args.pages.now.store) c.args.pages.now) (pages_of (V c.loop-from.pages.store) c.loop-from.pages) (pages_of (V c.next_pairs.new.pages.store) c.next_pairs.new.pages) c.loop-from.invariant.looks (looks_as T (E (V c.loop-from.pages.store).shape) c.args.tid false (pages_of (V c.loop-from.pages.store) c.loop-from.pages) (pages_of (V c.next_pairs.new.pages.store) c.next_pairs.new.pages) c.in_ok-pairs.ensures.looks)) c.in_ok-next.ensures.looks
 
-pub returns-in-Err-push_rows-clause-looks : goal.returns-in-Err-push_rows-clause-looks
-returns-in-Err-push_rows-clause-looks g c =
+pub returns-in_err-next-clause-looks : goal.returns-in_err-next-clause-looks
+returns-in_err-next-clause-looks g c =
+    let exit = err_from_is_err_and c.from_residual-in_err-next.result c.from_residual-in_err-next.ensures.1 in
+    rw (exit.1, exit.2) (
     let V = g.S.EawStore.view in
     let T = g.S.EawStore.tells in
     let E = g.S.EawStore.opens in
-    looks_next T E c.args.tid _ (pages_of (V c.args.pages.now.store) c.args.pages.now) (pages_of (V c.next_pairs.new.pages.store) c.next_pairs.new.pages) (pages_of (V c.push_rows.new.pages.store) c.push_rows.new.pages) (looks_next T E c.args.tid false (pages_of (V c.args.pages.now.store) c.args.pages.now) (pages_of (V c.loop-from.pages.store) c.loop-from.pages) (pages_of (V c.next_pairs.new.pages.store) c.next_pairs.new.pages) c.loop-from.invariant.looks (looks_as T (E (V c.loop-from.pages.store).shape) c.args.tid false (pages_of (V c.loop-from.pages.store) c.loop-from.pages) (pages_of (V c.next_pairs.new.pages.store) c.next_pairs.new.pages) c.in-Ok.ensures.looks)) c.in-Err-push_rows.ensures.looks
+    looks_next T E c.args.tid _ (pages_of (V c.args.pages.now.store) c.args.pages.now) (pages_of (V c.next_pairs.new.pages.store) c.next_pairs.new.pages) (pages_of (V c.push_rows.new.pages.store) c.push_rows.new.pages) (looks_next T E c.args.tid false (pages_of (V c.args.pages.now.store) c.args.pages.now) (pages_of (V c.loop-from.pages.store) c.loop-from.pages) (pages_of (V c.next_pairs.new.pages.store) c.next_pairs.new.pages) c.loop-from.invariant.looks (looks_as T (E (V c.loop-from.pages.store).shape) c.args.tid false (pages_of (V c.loop-from.pages.store) c.loop-from.pages) (pages_of (V c.next_pairs.new.pages.store) c.next_pairs.new.pages) c.in_ok-pairs.ensures.looks)) c.in_err-next.ensures.looks)
 
 pub loop-from-preserved : goal.loop-from-preserved
 loop-from-preserved g c =
     let V = g.S.EawStore.view in
     let T = g.S.EawStore.tells in
     let E = g.S.EawStore.opens in
-    let looked = looks_next T E c.args.tid false (pages_of (V c.args.pages.now.store) c.args.pages.now) (pages_of (V c.loop-from.pages.store) c.loop-from.pages) (pages_of (V c.next_pairs.new.pages.store) c.next_pairs.new.pages) c.loop-from.invariant.looks (looks_as T (E (V c.loop-from.pages.store).shape) c.args.tid false (pages_of (V c.loop-from.pages.store) c.loop-from.pages) (pages_of (V c.next_pairs.new.pages.store) c.next_pairs.new.pages) c.in-Ok.ensures.looks) in
-    let all = rw c.in-Ok-Some.field-0-is at c.in-Ok-Some.ensures.all in
+    let looked = looks_next T E c.args.tid false (pages_of (V c.args.pages.now.store) c.args.pages.now) (pages_of (V c.loop-from.pages.store) c.loop-from.pages) (pages_of (V c.next_pairs.new.pages.store) c.next_pairs.new.pages) c.loop-from.invariant.looks (looks_as T (E (V c.loop-from.pages.store).shape) c.args.tid false (pages_of (V c.loop-from.pages.store) c.loop-from.pages) (pages_of (V c.next_pairs.new.pages.store) c.next_pairs.new.pages) c.in_ok-pairs.ensures.looks) in
+    let all = rw c.in-Some.is at c.in_ok-next.ensures.all in
     record {
       left = omega (arith, all.1, c.if-met-left.false, c.loop-from.invariant.left);
       walking = walk_more g.K.KeyIndex.index c.args.root (g.S.EawStore.calls c.args.pages.now.store) (row_cost (g.S.EawStore.calls c.args.pages.now.store) c.args.tid (V c.args.pages.now.store)) (V c.args.pages.now.store).shape false (length c.loop-from.hearings.said + 1) (length c.push_rows.new.hearings.said) (V c.args.pages.now.store).moment (V c.push_rows.new.pages.store).moment c.push_rows.new.hearings.said (omega (arith, all.1, eqb-false _ 0 (sym c.if-is_empty.ensures), ap (λ (ps : List Pair). length ps) c.as_slice-pairs.ensures.value))
           (walk_hears g.K.KeyIndex.index c.args.root (g.S.EawStore.calls c.args.pages.now.store) (row_cost (g.S.EawStore.calls c.args.pages.now.store) c.args.tid (V c.args.pages.now.store)) (V c.args.pages.now.store).shape false (length c.loop-from.hearings.said + 1) (V c.args.pages.now.store).moment (V c.next_pairs.new.pages.store).moment (V c.push_rows.new.pages.store).moment c.loop-from.hearings.said c.push_rows.new.hearings.said
-          (walk_looks g.K.KeyIndex.index c.args.root (g.S.EawStore.calls c.args.pages.now.store) (row_cost (g.S.EawStore.calls c.args.pages.now.store) c.args.tid (V c.args.pages.now.store)) (V c.args.pages.now.store).shape g.S.EawStore.tells (g.S.EawStore.calls c.loop-from.pages.store) (g.S.EawStore.calls c.next_pairs.new.pages.store) (length c.loop-from.hearings.said) (V c.args.pages.now.store).moment c.loop-from.from c.loop-from.hearings.said _ (V c.loop-from.pages.store) (V c.next_pairs.new.pages.store) _ c.loop-from.invariant.walking c.loop-from.invariant.steady c.loop-from.invariant.looks.shape c.in-Ok.ensures.follows)
-          (paid_same _ (row_cost (g.S.EawStore.calls c.next_pairs.new.pages.store) c.args.tid (V c.next_pairs.new.pages.store)) (row_cost (g.S.EawStore.calls c.args.pages.now.store) c.args.tid (V c.args.pages.now.store)) _ _ c.loop-from.hearings.said c.push_rows.new.hearings.said (row_same (g.S.EawStore.calls c.next_pairs.new.pages.store) (g.S.EawStore.calls c.args.pages.now.store) c.args.tid (V c.next_pairs.new.pages.store) (V c.args.pages.now.store) (λ command. c.in-Ok.ensures.follows.reads.steady refl command ∙ c.loop-from.invariant.steady command) (c.in-Ok.ensures.looks.shape ∙ c.loop-from.invariant.looks.shape) (c.in-Ok.ensures.looks.ranges ∙ (c.loop-from.invariant.looks.same refl).ranges)) c.in-Ok-Some.ensures.costs));
-      steady = λ command. c.in-Ok-Some.ensures.steady refl command ∙ c.in-Ok.ensures.follows.reads.steady refl command ∙ c.loop-from.invariant.steady command;
+          (walk_looks g.K.KeyIndex.index c.args.root (g.S.EawStore.calls c.args.pages.now.store) (row_cost (g.S.EawStore.calls c.args.pages.now.store) c.args.tid (V c.args.pages.now.store)) (V c.args.pages.now.store).shape g.S.EawStore.tells (g.S.EawStore.calls c.loop-from.pages.store) (g.S.EawStore.calls c.next_pairs.new.pages.store) (length c.loop-from.hearings.said) (V c.args.pages.now.store).moment c.loop-from.from c.loop-from.hearings.said _ (V c.loop-from.pages.store) (V c.next_pairs.new.pages.store) _ c.loop-from.invariant.walking c.loop-from.invariant.steady c.loop-from.invariant.looks.shape c.in_ok-pairs.ensures.follows)
+          (paid_same _ (row_cost (g.S.EawStore.calls c.next_pairs.new.pages.store) c.args.tid (V c.next_pairs.new.pages.store)) (row_cost (g.S.EawStore.calls c.args.pages.now.store) c.args.tid (V c.args.pages.now.store)) _ _ c.loop-from.hearings.said c.push_rows.new.hearings.said (row_same (g.S.EawStore.calls c.next_pairs.new.pages.store) (g.S.EawStore.calls c.args.pages.now.store) c.args.tid (V c.next_pairs.new.pages.store) (V c.args.pages.now.store) (λ command. c.in_ok-pairs.ensures.follows.reads.steady refl command ∙ c.loop-from.invariant.steady command) (c.in_ok-pairs.ensures.looks.shape ∙ c.loop-from.invariant.looks.shape) (c.in_ok-pairs.ensures.looks.ranges ∙ (c.loop-from.invariant.looks.same refl).ranges)) c.in_ok-next.ensures.costs));
+      steady = λ command. c.in_ok-next.ensures.steady refl command ∙ c.in_ok-pairs.ensures.follows.reads.steady refl command ∙ c.loop-from.invariant.steady command;
       keys = λ told.
           let fewer = many_behind (g.K.KeyIndex.index.pairs (V c.args.pages.now.store).state.bytes c.args.root) c.loop-from.from c.as_slice-pairs.result.now
           (subst (λ (l : List Pair). InTurn (g.K.KeyIndex.index.pairs (V c.args.pages.now.store).state.bytes c.args.root) c.loop-from.from l) (sym c.as_slice-pairs.ensures.value)
-          (subst (λ (s : State). InTurn (g.K.KeyIndex.index.pairs s.bytes c.args.root) c.loop-from.from c.in-Ok.pairs.items) ((c.loop-from.invariant.looks.same refl).still.state told)
-          (next_first (g.K.KeyIndex.index.pairs (V c.loop-from.pages.store).state.bytes c.args.root) c.loop-from.from c.in-Ok.pairs.items (omega (arith, eqb-false _ 0 (sym c.if-is_empty.ensures))) (c.in-Ok.ensures.next told)))) in
+          (subst (λ (s : State). InTurn (g.K.KeyIndex.index.pairs s.bytes c.args.root) c.loop-from.from c.in_ok-pairs.pairs.items) ((c.loop-from.invariant.looks.same refl).still.state told)
+          (next_first (g.K.KeyIndex.index.pairs (V c.loop-from.pages.store).state.bytes c.args.root) c.loop-from.from c.in_ok-pairs.pairs.items (omega (arith, eqb-false _ 0 (sym c.if-is_empty.ensures))) (c.in_ok-pairs.ensures.next told)))) in
           omega (arith, fewer, ap (λ (n : ℕ). many n (g.K.KeyIndex.index.pairs (V c.args.pages.now.store).state.bytes c.args.root)) all.0, c.loop-from.invariant.keys told, c.if-met-left.false);
-      spoke = c.in-Ok-Some.ensures.hears.0;
-      heard = c.in-Ok-Some.ensures.hears.1;
-      looks = looks_next T E c.args.tid false (pages_of (V c.args.pages.now.store) c.args.pages.now) (pages_of (V c.next_pairs.new.pages.store) c.next_pairs.new.pages) (pages_of (V c.push_rows.new.pages.store) c.push_rows.new.pages) looked c.in-Ok-Some.ensures.looks;
+      spoke = c.in_ok-next.ensures.hears.0;
+      heard = c.in_ok-next.ensures.hears.1;
+      looks = looks_next T E c.args.tid false (pages_of (V c.args.pages.now.store) c.args.pages.now) (pages_of (V c.next_pairs.new.pages.store) c.next_pairs.new.pages) (pages_of (V c.push_rows.new.pages.store) c.push_rows.new.pages) looked c.in_ok-next.ensures.looks;
       rows = λ told name called.
           let moved = moved_by_look T (E (V c.args.pages.now.store).shape) g.K.KeyIndex.index c.args.tid (pages_of (V c.args.pages.now.store) c.args.pages.now) (pages_of (V c.next_pairs.new.pages.store) c.next_pairs.new.pages) c.requires.alive (c.requires.holds c.requires.alive) looked in
-          sym (ap (λ (s : TableState). c.push_rows.new.rows ++ rows_within name c.in-Ok-Some.next c.args.high (seen_by s c.args.tid)) (moved.state told))
-          ∙ (rw c.in-Ok-Some.field-0-is at (c.in-Ok-Some.ensures.rows told name (subst (λ (s : State). IsCalled s.bytes c.args.table name) (sym ((looked.same refl).still.state told)) called)))
+          sym (ap (λ (s : TableState). c.push_rows.new.rows ++ rows_within name c.in-Some.next c.args.high (seen_by s c.args.tid)) (moved.state told))
+          ∙ (rw c.in-Some.is at (c.in_ok-next.ensures.rows told name (subst (λ (s : State). IsCalled s.bytes c.args.table name) (sym ((looked.same refl).still.state told)) called)))
           ∙ ap (λ (s : TableState). c.loop-from.rows ++ rows_within name c.loop-from.from c.args.high (seen_by s c.args.tid)) (moved.state told)
           ∙ c.loop-from.invariant.rows told name called;
     }
@@ -225,51 +230,55 @@ returns-clause-hears g c = (c.loop-from.invariant.spoke, c.loop-from.invariant.h
 pub returns-then-is_empty-clause-hears : goal.returns-then-is_empty-clause-hears
 returns-then-is_empty-clause-hears g c = (c.loop-from.invariant.spoke, c.loop-from.invariant.heard)
 
-pub returns-in-Ok-None-clause-hears : goal.returns-in-Ok-None-clause-hears
-returns-in-Ok-None-clause-hears g c = c.in-Ok-None.ensures.hears
+pub returns-in_default-clause-hears : goal.returns-in_default-clause-hears
+returns-in_default-clause-hears g c = c.in_ok-next.ensures.hears
 
-pub returns-in-Err-clause-hears : goal.returns-in-Err-clause-hears
-returns-in-Err-clause-hears g c =
+pub returns-in_err-pairs-clause-hears : goal.returns-in_err-pairs-clause-hears
+returns-in_err-pairs-clause-hears g c =
+    let exit = err_from_is_err_and c.from_residual.result c.from_residual.ensures.1 in
+    rw (exit.1) (
     let V = g.S.EawStore.view in
     let rows = λ (done : Unit {0}). c.loop-from.rows in
-    subst (λ (s : Shape). HearsRows s c.loop-from.hearings.said rows (Err c.from.result)) c.loop-from.invariant.looks.shape
-    (subst (λ (e : TableFault). HearsRows (V c.loop-from.pages.store).shape c.loop-from.hearings.said rows (Err e)) (sym c.from.ensures)
+    subst (λ (s : Shape). HearsRows s c.loop-from.hearings.said rows (Err exit.0)) c.loop-from.invariant.looks.shape
+    (subst (λ (e : TableFault). HearsRows (V c.loop-from.pages.store).shape c.loop-from.hearings.said rows (Err e)) (sym exit.2)
     (index_refused g.S.EawStore.tells (g.S.EawStore.calls c.loop-from.pages.store) (g.S.EawStore.calls c.next_pairs.new.pages.store) (g.K.KeyIndex.index.nexting c.args.root c.loop-from.from) _ (V c.loop-from.pages.store) (V c.next_pairs.new.pages.store) c.loop-from.hearings.said
-    rows c.in-Err.fault c.in-Err.ensures.follows c.loop-from.invariant.spoke))
+    rows c.in_err-pairs.field-0.0 c.in_err-pairs.ensures.follows c.loop-from.invariant.spoke)))
 
-pub returns-in-Err-push_rows-clause-hears : goal.returns-in-Err-push_rows-clause-hears
-returns-in-Err-push_rows-clause-hears g c =
-    subst (λ (s : Shape). HearsRows s c.push_rows.new.hearings.said (λ (done : Unit {0}). c.push_rows.new.rows) (Err c.in-Err-push_rows.fault)) (c.in-Ok.ensures.looks.shape ∙ c.loop-from.invariant.looks.shape)
-    (rows_refused (g.S.EawStore.view c.next_pairs.new.pages.store).shape c.push_rows.new.hearings.said (λ (from : Option ℕ). c.push_rows.new.rows) (λ (done : Unit {0}). c.push_rows.new.rows) c.in-Err-push_rows.fault c.in-Err-push_rows.ensures.hears)
+pub returns-in_err-next-clause-hears : goal.returns-in_err-next-clause-hears
+returns-in_err-next-clause-hears g c =
+    let exit = err_from_is_err_and c.from_residual-in_err-next.result c.from_residual-in_err-next.ensures.1 in
+    rw (exit.1, exit.2) (
+    subst (λ (s : Shape). HearsRows s c.push_rows.new.hearings.said (λ (done : Unit {0}). c.push_rows.new.rows) (Err c.in_err-next.field-0.0)) (c.in_ok-pairs.ensures.looks.shape ∙ c.loop-from.invariant.looks.shape)
+    (rows_refused (g.S.EawStore.view c.next_pairs.new.pages.store).shape c.push_rows.new.hearings.said (λ (from : Option ℕ). c.push_rows.new.rows) (λ (done : Unit {0}). c.push_rows.new.rows) c.in_err-next.field-0.0 c.in_err-next.ensures.hears))
 
 -- more keys than slots
 pub page_of-page-requires : goal.page_of-page-requires
 page_of-page-requires g c =
     let V = g.S.EawStore.view in
-    let inside = subst (λ (l : List Pair). AreInside c.loop-from.from (slots_of (V c.loop-from.pages.store).shape) l) (sym c.as_slice-pairs.ensures.value) c.in-Ok.ensures.inside in
+    let inside = subst (λ (l : List Pair). AreInside c.loop-from.from (slots_of (V c.loop-from.pages.store).shape) l) (sym c.as_slice-pairs.ensures.value) c.in_ok-pairs.ensures.inside in
     let lt = slot_inside c.loop-from.from (slots_of (V c.loop-from.pages.store).shape) c.as_slice-pairs.result.now (length c.as_slice-pairs.result.now - 1) (omega arith) inside in
-    omega (arith, lt, ap slots_of c.in-Ok.ensures.looks.shape, ap slots_of c.in-Ok-Some.ensures.looks.shape)
+    omega (arith, lt, ap slots_of c.in_ok-pairs.ensures.looks.shape, ap slots_of c.in_ok-next.ensures.looks.shape)
 
 pub returns-then-met-left-clause-looks : goal.returns-then-met-left-clause-looks
 returns-then-met-left-clause-looks g c =
     let V = g.S.EawStore.view in
     let T = g.S.EawStore.tells in
     let E = g.S.EawStore.opens in
-    looks_next T E c.args.tid false (pages_of (V c.args.pages.now.store) c.args.pages.now) (pages_of (V c.next_pairs.new.pages.store) c.next_pairs.new.pages) (pages_of (V c.push_rows.new.pages.store) c.push_rows.new.pages) (looks_next T E c.args.tid false (pages_of (V c.args.pages.now.store) c.args.pages.now) (pages_of (V c.loop-from.pages.store) c.loop-from.pages) (pages_of (V c.next_pairs.new.pages.store) c.next_pairs.new.pages) c.loop-from.invariant.looks (looks_as T (E (V c.loop-from.pages.store).shape) c.args.tid false (pages_of (V c.loop-from.pages.store) c.loop-from.pages) (pages_of (V c.next_pairs.new.pages.store) c.next_pairs.new.pages) c.in-Ok.ensures.looks)) c.in-Ok-Some.ensures.looks
+    looks_next T E c.args.tid false (pages_of (V c.args.pages.now.store) c.args.pages.now) (pages_of (V c.next_pairs.new.pages.store) c.next_pairs.new.pages) (pages_of (V c.push_rows.new.pages.store) c.push_rows.new.pages) (looks_next T E c.args.tid false (pages_of (V c.args.pages.now.store) c.args.pages.now) (pages_of (V c.loop-from.pages.store) c.loop-from.pages) (pages_of (V c.next_pairs.new.pages.store) c.next_pairs.new.pages) c.loop-from.invariant.looks (looks_as T (E (V c.loop-from.pages.store).shape) c.args.tid false (pages_of (V c.loop-from.pages.store) c.loop-from.pages) (pages_of (V c.next_pairs.new.pages.store) c.next_pairs.new.pages) c.in_ok-pairs.ensures.looks)) c.in_ok-next.ensures.looks
 
 pub returns-then-met-left-clause-cause : goal.returns-then-met-left-clause-cause
 returns-then-met-left-clause-cause g c = λ told.
     let V = g.S.EawStore.view in
     let fewer = many_behind (g.K.KeyIndex.index.pairs (V c.args.pages.now.store).state.bytes c.args.root) c.loop-from.from c.as_slice-pairs.result.now
     (subst (λ (l : List Pair). InTurn (g.K.KeyIndex.index.pairs (V c.args.pages.now.store).state.bytes c.args.root) c.loop-from.from l) (sym c.as_slice-pairs.ensures.value)
-    (subst (λ (s : State). InTurn (g.K.KeyIndex.index.pairs s.bytes c.args.root) c.loop-from.from c.in-Ok.pairs.items) ((c.loop-from.invariant.looks.same refl).still.state told)
-    (next_first (g.K.KeyIndex.index.pairs (V c.loop-from.pages.store).state.bytes c.args.root) c.loop-from.from c.in-Ok.pairs.items (omega (arith, eqb-false _ 0 (sym c.if-is_empty.ensures))) (c.in-Ok.ensures.next told)))) in
+    (subst (λ (s : State). InTurn (g.K.KeyIndex.index.pairs s.bytes c.args.root) c.loop-from.from c.in_ok-pairs.pairs.items) ((c.loop-from.invariant.looks.same refl).still.state told)
+    (next_first (g.K.KeyIndex.index.pairs (V c.loop-from.pages.store).state.bytes c.args.root) c.loop-from.from c.in_ok-pairs.pairs.items (omega (arith, eqb-false _ 0 (sym c.if-is_empty.ensures))) (c.in_ok-pairs.ensures.next told)))) in
     omega (arith, fewer, c.loop-from.invariant.keys told, c.if-met-left.true)
 
 pub returns-then-met-left-clause-hears : goal.returns-then-met-left-clause-hears
 returns-then-met-left-clause-hears g c =
-    let shape = c.in-Ok-Some.ensures.looks.shape ∙ c.in-Ok.ensures.looks.shape ∙ c.loop-from.invariant.looks.shape in
-    (subst (λ (s : Shape). c.page_of-page.result < page_count s) shape c.page_of-page.ensures.inside, inr c.in-Ok-Some.ensures.hears.0)
+    let shape = c.in_ok-next.ensures.looks.shape ∙ c.in_ok-pairs.ensures.looks.shape ∙ c.loop-from.invariant.looks.shape in
+    (subst (λ (s : Shape). c.page_of-page.result < page_count s) shape c.page_of-page.ensures.inside, inr c.in_ok-next.ensures.hears.0)
 
 pub returns-clause-walks : goal.returns-clause-walks
 returns-clause-walks g c =
@@ -281,36 +290,40 @@ pub returns-then-is_empty-clause-walks : goal.returns-then-is_empty-clause-walks
 returns-then-is_empty-clause-walks g c =
     let V = g.S.EawStore.view in
     walk_ends g.K.KeyIndex.index c.args.root (g.S.EawStore.calls c.args.pages.now.store) (row_cost (g.S.EawStore.calls c.args.pages.now.store) c.args.tid (V c.args.pages.now.store)) (V c.args.pages.now.store).shape false (length c.loop-from.hearings.said + 1) (V c.args.pages.now.store).moment (V c.next_pairs.new.pages.store).moment c.loop-from.hearings.said (omega (arith, c.loop-from.invariant.left)) (omega (arith, c.loop-from.invariant.left))
-    (walk_looks g.K.KeyIndex.index c.args.root (g.S.EawStore.calls c.args.pages.now.store) (row_cost (g.S.EawStore.calls c.args.pages.now.store) c.args.tid (V c.args.pages.now.store)) (V c.args.pages.now.store).shape g.S.EawStore.tells (g.S.EawStore.calls c.loop-from.pages.store) (g.S.EawStore.calls c.next_pairs.new.pages.store) (length c.loop-from.hearings.said) (V c.args.pages.now.store).moment c.loop-from.from c.loop-from.hearings.said _ (V c.loop-from.pages.store) (V c.next_pairs.new.pages.store) _ c.loop-from.invariant.walking c.loop-from.invariant.steady c.loop-from.invariant.looks.shape c.in-Ok.ensures.follows)
+    (walk_looks g.K.KeyIndex.index c.args.root (g.S.EawStore.calls c.args.pages.now.store) (row_cost (g.S.EawStore.calls c.args.pages.now.store) c.args.tid (V c.args.pages.now.store)) (V c.args.pages.now.store).shape g.S.EawStore.tells (g.S.EawStore.calls c.loop-from.pages.store) (g.S.EawStore.calls c.next_pairs.new.pages.store) (length c.loop-from.hearings.said) (V c.args.pages.now.store).moment c.loop-from.from c.loop-from.hearings.said _ (V c.loop-from.pages.store) (V c.next_pairs.new.pages.store) _ c.loop-from.invariant.walking c.loop-from.invariant.steady c.loop-from.invariant.looks.shape c.in_ok-pairs.ensures.follows)
 
-pub returns-in-Err-clause-walks : goal.returns-in-Err-clause-walks
-returns-in-Err-clause-walks g c =
+pub returns-in_err-pairs-clause-walks : goal.returns-in_err-pairs-clause-walks
+returns-in_err-pairs-clause-walks g c =
+    let exit = err_from_is_err_and c.from_residual.result c.from_residual.ensures.1 in
+    rw (exit.1) (
     let V = g.S.EawStore.view in
     let A = λ (b : Bool). Walked g.K.KeyIndex.index c.args.root (g.S.EawStore.calls c.args.pages.now.store) (row_cost (g.S.EawStore.calls c.args.pages.now.store) c.args.tid (V c.args.pages.now.store)) (V c.args.pages.now.store).shape b (V c.args.pages.now.store).moment (V c.next_pairs.new.pages.store).moment c.loop-from.hearings.said in
-    subst (λ (e : TableFault). A (let r : Result (Unit {0}) TableFault = Err e in answers.is_failed r)) (sym c.from.ensures)
-    (subst A (sym (failed_told c.in-Err.fault)) (walk_ends g.K.KeyIndex.index c.args.root (g.S.EawStore.calls c.args.pages.now.store) (row_cost (g.S.EawStore.calls c.args.pages.now.store) c.args.tid (V c.args.pages.now.store)) (V c.args.pages.now.store).shape _ (length c.loop-from.hearings.said + 1) (V c.args.pages.now.store).moment (V c.next_pairs.new.pages.store).moment c.loop-from.hearings.said (omega (arith, c.loop-from.invariant.left)) (omega (arith, c.loop-from.invariant.left))
-    (walk_looks g.K.KeyIndex.index c.args.root (g.S.EawStore.calls c.args.pages.now.store) (row_cost (g.S.EawStore.calls c.args.pages.now.store) c.args.tid (V c.args.pages.now.store)) (V c.args.pages.now.store).shape g.S.EawStore.tells (g.S.EawStore.calls c.loop-from.pages.store) (g.S.EawStore.calls c.next_pairs.new.pages.store) (length c.loop-from.hearings.said) (V c.args.pages.now.store).moment c.loop-from.from c.loop-from.hearings.said _ (V c.loop-from.pages.store) (V c.next_pairs.new.pages.store) _ c.loop-from.invariant.walking c.loop-from.invariant.steady c.loop-from.invariant.looks.shape c.in-Err.ensures.follows)))
+    subst (λ (e : TableFault). A (let r : Result (Unit {0}) TableFault = Err e in answers.is_failed r)) (sym exit.2)
+    (subst A (sym (failed_told c.in_err-pairs.field-0.0)) (walk_ends g.K.KeyIndex.index c.args.root (g.S.EawStore.calls c.args.pages.now.store) (row_cost (g.S.EawStore.calls c.args.pages.now.store) c.args.tid (V c.args.pages.now.store)) (V c.args.pages.now.store).shape _ (length c.loop-from.hearings.said + 1) (V c.args.pages.now.store).moment (V c.next_pairs.new.pages.store).moment c.loop-from.hearings.said (omega (arith, c.loop-from.invariant.left)) (omega (arith, c.loop-from.invariant.left))
+    (walk_looks g.K.KeyIndex.index c.args.root (g.S.EawStore.calls c.args.pages.now.store) (row_cost (g.S.EawStore.calls c.args.pages.now.store) c.args.tid (V c.args.pages.now.store)) (V c.args.pages.now.store).shape g.S.EawStore.tells (g.S.EawStore.calls c.loop-from.pages.store) (g.S.EawStore.calls c.next_pairs.new.pages.store) (length c.loop-from.hearings.said) (V c.args.pages.now.store).moment c.loop-from.from c.loop-from.hearings.said _ (V c.loop-from.pages.store) (V c.next_pairs.new.pages.store) _ c.loop-from.invariant.walking c.loop-from.invariant.steady c.loop-from.invariant.looks.shape c.in_err-pairs.ensures.follows))))
 
-pub returns-in-Ok-None-clause-walks : goal.returns-in-Ok-None-clause-walks
-returns-in-Ok-None-clause-walks g c =
+pub returns-in_default-clause-walks : goal.returns-in_default-clause-walks
+returns-in_default-clause-walks g c =
     let V = g.S.EawStore.view in
-    walk_ends g.K.KeyIndex.index c.args.root (g.S.EawStore.calls c.args.pages.now.store) (row_cost (g.S.EawStore.calls c.args.pages.now.store) c.args.tid (V c.args.pages.now.store)) (V c.args.pages.now.store).shape false (length c.loop-from.hearings.said + 1) (V c.args.pages.now.store).moment (V c.push_rows.new.pages.store).moment c.push_rows.new.hearings.said (omega (arith, c.loop-from.invariant.left)) (omega (arith, c.in-Ok-None.ensures.few, c.loop-from.invariant.left))
+    walk_ends g.K.KeyIndex.index c.args.root (g.S.EawStore.calls c.args.pages.now.store) (row_cost (g.S.EawStore.calls c.args.pages.now.store) c.args.tid (V c.args.pages.now.store)) (V c.args.pages.now.store).shape false (length c.loop-from.hearings.said + 1) (V c.args.pages.now.store).moment (V c.push_rows.new.pages.store).moment c.push_rows.new.hearings.said (omega (arith, c.loop-from.invariant.left)) (omega (arith, c.in_ok-next.ensures.few, c.loop-from.invariant.left))
     (walk_hears g.K.KeyIndex.index c.args.root (g.S.EawStore.calls c.args.pages.now.store) (row_cost (g.S.EawStore.calls c.args.pages.now.store) c.args.tid (V c.args.pages.now.store)) (V c.args.pages.now.store).shape false (length c.loop-from.hearings.said + 1) (V c.args.pages.now.store).moment (V c.next_pairs.new.pages.store).moment (V c.push_rows.new.pages.store).moment c.loop-from.hearings.said c.push_rows.new.hearings.said
-    (walk_looks g.K.KeyIndex.index c.args.root (g.S.EawStore.calls c.args.pages.now.store) (row_cost (g.S.EawStore.calls c.args.pages.now.store) c.args.tid (V c.args.pages.now.store)) (V c.args.pages.now.store).shape g.S.EawStore.tells (g.S.EawStore.calls c.loop-from.pages.store) (g.S.EawStore.calls c.next_pairs.new.pages.store) (length c.loop-from.hearings.said) (V c.args.pages.now.store).moment c.loop-from.from c.loop-from.hearings.said _ (V c.loop-from.pages.store) (V c.next_pairs.new.pages.store) _ c.loop-from.invariant.walking c.loop-from.invariant.steady c.loop-from.invariant.looks.shape c.in-Ok.ensures.follows)
-    (paid_same _ (row_cost (g.S.EawStore.calls c.next_pairs.new.pages.store) c.args.tid (V c.next_pairs.new.pages.store)) (row_cost (g.S.EawStore.calls c.args.pages.now.store) c.args.tid (V c.args.pages.now.store)) _ _ c.loop-from.hearings.said c.push_rows.new.hearings.said (row_same (g.S.EawStore.calls c.next_pairs.new.pages.store) (g.S.EawStore.calls c.args.pages.now.store) c.args.tid (V c.next_pairs.new.pages.store) (V c.args.pages.now.store) (λ command. c.in-Ok.ensures.follows.reads.steady refl command ∙ c.loop-from.invariant.steady command) (c.in-Ok.ensures.looks.shape ∙ c.loop-from.invariant.looks.shape) (c.in-Ok.ensures.looks.ranges ∙ (c.loop-from.invariant.looks.same refl).ranges)) c.in-Ok-None.ensures.costs))
+    (walk_looks g.K.KeyIndex.index c.args.root (g.S.EawStore.calls c.args.pages.now.store) (row_cost (g.S.EawStore.calls c.args.pages.now.store) c.args.tid (V c.args.pages.now.store)) (V c.args.pages.now.store).shape g.S.EawStore.tells (g.S.EawStore.calls c.loop-from.pages.store) (g.S.EawStore.calls c.next_pairs.new.pages.store) (length c.loop-from.hearings.said) (V c.args.pages.now.store).moment c.loop-from.from c.loop-from.hearings.said _ (V c.loop-from.pages.store) (V c.next_pairs.new.pages.store) _ c.loop-from.invariant.walking c.loop-from.invariant.steady c.loop-from.invariant.looks.shape c.in_ok-pairs.ensures.follows)
+    (paid_same _ (row_cost (g.S.EawStore.calls c.next_pairs.new.pages.store) c.args.tid (V c.next_pairs.new.pages.store)) (row_cost (g.S.EawStore.calls c.args.pages.now.store) c.args.tid (V c.args.pages.now.store)) _ _ c.loop-from.hearings.said c.push_rows.new.hearings.said (row_same (g.S.EawStore.calls c.next_pairs.new.pages.store) (g.S.EawStore.calls c.args.pages.now.store) c.args.tid (V c.next_pairs.new.pages.store) (V c.args.pages.now.store) (λ command. c.in_ok-pairs.ensures.follows.reads.steady refl command ∙ c.loop-from.invariant.steady command) (c.in_ok-pairs.ensures.looks.shape ∙ c.loop-from.invariant.looks.shape) (c.in_ok-pairs.ensures.looks.ranges ∙ (c.loop-from.invariant.looks.same refl).ranges)) c.in_ok-next.ensures.costs))
 
-pub returns-in-Err-push_rows-clause-walks : goal.returns-in-Err-push_rows-clause-walks
-returns-in-Err-push_rows-clause-walks g c =
+pub returns-in_err-next-clause-walks : goal.returns-in_err-next-clause-walks
+returns-in_err-next-clause-walks g c =
+    let exit = err_from_is_err_and c.from_residual-in_err-next.result c.from_residual-in_err-next.ensures.1 in
+    rw (exit.1, exit.2) (
     let V = g.S.EawStore.view in
-    walk_ends g.K.KeyIndex.index c.args.root (g.S.EawStore.calls c.args.pages.now.store) (row_cost (g.S.EawStore.calls c.args.pages.now.store) c.args.tid (V c.args.pages.now.store)) (V c.args.pages.now.store).shape _ (length c.loop-from.hearings.said + 1) (V c.args.pages.now.store).moment (V c.push_rows.new.pages.store).moment c.push_rows.new.hearings.said (omega (arith, c.loop-from.invariant.left)) (omega (arith, c.in-Err-push_rows.ensures.few, c.loop-from.invariant.left))
+    walk_ends g.K.KeyIndex.index c.args.root (g.S.EawStore.calls c.args.pages.now.store) (row_cost (g.S.EawStore.calls c.args.pages.now.store) c.args.tid (V c.args.pages.now.store)) (V c.args.pages.now.store).shape _ (length c.loop-from.hearings.said + 1) (V c.args.pages.now.store).moment (V c.push_rows.new.pages.store).moment c.push_rows.new.hearings.said (omega (arith, c.loop-from.invariant.left)) (omega (arith, c.in_err-next.ensures.few, c.loop-from.invariant.left))
     (walk_hears g.K.KeyIndex.index c.args.root (g.S.EawStore.calls c.args.pages.now.store) (row_cost (g.S.EawStore.calls c.args.pages.now.store) c.args.tid (V c.args.pages.now.store)) (V c.args.pages.now.store).shape _ (length c.loop-from.hearings.said + 1) (V c.args.pages.now.store).moment (V c.next_pairs.new.pages.store).moment (V c.push_rows.new.pages.store).moment c.loop-from.hearings.said c.push_rows.new.hearings.said
-    (walk_looks g.K.KeyIndex.index c.args.root (g.S.EawStore.calls c.args.pages.now.store) (row_cost (g.S.EawStore.calls c.args.pages.now.store) c.args.tid (V c.args.pages.now.store)) (V c.args.pages.now.store).shape g.S.EawStore.tells (g.S.EawStore.calls c.loop-from.pages.store) (g.S.EawStore.calls c.next_pairs.new.pages.store) (length c.loop-from.hearings.said) (V c.args.pages.now.store).moment c.loop-from.from c.loop-from.hearings.said _ (V c.loop-from.pages.store) (V c.next_pairs.new.pages.store) _ c.loop-from.invariant.walking c.loop-from.invariant.steady c.loop-from.invariant.looks.shape c.in-Ok.ensures.follows)
-    (paid_same _ (row_cost (g.S.EawStore.calls c.next_pairs.new.pages.store) c.args.tid (V c.next_pairs.new.pages.store)) (row_cost (g.S.EawStore.calls c.args.pages.now.store) c.args.tid (V c.args.pages.now.store)) _ _ c.loop-from.hearings.said c.push_rows.new.hearings.said (row_same (g.S.EawStore.calls c.next_pairs.new.pages.store) (g.S.EawStore.calls c.args.pages.now.store) c.args.tid (V c.next_pairs.new.pages.store) (V c.args.pages.now.store) (λ command. c.in-Ok.ensures.follows.reads.steady refl command ∙ c.loop-from.invariant.steady command) (c.in-Ok.ensures.looks.shape ∙ c.loop-from.invariant.looks.shape) (c.in-Ok.ensures.looks.ranges ∙ (c.loop-from.invariant.looks.same refl).ranges)) c.in-Err-push_rows.ensures.costs))
+    (walk_looks g.K.KeyIndex.index c.args.root (g.S.EawStore.calls c.args.pages.now.store) (row_cost (g.S.EawStore.calls c.args.pages.now.store) c.args.tid (V c.args.pages.now.store)) (V c.args.pages.now.store).shape g.S.EawStore.tells (g.S.EawStore.calls c.loop-from.pages.store) (g.S.EawStore.calls c.next_pairs.new.pages.store) (length c.loop-from.hearings.said) (V c.args.pages.now.store).moment c.loop-from.from c.loop-from.hearings.said _ (V c.loop-from.pages.store) (V c.next_pairs.new.pages.store) _ c.loop-from.invariant.walking c.loop-from.invariant.steady c.loop-from.invariant.looks.shape c.in_ok-pairs.ensures.follows)
+    (paid_same _ (row_cost (g.S.EawStore.calls c.next_pairs.new.pages.store) c.args.tid (V c.next_pairs.new.pages.store)) (row_cost (g.S.EawStore.calls c.args.pages.now.store) c.args.tid (V c.args.pages.now.store)) _ _ c.loop-from.hearings.said c.push_rows.new.hearings.said (row_same (g.S.EawStore.calls c.next_pairs.new.pages.store) (g.S.EawStore.calls c.args.pages.now.store) c.args.tid (V c.next_pairs.new.pages.store) (V c.args.pages.now.store) (λ command. c.in_ok-pairs.ensures.follows.reads.steady refl command ∙ c.loop-from.invariant.steady command) (c.in_ok-pairs.ensures.looks.shape ∙ c.loop-from.invariant.looks.shape) (c.in_ok-pairs.ensures.looks.ranges ∙ (c.loop-from.invariant.looks.same refl).ranges)) c.in_err-next.ensures.costs)))
 
 pub returns-then-met-left-clause-walks : goal.returns-then-met-left-clause-walks
 returns-then-met-left-clause-walks g c =
     let V = g.S.EawStore.view in
-    walk_ends g.K.KeyIndex.index c.args.root (g.S.EawStore.calls c.args.pages.now.store) (row_cost (g.S.EawStore.calls c.args.pages.now.store) c.args.tid (V c.args.pages.now.store)) (V c.args.pages.now.store).shape false (length c.loop-from.hearings.said + 1) (V c.args.pages.now.store).moment (V c.push_rows.new.pages.store).moment c.push_rows.new.hearings.said (omega (arith, c.loop-from.invariant.left)) (omega (arith, c.in-Ok-Some.ensures.few, c.loop-from.invariant.left))
+    walk_ends g.K.KeyIndex.index c.args.root (g.S.EawStore.calls c.args.pages.now.store) (row_cost (g.S.EawStore.calls c.args.pages.now.store) c.args.tid (V c.args.pages.now.store)) (V c.args.pages.now.store).shape false (length c.loop-from.hearings.said + 1) (V c.args.pages.now.store).moment (V c.push_rows.new.pages.store).moment c.push_rows.new.hearings.said (omega (arith, c.loop-from.invariant.left)) (omega (arith, c.in_ok-next.ensures.few, c.loop-from.invariant.left))
     (walk_hears g.K.KeyIndex.index c.args.root (g.S.EawStore.calls c.args.pages.now.store) (row_cost (g.S.EawStore.calls c.args.pages.now.store) c.args.tid (V c.args.pages.now.store)) (V c.args.pages.now.store).shape false (length c.loop-from.hearings.said + 1) (V c.args.pages.now.store).moment (V c.next_pairs.new.pages.store).moment (V c.push_rows.new.pages.store).moment c.loop-from.hearings.said c.push_rows.new.hearings.said
-    (walk_looks g.K.KeyIndex.index c.args.root (g.S.EawStore.calls c.args.pages.now.store) (row_cost (g.S.EawStore.calls c.args.pages.now.store) c.args.tid (V c.args.pages.now.store)) (V c.args.pages.now.store).shape g.S.EawStore.tells (g.S.EawStore.calls c.loop-from.pages.store) (g.S.EawStore.calls c.next_pairs.new.pages.store) (length c.loop-from.hearings.said) (V c.args.pages.now.store).moment c.loop-from.from c.loop-from.hearings.said _ (V c.loop-from.pages.store) (V c.next_pairs.new.pages.store) _ c.loop-from.invariant.walking c.loop-from.invariant.steady c.loop-from.invariant.looks.shape c.in-Ok.ensures.follows)
-    (paid_same _ (row_cost (g.S.EawStore.calls c.next_pairs.new.pages.store) c.args.tid (V c.next_pairs.new.pages.store)) (row_cost (g.S.EawStore.calls c.args.pages.now.store) c.args.tid (V c.args.pages.now.store)) _ _ c.loop-from.hearings.said c.push_rows.new.hearings.said (row_same (g.S.EawStore.calls c.next_pairs.new.pages.store) (g.S.EawStore.calls c.args.pages.now.store) c.args.tid (V c.next_pairs.new.pages.store) (V c.args.pages.now.store) (λ command. c.in-Ok.ensures.follows.reads.steady refl command ∙ c.loop-from.invariant.steady command) (c.in-Ok.ensures.looks.shape ∙ c.loop-from.invariant.looks.shape) (c.in-Ok.ensures.looks.ranges ∙ (c.loop-from.invariant.looks.same refl).ranges)) c.in-Ok-Some.ensures.costs))
+    (walk_looks g.K.KeyIndex.index c.args.root (g.S.EawStore.calls c.args.pages.now.store) (row_cost (g.S.EawStore.calls c.args.pages.now.store) c.args.tid (V c.args.pages.now.store)) (V c.args.pages.now.store).shape g.S.EawStore.tells (g.S.EawStore.calls c.loop-from.pages.store) (g.S.EawStore.calls c.next_pairs.new.pages.store) (length c.loop-from.hearings.said) (V c.args.pages.now.store).moment c.loop-from.from c.loop-from.hearings.said _ (V c.loop-from.pages.store) (V c.next_pairs.new.pages.store) _ c.loop-from.invariant.walking c.loop-from.invariant.steady c.loop-from.invariant.looks.shape c.in_ok-pairs.ensures.follows)
+    (paid_same _ (row_cost (g.S.EawStore.calls c.next_pairs.new.pages.store) c.args.tid (V c.next_pairs.new.pages.store)) (row_cost (g.S.EawStore.calls c.args.pages.now.store) c.args.tid (V c.args.pages.now.store)) _ _ c.loop-from.hearings.said c.push_rows.new.hearings.said (row_same (g.S.EawStore.calls c.next_pairs.new.pages.store) (g.S.EawStore.calls c.args.pages.now.store) c.args.tid (V c.next_pairs.new.pages.store) (V c.args.pages.now.store) (λ command. c.in_ok-pairs.ensures.follows.reads.steady refl command ∙ c.loop-from.invariant.steady command) (c.in_ok-pairs.ensures.looks.shape ∙ c.loop-from.invariant.looks.shape) (c.in_ok-pairs.ensures.looks.ranges ∙ (c.loop-from.invariant.looks.same refl).ranges)) c.in_ok-next.ensures.costs))

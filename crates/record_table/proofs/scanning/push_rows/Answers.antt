@@ -28,6 +28,7 @@ use Rattle.record_table.specs.Seeks.{row_cost}
 use Rattle.record_table.proofs.Counting.{behind_at, behind_all}
 use Rattle.record_table.proofs.Walking.{paid_then, row_same}
 use Rattle.record_table.proofs.Hearing.{next_met, refused_met, next_spoke, next_rows, next_refused}
+use Rattle.std.proofs.lemmas.Result.{err_from_is_err_and}
 use Rattle.record_table.proofs.scanning.push_rows.Goals as goal
 
 pub loop-pair-init : goal.loop-pair-init
@@ -88,9 +89,9 @@ loop-pair-preserved g c =
     let moved = moved_by_look T E I t v0 v1 c.requires.alive rests c.loop-pair.invariant.looks in
     let here = inside_at c.args.pairs.now c.loop-pair.from (slots_of v0.store.shape) c.args.pairs.now c.loop-pair.pair-index c.loop-pair-test.true c.loop-pair.invariant.inside in
     let on : suc c.loop-pair.pair-index ≡ c.loop-pair.pair-index + 1 = omega arith in
-    let key : suc (get_or c.args.pairs.now c.loop-pair.pair-index (0, 0)).0 ≡ c.in-Ok.row.key + 1 = omega (arith, c.in-Ok.ensures.key) in
+    let key : suc (get_or c.args.pairs.now c.loop-pair.pair-index (0, 0)).0 ≡ c.in_ok-row.row.key + 1 = omega (arith, c.in_ok-row.ensures.key) in
     record {
-      looks = looks_next T g.S.EawStore.opens t false v0 v1 v2 c.loop-pair.invariant.looks c.in-Ok.ensures.looks;
+      looks = looks_next T g.S.EawStore.opens t false v0 v1 v2 c.loop-pair.invariant.looks c.in_ok-row.ensures.looks;
       turn = λ told.
           subst (λ (n : ℕ). InTurn (I.pairs v0.store.state.bytes c.args.span.root) n (drop (c.loop-pair.pair-index + 1) c.args.pairs.now)) key
           (subst (λ (j : ℕ). InTurn (I.pairs v0.store.state.bytes c.args.span.root) (suc (get_or c.args.pairs.now c.loop-pair.pair-index (0, 0)).0) (drop j c.args.pairs.now)) on
@@ -100,9 +101,9 @@ loop-pair-preserved g c =
           (subst (λ (j : ℕ). AreInside (suc (get_or c.args.pairs.now c.loop-pair.pair-index (0, 0)).0) (slots_of v0.store.shape) (drop j c.args.pairs.now)) on here.2);
       low = omega (arith, c.loop-pair.invariant.low, here.0, key);
       later = λ some. omega (arith, c.loop-pair.invariant.low, here.0, key);
-      high = omega (arith, c.in-Ok.ensures.key, c.if-row-span.false, c.if-pair-span.false);
+      high = omega (arith, c.in_ok-row.ensures.key, c.if-row-span.false, c.if-pair-span.false);
       index = omega (arith, c.loop-pair-test.true);
-      met = omega (arith, next_met v1.store.shape (get_or c.args.pairs.now i (0, 0)) c.loop-pair.hearings.said c.read_row.new.hearings.said c.in-Ok.row c.in-Ok.ensures.hears, c.loop-pair.invariant.met);
+      met = omega (arith, next_met v1.store.shape (get_or c.args.pairs.now i (0, 0)) c.loop-pair.hearings.said c.read_row.new.hearings.said c.in_ok-row.row c.in_ok-row.ensures.hears, c.loop-pair.invariant.met);
       ends =
           subst (λ (n : ℕ). behind n (drop (c.loop-pair.pair-index + 1) c.args.pairs.now) ≡ behind c.args.span.low c.args.pairs.now) key
           (subst (λ (j : ℕ). behind (suc (get_or c.args.pairs.now c.loop-pair.pair-index (0, 0)).0) (drop j c.args.pairs.now) ≡ behind c.args.span.low c.args.pairs.now) on
@@ -110,20 +111,20 @@ loop-pair-preserved g c =
       paid = paid_then false (row_cost (g.S.EawStore.calls c.loop-pair.pages.store) c.args.tid (V c.loop-pair.pages.store)) (row_cost (g.S.EawStore.calls c.args.pages.now.store) c.args.tid (V c.args.pages.now.store))
           (V c.args.pages.now.store).moment (V c.loop-pair.pages.store).moment (V c.read_row.new.pages.store).moment c.args.hearings.now.said c.loop-pair.hearings.said c.read_row.new.hearings.said c.loop-pair.invariant.paid
           (row_same (g.S.EawStore.calls c.loop-pair.pages.store) (g.S.EawStore.calls c.args.pages.now.store) c.args.tid (V c.loop-pair.pages.store) (V c.args.pages.now.store) c.loop-pair.invariant.steady c.loop-pair.invariant.looks.shape (c.loop-pair.invariant.looks.same refl).ranges)
-          c.in-Ok.ensures.costs refl;
-      steady = λ command. c.in-Ok.ensures.steady refl command ∙ c.loop-pair.invariant.steady command;
-      spoke = next_spoke v1.store.shape (get_or c.args.pairs.now i (0, 0)) c.loop-pair.hearings.said c.read_row.new.hearings.said c.in-Ok.row c.in-Ok.ensures.hears c.loop-pair.invariant.spoke;
-      heard = next_rows v1.store.shape (get_or c.args.pairs.now i (0, 0)) c.loop-pair.hearings.said c.read_row.new.hearings.said c.in-Ok.row c.loop-pair.rows c.push_row.new.rows c.in-Ok.ensures.hears c.loop-pair.invariant.heard c.in-Ok-push_row.ensures;
+          c.in_ok-row.ensures.costs refl;
+      steady = λ command. c.in_ok-row.ensures.steady refl command ∙ c.loop-pair.invariant.steady command;
+      spoke = next_spoke v1.store.shape (get_or c.args.pairs.now i (0, 0)) c.loop-pair.hearings.said c.read_row.new.hearings.said c.in_ok-row.row c.in_ok-row.ensures.hears c.loop-pair.invariant.spoke;
+      heard = next_rows v1.store.shape (get_or c.args.pairs.now i (0, 0)) c.loop-pair.hearings.said c.read_row.new.hearings.said c.in_ok-row.row c.loop-pair.rows c.push_row.new.rows c.in_ok-row.ensures.hears c.loop-pair.invariant.heard c.in_ok-push_row.ensures;
       rows = λ told name called.
-          let f = c.in-Ok.ensures.follows told name (subst (λ (s : State). IsCalled s.bytes c.args.span.table name) (sym ((c.loop-pair.invariant.looks.same refl).still.state told)) called) in
-          let seen : rows_seen I t name v0 c.loop-pair.from c.args.span.high ≡ row_at c.in-Ok.row.key c.in-Ok.row.value ++ rows_seen I t name v0 (suc c.in-Ok.row.key) c.args.span.high =
+          let f = c.in_ok-row.ensures.follows told name (subst (λ (s : State). IsCalled s.bytes c.args.span.table name) (sym ((c.loop-pair.invariant.looks.same refl).still.state told)) called) in
+          let seen : rows_seen I t name v0 c.loop-pair.from c.args.span.high ≡ row_at c.in_ok-row.row.key c.in_ok-row.row.value ++ rows_seen I t name v0 (suc c.in_ok-row.row.key) c.args.span.high =
           ap (λ (s : TableState). rows_within name c.loop-pair.from c.args.span.high (seen_by s t)) (sym (moved.state told)) ∙ f
-          ∙ ap (λ (s : TableState). row_at c.in-Ok.row.key c.in-Ok.row.value ++ rows_within name (suc c.in-Ok.row.key) c.args.span.high (seen_by s t)) (moved.state told) in
-          let after : suc c.in-Ok.row.key ≡ c.in-Ok.row.key + 1 = omega arith in
+          ∙ ap (λ (s : TableState). row_at c.in_ok-row.row.key c.in_ok-row.row.value ++ rows_within name (suc c.in_ok-row.row.key) c.args.span.high (seen_by s t)) (moved.state told) in
+          let after : suc c.in_ok-row.row.key ≡ c.in_ok-row.row.key + 1 = omega arith in
           subst (λ (n : ℕ). c.push_row.new.rows ++ rows_seen I t name v0 n c.args.span.high
           ≡ c.args.rows.now ++ rows_seen I t name v0 c.args.span.low c.args.span.high) after
-          (more_row (c.loop-pair.rows) (row_at c.in-Ok.row.key c.in-Ok.row.value) _ _ _ (c.push_row.new.rows) (c.loop-pair.invariant.rows told name called) seen
-          c.in-Ok-push_row.ensures);
+          (more_row (c.loop-pair.rows) (row_at c.in_ok-row.row.key c.in_ok-row.row.value) _ _ _ (c.push_row.new.rows) (c.loop-pair.invariant.rows told name called) seen
+          c.in_ok-push_row.ensures);
     }
 
 pub returns-then-pair-span-clause-rows : goal.returns-then-pair-span-clause-rows
@@ -158,60 +159,68 @@ returns-then-row-span-clause-rows g c = λ told name called.
     let t = c.args.tid in
     let rests = c.requires.holds c.requires.alive in
     let moved = moved_by_look T E I t v0 v1 c.requires.alive rests c.loop-pair.invariant.looks in
-    let f = c.in-Ok.ensures.follows told name (subst (λ (s : State). IsCalled s.bytes c.args.span.table name) (sym ((c.loop-pair.invariant.looks.same refl).still.state told)) called) in
-    let seen : rows_seen g.K.KeyIndex.index c.args.tid name (pages_of (g.S.EawStore.view c.args.pages.now.store) c.args.pages.now) c.loop-pair.from c.args.span.high ≡ row_at c.in-Ok.row.key c.in-Ok.row.value ++ rows_seen g.K.KeyIndex.index c.args.tid name (pages_of (g.S.EawStore.view c.args.pages.now.store) c.args.pages.now) (suc c.in-Ok.row.key) c.args.span.high =
+    let f = c.in_ok-row.ensures.follows told name (subst (λ (s : State). IsCalled s.bytes c.args.span.table name) (sym ((c.loop-pair.invariant.looks.same refl).still.state told)) called) in
+    let seen : rows_seen g.K.KeyIndex.index c.args.tid name (pages_of (g.S.EawStore.view c.args.pages.now.store) c.args.pages.now) c.loop-pair.from c.args.span.high ≡ row_at c.in_ok-row.row.key c.in_ok-row.row.value ++ rows_seen g.K.KeyIndex.index c.args.tid name (pages_of (g.S.EawStore.view c.args.pages.now.store) c.args.pages.now) (suc c.in_ok-row.row.key) c.args.span.high =
     ap (λ (s : TableState). rows_within name c.loop-pair.from c.args.span.high (seen_by s t)) (sym (moved.state told)) ∙ f
-    ∙ ap (λ (s : TableState). row_at c.in-Ok.row.key c.in-Ok.row.value ++ rows_within name (suc c.in-Ok.row.key) c.args.span.high (seen_by s t)) (moved.state told) in
+    ∙ ap (λ (s : TableState). row_at c.in_ok-row.row.key c.in_ok-row.row.value ++ rows_within name (suc c.in_ok-row.row.key) c.args.span.high (seen_by s t)) (moved.state told) in
     append-nil (c.push_row.new.rows)
-    ∙ last_row (c.loop-pair.rows) (row_at c.in-Ok.row.key c.in-Ok.row.value) _ _ _ _ (c.loop-pair.invariant.rows told name called) seen
-    (follows_past I laws t v0 (rests.tied told) c.args.span.table c.args.span.root name called (c.requires.named told c.requires.alive) (suc c.in-Ok.row.key) c.args.span.high (omega (arith, c.if-row-span.true)))
-    c.in-Ok-push_row.ensures
+    ∙ last_row (c.loop-pair.rows) (row_at c.in_ok-row.row.key c.in_ok-row.row.value) _ _ _ _ (c.loop-pair.invariant.rows told name called) seen
+    (follows_past I laws t v0 (rests.tied told) c.args.span.table c.args.span.root name called (c.requires.named told c.requires.alive) (suc c.in_ok-row.row.key) c.args.span.high (omega (arith, c.if-row-span.true)))
+    c.in_ok-push_row.ensures
 
-pub returns-in-Err-clause-looks : goal.returns-in-Err-clause-looks
-returns-in-Err-clause-looks g c =
+pub returns-in_err-row-clause-looks : goal.returns-in_err-row-clause-looks
+returns-in_err-row-clause-looks g c =
+    let exit = err_from_is_err_and c.from_residual.result c.from_residual.ensures.1 in
+    rw (exit.1) (
     let V = g.S.EawStore.view in
     let T = g.S.EawStore.tells in
     let E = g.S.EawStore.opens in
     let A = λ (b : Bool). LooksAs T (E (V c.args.pages.now.store).shape) c.args.tid b (pages_of (V c.args.pages.now.store) c.args.pages.now) (pages_of (V c.read_row.new.pages.store) c.read_row.new.pages) in
-    subst (λ (e : TableFault). A (let r : Result (Option ℕ) TableFault = Err e in answers.is_failed r)) (sym c.from.ensures)
-    (subst A (sym (failed_told c.in-Err.fault)) (looks_next T E c.args.tid _ (pages_of (V c.args.pages.now.store) c.args.pages.now) (pages_of (V c.loop-pair.pages.store) c.loop-pair.pages) (pages_of (V c.read_row.new.pages.store) c.read_row.new.pages) c.loop-pair.invariant.looks c.in-Err.ensures.looks))
+    subst (λ (e : TableFault). A (let r : Result (Option ℕ) TableFault = Err e in answers.is_failed r)) (sym exit.2)
+    (subst A (sym (failed_told c.in_err-row.field-0.0)) (looks_next T E c.args.tid _ (pages_of (V c.args.pages.now.store) c.args.pages.now) (pages_of (V c.loop-pair.pages.store) c.loop-pair.pages) (pages_of (V c.read_row.new.pages.store) c.read_row.new.pages) c.loop-pair.invariant.looks c.in_err-row.ensures.looks)))
 
-pub returns-in-Err-push_row-clause-looks : goal.returns-in-Err-push_row-clause-looks
-returns-in-Err-push_row-clause-looks g c =
+pub returns-in_err-push_row-clause-looks : goal.returns-in_err-push_row-clause-looks
+returns-in_err-push_row-clause-looks g c =
+    let exit = err_from_is_err_and c.from_residual-in_err-push_row.result c.from_residual-in_err-push_row.ensures.1 in
+    rw (exit.1, exit.2) (
     let V = g.S.EawStore.view in
     let T = g.S.EawStore.tells in
     let E = g.S.EawStore.opens in
-    looks_next T E c.args.tid false (pages_of (V c.args.pages.now.store) c.args.pages.now) (pages_of (V c.loop-pair.pages.store) c.loop-pair.pages) (pages_of (V c.read_row.new.pages.store) c.read_row.new.pages) c.loop-pair.invariant.looks c.in-Ok.ensures.looks
+    looks_next T E c.args.tid false (pages_of (V c.args.pages.now.store) c.args.pages.now) (pages_of (V c.loop-pair.pages.store) c.loop-pair.pages) (pages_of (V c.read_row.new.pages.store) c.read_row.new.pages) c.loop-pair.invariant.looks c.in_ok-row.ensures.looks)
 
 pub returns-then-row-span-clause-looks : goal.returns-then-row-span-clause-looks
 returns-then-row-span-clause-looks g c =
     let V = g.S.EawStore.view in
     let T = g.S.EawStore.tells in
     let E = g.S.EawStore.opens in
-    looks_next T E c.args.tid false (pages_of (V c.args.pages.now.store) c.args.pages.now) (pages_of (V c.loop-pair.pages.store) c.loop-pair.pages) (pages_of (V c.read_row.new.pages.store) c.read_row.new.pages) c.loop-pair.invariant.looks c.in-Ok.ensures.looks
+    looks_next T E c.args.tid false (pages_of (V c.args.pages.now.store) c.args.pages.now) (pages_of (V c.loop-pair.pages.store) c.loop-pair.pages) (pages_of (V c.read_row.new.pages.store) c.read_row.new.pages) c.loop-pair.invariant.looks c.in_ok-row.ensures.looks
 
 pub returns-then-pair-span-clause-hears : goal.returns-then-pair-span-clause-hears
 returns-then-pair-span-clause-hears g c = (c.loop-pair.invariant.spoke, c.loop-pair.invariant.heard)
 
-pub returns-in-Err-clause-hears : goal.returns-in-Err-clause-hears
-returns-in-Err-clause-hears g c =
+pub returns-in_err-row-clause-hears : goal.returns-in_err-row-clause-hears
+returns-in_err-row-clause-hears g c =
+    let exit = err_from_is_err_and c.from_residual.result c.from_residual.ensures.1 in
+    rw (exit.1) (
     let V = g.S.EawStore.view in
     let here = inside_at c.args.pairs.now c.loop-pair.from (slots_of (V c.args.pages.now.store).shape) c.args.pairs.now c.loop-pair.pair-index c.loop-pair-test.true c.loop-pair.invariant.inside in
-    subst (λ (s : Shape). HearsRows s c.read_row.new.hearings.said (λ (from : Option ℕ). c.loop-pair.rows) (Err c.from.result)) c.loop-pair.invariant.looks.shape
-    (subst (λ (e : TableFault). HearsRows (V c.loop-pair.pages.store).shape c.read_row.new.hearings.said (λ (from : Option ℕ). c.loop-pair.rows) (Err e)) (sym c.from.ensures)
-    (next_refused (V c.loop-pair.pages.store).shape (get_or c.args.pairs.now c.loop-pair.pair-index (0, 0)) c.loop-pair.hearings.said c.read_row.new.hearings.said (λ (from : Option ℕ). c.loop-pair.rows) c.in-Err.fault
-    (omega (arith, here.1, ap slots_of c.loop-pair.invariant.looks.shape)) c.in-Err.ensures.hears c.loop-pair.invariant.spoke))
+    subst (λ (s : Shape). HearsRows s c.read_row.new.hearings.said (λ (from : Option ℕ). c.loop-pair.rows) (Err exit.0)) c.loop-pair.invariant.looks.shape
+    (subst (λ (e : TableFault). HearsRows (V c.loop-pair.pages.store).shape c.read_row.new.hearings.said (λ (from : Option ℕ). c.loop-pair.rows) (Err e)) (sym exit.2)
+    (next_refused (V c.loop-pair.pages.store).shape (get_or c.args.pairs.now c.loop-pair.pair-index (0, 0)) c.loop-pair.hearings.said c.read_row.new.hearings.said (λ (from : Option ℕ). c.loop-pair.rows) c.in_err-row.field-0.0
+    (omega (arith, here.1, ap slots_of c.loop-pair.invariant.looks.shape)) c.in_err-row.ensures.hears c.loop-pair.invariant.spoke)))
 
-pub returns-in-Err-push_row-clause-hears : goal.returns-in-Err-push_row-clause-hears
-returns-in-Err-push_row-clause-hears g c =
-    next_spoke (g.S.EawStore.view c.loop-pair.pages.store).shape (get_or c.args.pairs.now c.loop-pair.pair-index (0, 0)) c.loop-pair.hearings.said c.read_row.new.hearings.said c.in-Ok.row c.in-Ok.ensures.hears c.loop-pair.invariant.spoke
+pub returns-in_err-push_row-clause-hears : goal.returns-in_err-push_row-clause-hears
+returns-in_err-push_row-clause-hears g c =
+    let exit = err_from_is_err_and c.from_residual-in_err-push_row.result c.from_residual-in_err-push_row.ensures.1 in
+    rw (exit.1, exit.2) (
+    next_spoke (g.S.EawStore.view c.loop-pair.pages.store).shape (get_or c.args.pairs.now c.loop-pair.pair-index (0, 0)) c.loop-pair.hearings.said c.read_row.new.hearings.said c.in_ok-row.row c.in_ok-row.ensures.hears c.loop-pair.invariant.spoke)
 
 pub returns-then-row-span-clause-hears : goal.returns-then-row-span-clause-hears
 returns-then-row-span-clause-hears g c =
     let shape = (g.S.EawStore.view c.loop-pair.pages.store).shape in
     let pair = get_or c.args.pairs.now c.loop-pair.pair-index (0, 0) in (
-      next_spoke shape pair c.loop-pair.hearings.said c.read_row.new.hearings.said c.in-Ok.row c.in-Ok.ensures.hears c.loop-pair.invariant.spoke,
-      next_rows shape pair c.loop-pair.hearings.said c.read_row.new.hearings.said c.in-Ok.row c.loop-pair.rows c.push_row.new.rows c.in-Ok.ensures.hears c.loop-pair.invariant.heard c.in-Ok-push_row.ensures,
+      next_spoke shape pair c.loop-pair.hearings.said c.read_row.new.hearings.said c.in_ok-row.row c.in_ok-row.ensures.hears c.loop-pair.invariant.spoke,
+      next_rows shape pair c.loop-pair.hearings.said c.read_row.new.hearings.said c.in_ok-row.row c.loop-pair.rows c.push_row.new.rows c.in_ok-row.ensures.hears c.loop-pair.invariant.heard c.in_ok-push_row.ensures,
     )
 
 pub returns-clause-hears : goal.returns-clause-hears
@@ -230,15 +239,15 @@ returns-then-pair-span-clause-few g c = omega (arith, c.loop-pair.invariant.met,
 
 pub returns-then-row-span-clause-few : goal.returns-then-row-span-clause-few
 returns-then-row-span-clause-few g c =
-    omega (arith, next_met (g.S.EawStore.view c.loop-pair.pages.store).shape (get_or c.args.pairs.now c.loop-pair.pair-index (0, 0)) c.loop-pair.hearings.said c.read_row.new.hearings.said c.in-Ok.row c.in-Ok.ensures.hears, c.loop-pair.invariant.met, c.loop-pair-test.true)
+    omega (arith, next_met (g.S.EawStore.view c.loop-pair.pages.store).shape (get_or c.args.pairs.now c.loop-pair.pair-index (0, 0)) c.loop-pair.hearings.said c.read_row.new.hearings.said c.in_ok-row.row c.in_ok-row.ensures.hears, c.loop-pair.invariant.met, c.loop-pair-test.true)
 
-pub returns-in-Err-push_row-clause-few : goal.returns-in-Err-push_row-clause-few
-returns-in-Err-push_row-clause-few g c =
-    omega (arith, next_met (g.S.EawStore.view c.loop-pair.pages.store).shape (get_or c.args.pairs.now c.loop-pair.pair-index (0, 0)) c.loop-pair.hearings.said c.read_row.new.hearings.said c.in-Ok.row c.in-Ok.ensures.hears, c.loop-pair.invariant.met, c.loop-pair-test.true)
+pub returns-in_err-push_row-clause-few : goal.returns-in_err-push_row-clause-few
+returns-in_err-push_row-clause-few g c =
+    omega (arith, next_met (g.S.EawStore.view c.loop-pair.pages.store).shape (get_or c.args.pairs.now c.loop-pair.pair-index (0, 0)) c.loop-pair.hearings.said c.read_row.new.hearings.said c.in_ok-row.row c.in_ok-row.ensures.hears, c.loop-pair.invariant.met, c.loop-pair-test.true)
 
-pub returns-in-Err-clause-few : goal.returns-in-Err-clause-few
-returns-in-Err-clause-few g c =
-    omega (arith, refused_met (g.S.EawStore.view c.loop-pair.pages.store).shape (get_or c.args.pairs.now c.loop-pair.pair-index (0, 0)) c.loop-pair.hearings.said c.read_row.new.hearings.said c.in-Err.fault c.in-Err.ensures.hears, c.loop-pair.invariant.met, c.loop-pair-test.true)
+pub returns-in_err-row-clause-few : goal.returns-in_err-row-clause-few
+returns-in_err-row-clause-few g c =
+    omega (arith, refused_met (g.S.EawStore.view c.loop-pair.pages.store).shape (get_or c.args.pairs.now c.loop-pair.pair-index (0, 0)) c.loop-pair.hearings.said c.read_row.new.hearings.said c.in_err-row.field-0.0 c.in_err-row.ensures.hears, c.loop-pair.invariant.met, c.loop-pair-test.true)
 
 pub returns-clause-costs : goal.returns-clause-costs
 returns-clause-costs g c = λ well. c.loop-pair.invariant.paid
@@ -252,25 +261,29 @@ returns-then-row-span-clause-costs g c =
     paid_then false (row_cost (g.S.EawStore.calls c.loop-pair.pages.store) c.args.tid (V c.loop-pair.pages.store)) (row_cost (g.S.EawStore.calls c.args.pages.now.store) c.args.tid (V c.args.pages.now.store))
     (V c.args.pages.now.store).moment (V c.loop-pair.pages.store).moment (V c.read_row.new.pages.store).moment c.args.hearings.now.said c.loop-pair.hearings.said c.read_row.new.hearings.said c.loop-pair.invariant.paid
     (row_same (g.S.EawStore.calls c.loop-pair.pages.store) (g.S.EawStore.calls c.args.pages.now.store) c.args.tid (V c.loop-pair.pages.store) (V c.args.pages.now.store) c.loop-pair.invariant.steady c.loop-pair.invariant.looks.shape (c.loop-pair.invariant.looks.same refl).ranges)
-    c.in-Ok.ensures.costs
+    c.in_ok-row.ensures.costs
 
-pub returns-in-Err-push_row-clause-costs : goal.returns-in-Err-push_row-clause-costs
-returns-in-Err-push_row-clause-costs g c =
+pub returns-in_err-push_row-clause-costs : goal.returns-in_err-push_row-clause-costs
+returns-in_err-push_row-clause-costs g c =
+    let exit = err_from_is_err_and c.from_residual-in_err-push_row.result c.from_residual-in_err-push_row.ensures.1 in
+    rw (exit.1, exit.2) (
     let V = g.S.EawStore.view in
     paid_then false (row_cost (g.S.EawStore.calls c.loop-pair.pages.store) c.args.tid (V c.loop-pair.pages.store)) (row_cost (g.S.EawStore.calls c.args.pages.now.store) c.args.tid (V c.args.pages.now.store))
     (V c.args.pages.now.store).moment (V c.loop-pair.pages.store).moment (V c.read_row.new.pages.store).moment c.args.hearings.now.said c.loop-pair.hearings.said c.read_row.new.hearings.said c.loop-pair.invariant.paid
     (row_same (g.S.EawStore.calls c.loop-pair.pages.store) (g.S.EawStore.calls c.args.pages.now.store) c.args.tid (V c.loop-pair.pages.store) (V c.args.pages.now.store) c.loop-pair.invariant.steady c.loop-pair.invariant.looks.shape (c.loop-pair.invariant.looks.same refl).ranges)
-    c.in-Ok.ensures.costs
+    c.in_ok-row.ensures.costs)
 
-pub returns-in-Err-clause-costs : goal.returns-in-Err-clause-costs
-returns-in-Err-clause-costs g c =
+pub returns-in_err-row-clause-costs : goal.returns-in_err-row-clause-costs
+returns-in_err-row-clause-costs g c =
+    let exit = err_from_is_err_and c.from_residual.result c.from_residual.ensures.1 in
+    rw (exit.1) (
     let V = g.S.EawStore.view in
     let A = λ (b : Bool). ArePaid b (row_cost (g.S.EawStore.calls c.args.pages.now.store) c.args.tid (V c.args.pages.now.store)) (V c.args.pages.now.store).moment (V c.read_row.new.pages.store).moment c.args.hearings.now.said c.read_row.new.hearings.said in
-    subst (λ (e : TableFault). A (let r : Result (Option ℕ) TableFault = Err e in answers.is_failed r)) (sym c.from.ensures)
-    (subst A (sym (failed_told c.in-Err.fault)) (paid_then _ (row_cost (g.S.EawStore.calls c.loop-pair.pages.store) c.args.tid (V c.loop-pair.pages.store)) (row_cost (g.S.EawStore.calls c.args.pages.now.store) c.args.tid (V c.args.pages.now.store))
+    subst (λ (e : TableFault). A (let r : Result (Option ℕ) TableFault = Err e in answers.is_failed r)) (sym exit.2)
+    (subst A (sym (failed_told c.in_err-row.field-0.0)) (paid_then _ (row_cost (g.S.EawStore.calls c.loop-pair.pages.store) c.args.tid (V c.loop-pair.pages.store)) (row_cost (g.S.EawStore.calls c.args.pages.now.store) c.args.tid (V c.args.pages.now.store))
     (V c.args.pages.now.store).moment (V c.loop-pair.pages.store).moment (V c.read_row.new.pages.store).moment c.args.hearings.now.said c.loop-pair.hearings.said c.read_row.new.hearings.said c.loop-pair.invariant.paid
     (row_same (g.S.EawStore.calls c.loop-pair.pages.store) (g.S.EawStore.calls c.args.pages.now.store) c.args.tid (V c.loop-pair.pages.store) (V c.args.pages.now.store) c.loop-pair.invariant.steady c.loop-pair.invariant.looks.shape (c.loop-pair.invariant.looks.same refl).ranges)
-    c.in-Err.ensures.costs))
+    c.in_err-row.ensures.costs)))
 
 pub returns-clause-steady : goal.returns-clause-steady
 returns-clause-steady g c = λ well. c.loop-pair.invariant.steady
@@ -279,13 +292,17 @@ pub returns-then-pair-span-clause-steady : goal.returns-then-pair-span-clause-st
 returns-then-pair-span-clause-steady g c = λ well. c.loop-pair.invariant.steady
 
 pub returns-then-row-span-clause-steady : goal.returns-then-row-span-clause-steady
-returns-then-row-span-clause-steady g c = λ well command. c.in-Ok.ensures.steady refl command ∙ c.loop-pair.invariant.steady command
+returns-then-row-span-clause-steady g c = λ well command. c.in_ok-row.ensures.steady refl command ∙ c.loop-pair.invariant.steady command
 
-pub returns-in-Err-push_row-clause-steady : goal.returns-in-Err-push_row-clause-steady
-returns-in-Err-push_row-clause-steady g c = λ well command. c.in-Ok.ensures.steady refl command ∙ c.loop-pair.invariant.steady command
+pub returns-in_err-push_row-clause-steady : goal.returns-in_err-push_row-clause-steady
+returns-in_err-push_row-clause-steady g c =
+    let exit = err_from_is_err_and c.from_residual-in_err-push_row.result c.from_residual-in_err-push_row.ensures.1 in
+    rw (exit.1, exit.2) (λ well command. c.in_ok-row.ensures.steady refl command ∙ c.loop-pair.invariant.steady command)
 
-pub returns-in-Err-clause-steady : goal.returns-in-Err-clause-steady
-returns-in-Err-clause-steady g c =
+pub returns-in_err-row-clause-steady : goal.returns-in_err-row-clause-steady
+returns-in_err-row-clause-steady g c =
+    let exit = err_from_is_err_and c.from_residual.result c.from_residual.ensures.1 in
+    rw (exit.1) (
     let A = λ (b : Bool). AreSteady b (g.S.EawStore.calls c.args.pages.now.store) (g.S.EawStore.calls c.read_row.new.pages.store) in
-    subst (λ (e : TableFault). A (let r : Result (Option ℕ) TableFault = Err e in answers.is_failed r)) (sym c.from.ensures)
-    (subst A (sym (failed_told c.in-Err.fault)) (λ well command. c.in-Err.ensures.steady well command ∙ c.loop-pair.invariant.steady command))
+    subst (λ (e : TableFault). A (let r : Result (Option ℕ) TableFault = Err e in answers.is_failed r)) (sym exit.2)
+    (subst A (sym (failed_told c.in_err-row.field-0.0)) (λ well command. c.in_err-row.ensures.steady well command ∙ c.loop-pair.invariant.steady command)))

@@ -1,4 +1,4 @@
-use Rattle.std.proofs.Common.{ℕ, List, true, refl, sym, ◌∙◌, subst, arith}
+use Rattle.std.proofs.Common.{ℕ, List, true, refl, sym, ◌∙◌, subst}
 use Rattle.pcm_media.specs.Images.{MayLeave}
 use Rattle.tape_media.specs.Tape.{LeftSince, view_of, counts_now, only_now}
 use Rattle.eaw_device.specs.Laws as device
@@ -17,4 +17,4 @@ returns-clause-down c =
     let opens : (image : List ℕ) → MayLeave (view_of media).content image → Opens s.shape image view.state.bytes =
     λ image left. device.only_now true (view_of s.media) s.shape s.logs.items s.late s.is_dead image s.sound refl alive
     (only_now s.media image (subst (λ (t : ℕ). LeftSince s.media t image) behind.moment (behind.left media.moment image (counts_now media media.moment image left)))) in
-    rw (← c.into_core.ensures) (rw (← c.into_store-store.ensures.store) (is_down view _ (view_of media) _ c.into_store-store.ensures.over alive behind opens))
+    rw (← c.into_core.ensures) (rw (← c.into_store-store.ensures.store) (is_down view c.depth-depth.result _ (view_of media) _ c.depth-depth.ensures.depth c.into_store-store.ensures.over alive behind opens))

@@ -1,4 +1,4 @@
-use Rattle.std.proofs.Common.{ℕ, List, IsTrue, length, refl, ap, subst}
+use Rattle.std.proofs.Common.{List, IsTrue, length, refl, ap, subst}
 use Rattle.page_store.specs.Marked.{Marked}
 use Rattle.page_store.specs.Shown.{counts_in, pages_of}
 use Rattle.history.specs.Rows.{table_of}

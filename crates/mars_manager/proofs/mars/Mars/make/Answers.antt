@@ -16,9 +16,9 @@ pub invariant_of-pass-2 : goal.invariant_of-pass-2
 invariant_of-pass-2 g c =
     let i = c.pass.invariant in
     let was = first_of c.pass.inside.seat.me.0.passes in
-    let m = c.in-Ok.ensures.made in
+    let m = c.in_ok-reply.ensures.made in
     let call = c.args.call.now in
-    let reply = c.in-Ok.reply in
+    let reply = c.in_ok-reply.reply in
     let k = ap (λ (p : PassView g.row.C.Denot). p.known) c.pass.view_is in
     let has : IsTrue (takes_of (first_of c.pass.inside.seat.me.0.passes)) → IsCovered (locks (names_of (first_of c.pass.inside.seat.me.0.passes)) call) (first_of c.pass.inside.seat.me.0.passes).holds =
     subst (λ (j : Known g.row.C.Denot). IsTrue (takes_of j) → IsCovered (locks (names_of j) call) j.holds) (sym k) c.requires.covered in

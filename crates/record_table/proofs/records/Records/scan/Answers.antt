@@ -1,8 +1,10 @@
-use Rattle.std.proofs.Common.{List, [], true, refl, subst}
+use Rattle.std.proofs.Common.{List, [], true, false, refl, subst}
 use Rattle.page_store.specs.Shown.{Shown}
 use Rattle.record_table.proofs.Doing.{does_dead}
 use Rattle.record_table.proofs.Looking.{looks_none}
-use Rattle.std.proofs.Common.{◌≡◌, Bool, sym, ◌∙◌, ap, arith}
+use Rattle.std.proofs.Common.{◌≡◌, Bool, Result, Ok, Err, sym, ◌∙◌, ap, arith}
+use Rattle.std.specs.Result.{result_from_control_flow}
+use Rattle.record_table.specs.declared.fault.TableFault.{TableFault}
 use Rattle.record_table.specs.Does as answers
 use Rattle.record_table.specs.Seeks.{row_cost}
 use Rattle.record_table.specs.Walked.{Walked}
@@ -15,22 +17,26 @@ use Rattle.history.specs.declared.call.Call.TheVariants.{Table as OnTable}
 use Rattle.history.specs.declared.call.TableCall.TheVariants.{Scan}
 use Rattle.record_table.proofs.Doing.{scanned_as, scanned}
 use Rattle.record_table.proofs.Ending.{does_of}
-use Rattle.record_table.proofs.records.Records.scan.Given.{Over}
-use Rattle.record_table.proofs.records.Records.scan.Goals.{in-Ok, in-Err}
 use Rattle.record_table.proofs.KeptNames.{kept}
 use Rattle.history.specs.Writes.{Row}
 use Rattle.record_table.specs.Hearing.{Hearing, HearsRows}
 use Rattle.record_table.proofs.Hearing.{rows_given}
+use Rattle.std.proofs.lemmas.Result.{err_from_is_err_and}
 use Rattle.record_table.proofs.records.Records.scan.Goals as goal
-
-answer_is : (g : Over) (c : goal.Joined-gather g) → c.match-gather.result ≡ scanned_as c.gather.new.rows c.gather.result
-answer_is g c = elim c.match-gather.branch [
-  | in-Ok w ↦ w.result-is ∙ sym (ap (scanned_as c.gather.new.rows) w.in-Ok.is)
-  | in-Err w ↦ w.result-is ∙ sym (ap (scanned_as c.gather.new.rows) w.in-Err.is)
-]
 
 pub invariant_of-self : goal.invariant_of-self
 invariant_of-self g c =
+    let V = g.S.EawStore.view in
+    let inside = c.self.inside.pages in
+    let name = name_at (V c.args.self.now.store).state.bytes c.args.table in
+    let root = c.of_table-root.result in
+    let calls = called_inside g.S.EawStore.tells V c.args.self.now c.self.inside.pages c.self.view_is c.args.table name (λ told alive. called_below (V c.args.self.now.store).state.bytes c.args.table (c.requires.there told alive)) in
+    let roots = rooted_as g.S.EawStore.tells (pages_of (V c.self.inside.pages.store) c.self.inside.pages) c.self.inside.roots.at c.args.table c.requires.table c.self.invariant.1.1 name calls c.of_table-root.result c.of_table-root.ensures in
+    kept (scanned g.S.EawStore.tells (g.S.EawStore.opens (V inside.store).shape) g.K.KeyIndex.index c.args.table c.args.tid c.args.low c.args.high name (pages_of (V inside.store) inside) (pages_of (V c.gather.new.pages.store) c.gather.new.pages) c.self.invariant.0
+    (sym c.is_dead.ensures.dead ∙ c.if-is_dead.false) c.gather.new.rows c.gather.result c.gather.ensures.looks c.gather.ensures.cause (λ told. c.gather.ensures.rows told name (calls told (sym c.is_dead.ensures.dead ∙ c.if-is_dead.false)))) c.self.invariant.1
+
+pub invariant_of-self-2 : goal.invariant_of-self-2
+invariant_of-self-2 g c =
     let V = g.S.EawStore.view in
     let inside = c.self.inside.pages in
     let name = name_at (V c.args.self.now.store).state.bytes c.args.table in
@@ -47,7 +53,20 @@ returns-clause-does g c = λ name its.
     let root = c.of_table-root.result in
     let calls = called_inside g.S.EawStore.tells V c.args.self.now c.self.inside.pages c.self.view_is c.args.table name its in
     let roots = rooted_as g.S.EawStore.tells (pages_of (V c.self.inside.pages.store) c.self.inside.pages) c.self.inside.roots.at c.args.table c.requires.table c.self.invariant.1.1 name calls c.of_table-root.result c.of_table-root.ensures in
-    rw (answer_is g c) (does_of V g.S.EawStore.tells g.S.EawStore.opens g.K.KeyIndex.index c.args.table c.args.tid (OnTable (Scan name c.args.low c.args.high)) c.args.self.now inside c.self.view_is (pages_of (V c.gather.new.pages.store) c.gather.new.pages) _
+    does_of V g.S.EawStore.tells g.S.EawStore.opens g.K.KeyIndex.index c.args.table c.args.tid (OnTable (Scan name c.args.low c.args.high)) c.args.self.now inside c.self.view_is (pages_of (V c.gather.new.pages.store) c.gather.new.pages) _
+    (scanned g.S.EawStore.tells (g.S.EawStore.opens (V inside.store).shape) g.K.KeyIndex.index c.args.table c.args.tid c.args.low c.args.high name (pages_of (V inside.store) inside) (pages_of (V c.gather.new.pages.store) c.gather.new.pages) c.self.invariant.0
+    (sym c.is_dead.ensures.dead ∙ c.if-is_dead.false) c.gather.new.rows (Ok tt) c.in_ok-gather.ensures.looks c.in_ok-gather.ensures.cause (λ told. c.in_ok-gather.ensures.rows told name (calls told (sym c.is_dead.ensures.dead ∙ c.if-is_dead.false)))).0
+
+pub returns-in_err-gather-clause-does : goal.returns-in_err-gather-clause-does
+returns-in_err-gather-clause-does g c = λ name its.
+    let V = g.S.EawStore.view in
+    let inside = c.self.inside.pages in
+    let root = c.of_table-root.result in
+    let calls = called_inside g.S.EawStore.tells V c.args.self.now c.self.inside.pages c.self.view_is c.args.table name its in
+    let roots = rooted_as g.S.EawStore.tells (pages_of (V c.self.inside.pages.store) c.self.inside.pages) c.self.inside.roots.at c.args.table c.requires.table c.self.invariant.1.1 name calls c.of_table-root.result c.of_table-root.ensures in
+    let exit = err_from_is_err_and c.from_residual.result c.from_residual.ensures.1 in
+    let answer = exit.1 ∙ ap (λ (f : TableFault). let r : Result (List Row) TableFault = Err f in r) exit.2 ∙ sym (ap (scanned_as c.gather.new.rows) (c.branch-gather.ensures ∙ ap result_from_control_flow c.in_err-gather.is)) in
+    rw answer (does_of V g.S.EawStore.tells g.S.EawStore.opens g.K.KeyIndex.index c.args.table c.args.tid (OnTable (Scan name c.args.low c.args.high)) c.args.self.now inside c.self.view_is (pages_of (V c.gather.new.pages.store) c.gather.new.pages) _
     (scanned g.S.EawStore.tells (g.S.EawStore.opens (V inside.store).shape) g.K.KeyIndex.index c.args.table c.args.tid c.args.low c.args.high name (pages_of (V inside.store) inside) (pages_of (V c.gather.new.pages.store) c.gather.new.pages) c.self.invariant.0
     (sym c.is_dead.ensures.dead ∙ c.if-is_dead.false) c.gather.new.rows c.gather.result c.gather.ensures.looks c.gather.ensures.cause (λ told. c.gather.ensures.rows told name (calls told (sym c.is_dead.ensures.dead ∙ c.if-is_dead.false)))).0)
 
@@ -79,8 +98,21 @@ returns-then-is_dead-clause-looks g c =
 
 pub returns-clause-hears : goal.returns-clause-hears
 returns-clause-hears g c =
+    let V = g.S.EawStore.view in (
+      c.gather.new.hearings.said,
+      subst (λ (p : Shown g.row.S.Denot). HearsRows (V p.store).shape c.gather.new.hearings.said (λ (rows : List Row). rows) (Ok c.gather.new.rows)) c.self.view_is
+          (rows_given (V c.self.inside.pages.store).shape c.gather.new.hearings.said c.gather.new.rows (Ok tt) c.in_ok-gather.ensures.hears),
+      c.of_table-root.result,
+      subst (λ (p : Shown g.row.S.Denot). Walked g.K.KeyIndex.index c.of_table-root.result (g.S.EawStore.calls p.store) (row_cost (g.S.EawStore.calls p.store) c.args.tid (V p.store)) (V p.store).shape false (V p.store).moment (V c.gather.new.pages.store).moment c.gather.new.hearings.said) c.self.view_is
+          c.in_ok-gather.ensures.walks,
+    )
+
+pub returns-in_err-gather-clause-hears : goal.returns-in_err-gather-clause-hears
+returns-in_err-gather-clause-hears g c =
     let V = g.S.EawStore.view in
-    rw (answer_is g c) (
+    let exit = err_from_is_err_and c.from_residual.result c.from_residual.ensures.1 in
+    let answer = exit.1 ∙ ap (λ (f : TableFault). let r : Result (List Row) TableFault = Err f in r) exit.2 ∙ sym (ap (scanned_as c.gather.new.rows) (c.branch-gather.ensures ∙ ap result_from_control_flow c.in_err-gather.is)) in
+    rw answer (
       c.gather.new.hearings.said,
       subst (λ (p : Shown g.row.S.Denot). HearsRows (V p.store).shape c.gather.new.hearings.said (λ (rows : List Row). rows) (scanned_as c.gather.new.rows c.gather.result)) c.self.view_is
           (rows_given (V c.self.inside.pages.store).shape c.gather.new.hearings.said c.gather.new.rows c.gather.result c.gather.ensures.hears),

@@ -1,5 +1,6 @@
 // Power that is lost while an array is restored over another.
-use super::arrays::{Counts, Kept, Lost, array_with, media_of, restore_full, two_tables, whole};
+use super::arrays::{media_of, whole};
+use super::tables::{Counts, Kept, Lost, array_with, restore_full, two_tables};
 use array_shape::Shape;
 use eaw_device::{AttachFault, FormatFault};
 use history::Tables;

@@ -1,4 +1,5 @@
-// Arrays in memory, and tables to be restored.
+// Tables to be restored, and arrays that hold them.
+use super::arrays::media_of;
 use array_shape::Shape;
 use btree_pages::BTreePages;
 use eaw_device::Eaw;
@@ -10,29 +11,14 @@ use record_slots::{Name, Value};
 use restoring::{RestoreFault, restore};
 use std::alloc::Global;
 
-// Room for the record of what is asked of a medium; past it the record grows.
-const CALLS: u64 = 256;
-
-const WRITTEN: u64 = 65_536;
-
 // Pages of the index are filled, so that one pair more splits a leaf.
 const FULL: usize = 30;
 
-/// All arrays of these tests lie on a medium of this one type, since all that stands on a medium is built once for each.
+/// The medium on which all arrays of these tests lie.
 pub type Lost = FusedMedia<MemoryMedia>;
 
 /// A core over an array that keeps the records that it found.
 pub type Kept<M> = Core<Eaw<M>, BTreePages, KeepsAll>;
-
-/// A medium whose power is never cut.
-pub fn whole(media: MemoryMedia) -> Lost {
-    FusedMedia::wrap(media, u64::MAX)
-}
-
-/// A medium with these bytes, none of whose calls has been made.
-pub fn media_of(alloc: Global, bytes: &[u8]) -> Option<MemoryMedia> {
-    MemoryMedia::new(alloc, bytes, CALLS, WRITTEN).ok()
-}
 
 /// Restores tables; each page of their index is full.
 pub fn restore_full<M: Media>(

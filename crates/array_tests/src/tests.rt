@@ -1,2 +1,0 @@
-mod arrays;
-mod losing;
