@@ -19,6 +19,7 @@ module _ (tells : Bool) (all more : List (ℕ × ℕ)) (old mid new : View) (wit
   calls_on : {T E U F : Type 0} {r : Result T E} (s : Result U F) → Writes tells more mid new r → HasCause mid.faults new.faults s → Writes tells all old new s
   calls_on s call cause = record {
     size = call.size ∙ so_far.size;
+    device = call.device ∙ so_far.device;
     cause = let done : Result (Unit {0}) (Unit {0}) = Ok tt in cause_on old.faults mid.faults new.faults done s refl so_far.cause cause;
     touched = λ told. touched_within all more old.content mid.content new.content (so_far.touched told) (within told) (call.touched told);
     time = λ told. then (so_far.time told) (weaker (left_partly_on all more old.content mid.content (so_far.touched told) (within told)) (call.time told));

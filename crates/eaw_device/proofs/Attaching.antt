@@ -124,8 +124,8 @@ module _ (tells : Bool) (old new : View) where
   )
 
   pub header_does : (T : Type 0) (wrong : HeaderFault) → SoFar tells [] old new → (let r : Result T AttachFault = Err (header_fault wrong) in Writes tells [] old new (media_answer is_of_media r))
-  header_does T header.NotMars does = record { size = does.size; cause = record { later = does.cause.later; failed = tt; kept = does.cause.kept }; touched = does.touched; time = does.time }
-  header_does T (header.BadShape bad) does = record { size = does.size; cause = record { later = does.cause.later; failed = tt; kept = does.cause.kept }; touched = does.touched; time = does.time }
+  header_does T header.NotMars does = record { size = does.size; device = does.device; cause = record { later = does.cause.later; failed = tt; kept = does.cause.kept }; touched = does.touched; time = does.time }
+  header_does T (header.BadShape bad) does = record { size = does.size; device = does.device; cause = record { later = does.cause.later; failed = tt; kept = does.cause.kept }; touched = does.touched; time = does.time }
 
 pub of_header : (wrong : HeaderFault) → IsOfHeader (header_fault wrong)
 of_header header.NotMars = tt

@@ -58,11 +58,11 @@ module _ (tells : Bool) (old new : View) (shape : Shape) (logs : List Log) (late
     -- the medium failed
     module _ (rose : Rose old.faults new.faults) where
       pub commit_failed : n ≡ 0 → (let failed : Result (Unit {0}) EawFault = Err Media in face.Does tells (Opens shape) (commit t) (view_of old shape logs late is_dead) (view_of new shape logs late' true) failed)
-      commit_failed none = failed tells (Opens shape) (commit t) (view_of old shape logs late is_dead) (view_of new shape logs late' true) refl depth (refl, λ alive. refl) does.does.cause.later
+      commit_failed none = failed tells (Opens shape) (commit t) (view_of old shape logs late is_dead) (view_of new shape logs late' true) refl depth does.does.device (refl, λ alive. refl) does.does.cause.later
           (λ told fine. subst (λ (k : ℕ). LeavesOnly (face.IsEither (Opens shape) before (applied (drop k parts) before)) old new) none (time told)) alive live tt rose refl (λ u other. refl)
 
       pub nested_failed : (offset : ℕ) → n ≡ offset → (let failed : Result (Unit {0}) EawFault = Err Media in face.Does tells (Opens shape) (nested_top t offset) (view_of old shape logs late is_dead) (view_of new shape logs late' true) failed)
-      nested_failed offset is = failed tells (Opens shape) (nested_top t offset) (view_of old shape logs late is_dead) (view_of new shape logs late' true) refl depth (refl, λ alive. refl) does.does.cause.later
+      nested_failed offset is = failed tells (Opens shape) (nested_top t offset) (view_of old shape logs late is_dead) (view_of new shape logs late' true) refl depth does.does.device (refl, λ alive. refl) does.does.cause.later
           (λ told fine. subst (λ (k : ℕ). LeavesOnly (face.IsEither (Opens shape) before (applied (drop k parts) before)) old new) is (time told)) alive live tt rose refl (λ u other. refl)
 
     -- the parts are in the data, and the log is cut
@@ -78,7 +78,7 @@ module _ (tells : Bool) (old new : View) (shape : Shape) (logs : List Log) (late
 
       pub commit_done : new.faults ≡ old.faults → n ≡ 0 → now.is_live ≡ false → (let done : Result (Unit {0}) EawFault = Ok tt in face.Does tells (Opens shape) (commit t) (view_of old shape logs late is_dead) (view_of new shape (slice_set logs at now) late' is_dead) done)
       commit_done same none free = subst (λ (k : ℕ). let done : Result (Unit {0}) EawFault = Ok tt in face.Does tells (Opens shape) (commit t) (view_of old shape logs late is_dead) (view_of new shape (slice_set logs k now) late' is_dead) done) (sym is)
-          (done tells (Opens shape) (commit t) (view_of old shape logs late is_dead) (view_of new shape (slice_set logs t now) late' is_dead) refl depth (refl, λ alive. refl) does.does.cause.later
+          (done tells (Opens shape) (commit t) (view_of old shape logs late is_dead) (view_of new shape (slice_set logs t now) late' is_dead) refl depth does.does.device (refl, λ alive. refl) does.does.cause.later
           (λ told fine. subst (λ (k : ℕ). LeavesOnly (face.IsEither (Opens shape) before (applied (drop k parts) before)) old new) none (time told)) tt same alive live tt
           (record {
             alive = alive;
@@ -92,7 +92,7 @@ module _ (tells : Bool) (old new : View) (shape : Shape) (logs : List Log) (late
       pub nested_done : new.faults ≡ old.faults → (offset : ℕ) → n ≡ offset → now.is_live ≡ true → (let done : Result (Unit {0}) EawFault = Ok tt in face.Does tells (Opens shape) (nested_top t offset) (view_of old shape logs late is_dead) (view_of new shape (slice_set logs at now) late' is_dead) done)
       nested_done kept' offset same live' = subst (λ (k : ℕ). let done : Result (Unit {0}) EawFault = Ok tt in face.Does tells (Opens shape) (nested_top t k) (view_of old shape logs late is_dead) (view_of new shape (slice_set logs at now) late' is_dead) done) same
           (subst (λ (k : ℕ). let done : Result (Unit {0}) EawFault = Ok tt in face.Does tells (Opens shape) (nested_top t n) (view_of old shape logs late is_dead) (view_of new shape (slice_set logs k now) late' is_dead) done) (sym is)
-          (done tells (Opens shape) (nested_top t n) (view_of old shape logs late is_dead) (view_of new shape (slice_set logs t now) late' is_dead) refl depth (refl, λ alive. refl) does.does.cause.later
+          (done tells (Opens shape) (nested_top t n) (view_of old shape logs late is_dead) (view_of new shape (slice_set logs t now) late' is_dead) refl depth does.does.device (refl, λ alive. refl) does.does.cause.later
           (λ told fine. time told) tt kept' alive live tt
           (record {
             alive = alive;
@@ -115,7 +115,7 @@ module _ (tells : Bool) (media : View) (shape : Shape) (logs : List Log) (late :
 
   pub abort_done : now.is_live ≡ false → (let done : Result (Unit {0}) EawFault = Ok tt in face.Does tells (Opens shape) (abort t) (view_of media shape logs late is_dead) (view_of media shape (slice_set logs at now) late is_dead) done)
   abort_done free = subst (λ (k : ℕ). let done : Result (Unit {0}) EawFault = Ok tt in face.Does tells (Opens shape) (abort t) (view_of media shape logs late is_dead) (view_of media shape (slice_set logs k now) late is_dead) done) (sym is)
-      (done tells (Opens shape) (abort t) (view_of media shape logs late is_dead) (view_of media shape (slice_set logs t now) late is_dead) refl refl (refl, λ alive. refl) (omega arith)
+      (done tells (Opens shape) (abort t) (view_of media shape logs late is_dead) (view_of media shape (slice_set logs t now) late is_dead) refl refl refl (refl, λ alive. refl) (omega arith)
       (λ told fine. stays media.moment media.left_since (face.IsEither (Opens shape) (shown shape late is_dead media.content.bytes) (shown shape late is_dead media.content.bytes))) tt refl alive live tt
       (record {
         alive = alive;
@@ -126,7 +126,7 @@ module _ (tells : Bool) (media : View) (shape : Shape) (logs : List Log) (late :
 
   pub partial_done : now.is_live ≡ true → (let done : Result (Unit {0}) EawFault = Ok tt in face.Does tells (Opens shape) (partial_abort t n) (view_of media shape logs late is_dead) (view_of media shape (slice_set logs at now) late is_dead) done)
   partial_done live' = subst (λ (k : ℕ). let done : Result (Unit {0}) EawFault = Ok tt in face.Does tells (Opens shape) (partial_abort t n) (view_of media shape logs late is_dead) (view_of media shape (slice_set logs k now) late is_dead) done) (sym is)
-      (done tells (Opens shape) (partial_abort t n) (view_of media shape logs late is_dead) (view_of media shape (slice_set logs t now) late is_dead) refl refl (refl, λ alive. refl) (omega arith)
+      (done tells (Opens shape) (partial_abort t n) (view_of media shape logs late is_dead) (view_of media shape (slice_set logs t now) late is_dead) refl refl refl (refl, λ alive. refl) (omega arith)
       (λ told fine. stays media.moment media.left_since (face.IsEither (Opens shape) (shown shape late is_dead media.content.bytes) (shown shape late is_dead media.content.bytes))) tt refl alive live tt
       (record {
         alive = alive;

@@ -23,11 +23,11 @@ use Rattle.eaw_device.specs.Logs.{IsKept, IsHeld}
 use Rattle.eaw_device.specs.Sound.{IsSound, IsTold, LacksLog, LacksGroup, view_of}
 use Rattle.eaw_device.proofs.Tables.{found_log, live_there}
 
-module _ (tells : Bool) (Opens : List ℕ → List ℕ → Type 0) (command : Command) (old new : StoreView) (shape : new.shape ≡ old.shape) (depth : new.depth ≡ old.depth) (still : (new.sending ≡ old.sending) × (new.is_dead ≡ false → old.sending.mirrors ≡ false)) (later : old.faults ≤ new.faults)
+module _ (tells : Bool) (Opens : List ℕ → List ℕ → Type 0) (command : Command) (old new : StoreView) (shape : new.shape ≡ old.shape) (depth : new.depth ≡ old.depth) (device : new.device ≡ old.device) (still : (new.sending ≡ old.sending) × (new.is_dead ≡ false → old.sending.mirrors ≡ false)) (later : old.faults ≤ new.faults)
     (time : IsTrue tells → old.is_dead ≡ false → LeavesOnly (IsEither Opens old.state.bytes (after command old.state).bytes) old new) where
   -- nothing was sent
   mirrors : IsAlive old → Mirrors tells old new
-  mirrors alive = none_sent tells old new shape depth still.0 (λ _. alive) (λ told mirrors fine. absurd (false≢true (sym (still.1 fine) ∙ mirrors)))
+  mirrors alive = none_sent tells old new shape depth device still.0 (λ _. alive) (λ told mirrors fine. absurd (false≢true (sym (still.1 fine) ∙ mirrors)))
 
   sent : new.sending.sent ≤ old.sending.sent + 1
   sent = omega (arith, ap (λ (s : Sending). s.sent) still.0)
@@ -82,7 +82,7 @@ refused {T} tells Opens command store fault cause other (Err e) is = record {
   dies = λ dead. absurd (other (sym is ∙ same dead));
   others = λ u apart. refl;
   time = λ told fine. stays store.moment store.left_since (IsEither Opens store.state.bytes (after command store.state).bytes);
-  mirrors = none_sent tells store store refl refl refl (λ alive. alive) (λ told mirrors alive. refl);
+  mirrors = none_sent tells store store refl refl refl refl (λ alive. alive) (λ told mirrors alive. refl);
   one = omega arith;
   sends = tt;
   refused = refl;

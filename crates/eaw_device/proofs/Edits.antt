@@ -212,7 +212,7 @@ module _ (tells : Bool) (old new : View) (shape : Shape) (logs : List Log) (late
   time told fine = cells_time tells shape ranges in_cells within late spared old new r does told (long told) (found.told told).sure is_dead alive
 
   pub edit_failed : {U : Type 0} → Rose old.faults new.faults → (let failed : Result U EawFault = Err Media in face.Does tells (Opens shape) (log_edit t pos at bytes) (view_of old shape logs late is_dead) (view_of new shape logs late true) failed)
-  edit_failed rose = failed tells (Opens shape) (log_edit t pos at bytes) (view_of old shape logs late is_dead) (view_of new shape logs late true) refl refl (refl, λ alive. refl) does.cause.later time alive live tt rose refl (λ u other. refl)
+  edit_failed rose = failed tells (Opens shape) (log_edit t pos at bytes) (view_of old shape logs late is_dead) (view_of new shape logs late true) refl refl does.device (refl, λ alive. refl) does.cause.later time alive live tt rose refl (λ u other. refl)
 
   -- every other cell
   cell_same : IsTrue tells → (h u f : ℕ) → h < shape.loggers → u < shape.numbers → f < shape.entries → ((h ≡ g) × (u ≡ t) × (f ≡ e.cell) → ⊥) → cell_of shape new.content.bytes h u f ≡ cell_of shape old.content.bytes h u f
@@ -305,7 +305,7 @@ module _ (tells : Bool) (old new : View) (shape : Shape) (logs : List Log) (late
     ]
 
     pub edit_done : {U : Type 0} (x : U) → new.faults ≡ old.faults → (let done : Result U EawFault = Ok x in face.Does tells (Opens shape) (log_edit t pos at bytes) (view_of old shape logs late is_dead) (view_of new shape logs late is_dead) done)
-    edit_done x same' = done tells (Opens shape) (log_edit t pos at bytes) (view_of old shape logs late is_dead) (view_of new shape logs late is_dead) refl refl (refl, λ alive. refl) does.cause.later time x same' alive live tt (record {
+    edit_done x same' = done tells (Opens shape) (log_edit t pos at bytes) (view_of old shape logs late is_dead) (view_of new shape logs late is_dead) refl refl does.device (refl, λ alive. refl) does.cause.later time x same' alive live tt (record {
       alive = alive;
       ranges = refl;
       state = λ told.

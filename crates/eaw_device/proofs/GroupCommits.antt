@@ -46,7 +46,7 @@ module _ (tells : Bool) (old new : View) (shape : Shape) (logs : List Log) (late
 
   -- the medium failed
   pub group_failed : Rose old.faults new.faults → (let failed : Result (Unit {0}) EawFault = Err Media in face.Does tells (Opens shape) (commit_group ts) (view_of old shape logs late is_dead) (view_of new shape logs late' true) failed)
-  group_failed rose = failed tells (Opens shape) (commit_group ts) (view_of old shape logs late is_dead) (view_of new shape logs late' true) refl depth (refl, λ alive. refl) does.does.cause.later (λ told fine. time told) alive live tt rose refl (λ u other. refl)
+  group_failed rose = failed tells (Opens shape) (commit_group ts) (view_of old shape logs late is_dead) (view_of new shape logs late' true) refl depth does.does.device (refl, λ alive. refl) does.does.cause.later (λ told fine. time told) alive live tt rose refl (λ u other. refl)
 
   -- the parts are in the data, and the numbers are free
   module _ (ready : IsReady shape late') (waiting : IsTrue tells → AreWaiting shape late'.queue new.content) (shown' : IsTrue tells → AreHeld shape new.content.bytes (kept_entries late'.parts))
@@ -57,7 +57,7 @@ module _ (tells : Bool) (old new : View) (shape : Shape) (logs : List Log) (late
     group_now_sound in_order = group_sound tells old new shape logs now late late' is_dead sound ts does.does.size cells many kept freed others ready (λ fine. in_order) (λ told fine. commit_sure tells shape late.queue old new r does told (long told) (sound.told told alive).sure late'.queue (waiting told)) (λ told fine. shown' told)
 
     pub group_done : new.faults ≡ old.faults → (let done : Result (Unit {0}) EawFault = Ok tt in face.Does tells (Opens shape) (commit_group ts) (view_of old shape logs late is_dead) (view_of new shape now late' is_dead) done)
-    group_done same = done tells (Opens shape) (commit_group ts) (view_of old shape logs late is_dead) (view_of new shape now late' is_dead) refl depth (refl, λ alive. refl) does.does.cause.later (λ told fine. time told) tt same alive live tt
+    group_done same = done tells (Opens shape) (commit_group ts) (view_of old shape logs late is_dead) (view_of new shape now late' is_dead) refl depth does.does.device (refl, λ alive. refl) does.does.cause.later (λ told fine. time told) tt same alive live tt
         (record {
           alive = alive;
           ranges = group_ranges tells old new shape logs now late late' is_dead sound ts does.does.size cells many kept freed others;

@@ -101,14 +101,14 @@ module _ (tells : Bool) (old new : View) (shape : Shape) (logs : List Log) (late
   state told = λ i. record { bytes = shown shape late is_dead (same told i); logs = λ u. option_map (parts_in shape (same told i) u) (entries_at logs u) }
 
   pub read_done : (at many : ℕ) {U : Type 0} (x : U) → new.faults ≡ old.faults → (let done : Result U EawFault = Ok x in face.Does tells (Opens shape) (read at many) (view_of old shape logs late is_dead) (view_of new shape logs late is_dead) done)
-  read_done at many x kept = done tells (Opens shape) (read at many) (view_of old shape logs late is_dead) (view_of new shape logs late is_dead) refl refl (refl, λ alive. refl) does.cause.later time x kept alive tt tt (record { alive = alive; ranges = refl; state = state })
+  read_done at many x kept = done tells (Opens shape) (read at many) (view_of old shape logs late is_dead) (view_of new shape logs late is_dead) refl refl does.device (refl, λ alive. refl) does.cause.later time x kept alive tt tt (record { alive = alive; ranges = refl; state = state })
 
   pub read_failed : (at many : ℕ) {U : Type 0} → Rose old.faults new.faults → (let failed : Result U EawFault = Err Media in face.Does tells (Opens shape) (read at many) (view_of old shape logs late is_dead) (view_of new shape logs late true) failed)
-  read_failed at many rose = failed tells (Opens shape) (read at many) (view_of old shape logs late is_dead) (view_of new shape logs late true) refl refl (refl, λ alive. refl) does.cause.later time alive tt tt rose refl (λ u other. refl)
+  read_failed at many rose = failed tells (Opens shape) (read at many) (view_of old shape logs late is_dead) (view_of new shape logs late true) refl refl does.device (refl, λ alive. refl) does.cause.later time alive tt tt rose refl (λ u other. refl)
 
   module _ (t : ℕ) (live : IsLive (view_of old shape logs late is_dead) t) where
     pub log_read_done : {U : Type 0} (x : U) → new.faults ≡ old.faults → (let done : Result U EawFault = Ok x in face.Does tells (Opens shape) (log_read t) (view_of old shape logs late is_dead) (view_of new shape logs late is_dead) done)
-    log_read_done x kept = done tells (Opens shape) (log_read t) (view_of old shape logs late is_dead) (view_of new shape logs late is_dead) refl refl (refl, λ alive. refl) does.cause.later time x kept alive live tt (record { alive = alive; ranges = refl; state = state })
+    log_read_done x kept = done tells (Opens shape) (log_read t) (view_of old shape logs late is_dead) (view_of new shape logs late is_dead) refl refl does.device (refl, λ alive. refl) does.cause.later time x kept alive live tt (record { alive = alive; ranges = refl; state = state })
 
     pub log_read_failed : {U : Type 0} → Rose old.faults new.faults → (let failed : Result U EawFault = Err Media in face.Does tells (Opens shape) (log_read t) (view_of old shape logs late is_dead) (view_of new shape logs late true) failed)
-    log_read_failed rose = failed tells (Opens shape) (log_read t) (view_of old shape logs late is_dead) (view_of new shape logs late true) refl refl (refl, λ alive. refl) does.cause.later time alive live tt rose refl (λ u other. refl)
+    log_read_failed rose = failed tells (Opens shape) (log_read t) (view_of old shape logs late is_dead) (view_of new shape logs late true) refl refl does.device (refl, λ alive. refl) does.cause.later time alive live tt rose refl (λ u other. refl)

@@ -59,7 +59,7 @@ quiet_then tells Opens command old mid new x was_alive none quiet r cause does =
   time = λ told alive.
       then (weaker (λ image opens. inl opens) (quiet.time told))
       (subst (λ (s : State). LeavesOnly (IsEither Opens s.bytes (after command s).bytes) mid new) (quiet.state told) (does.time told quiet.alive));
-  mirrors = sent_then tells old mid new (none_sent tells old mid quiet.shape quiet.depth quiet.sending (λ _. was_alive) (λ told mirrors alive. ap (λ (s : State). s.bytes) (quiet.state told))) does.mirrors;
+  mirrors = sent_then tells old mid new (none_sent tells old mid quiet.shape quiet.depth quiet.device quiet.sending (λ _. was_alive) (λ told mirrors alive. ap (λ (s : State). s.bytes) (quiet.state told))) does.mirrors;
   one = omega (arith, does.one, ap (λ (s : Sending). s.sent) quiet.sending);
   sends = none_due tells command _ old new r none;
   refused = on_err_weaker r (λ same. same ∙ quiet.sending) does.refused;
@@ -68,7 +68,7 @@ quiet_then tells Opens command old mid new x was_alive none quiet r cause does =
 -- a command of which that step fails
 pub quiet_fails : {T : Type 0} (tells : Bool) (Opens : List ℕ → List ℕ → Type 0) (command : Command) (old new : StoreView) (fault : EawFault) → (let bad : Result (Unit {0}) EawFault = Err fault in IsQuiet tells Opens old new bad)
     → IsAlive old → known old command None → room_for old command None → (let r : Result T EawFault = Err Media in Does tells Opens command old new r)
-quiet_fails {T} tells Opens command old new fault quiet alive knows room = failed tells Opens command old new quiet.shape quiet.depth (quiet.sending, λ fine. absurd (false≢true (sym fine ∙ quiet.failed.1))) quiet.later (λ told fine. weaker (λ image opens. inl opens) (quiet.time told)) {T = T}
+quiet_fails {T} tells Opens command old new fault quiet alive knows room = failed tells Opens command old new quiet.shape quiet.depth quiet.device (quiet.sending, λ fine. absurd (false≢true (sym fine ∙ quiet.failed.1))) quiet.later (λ told fine. weaker (λ image opens. inl opens) (quiet.time told)) {T = T}
     alive knows room quiet.failed.2 quiet.failed.1 (λ u other. ap (λ ranges. ranges u) quiet.ranges)
 
 -- a write into a log after a quiet step is that write: what it asks for stood before the step too
@@ -132,6 +132,7 @@ module _ (tells : Bool) (old new : View) (shape : Shape) (logs : List Log) (late
   quiet_done kept whole = record {
     shape = refl;
     depth = back.depth;
+    device = back.does.does.device;
     ranges = refl;
     sending = refl;
     later = back.does.does.cause.later;
@@ -149,6 +150,7 @@ module _ (tells : Bool) (old new : View) (shape : Shape) (logs : List Log) (late
   quiet_failed rose = record {
     shape = refl;
     depth = back.depth;
+    device = back.does.does.device;
     ranges = refl;
     sending = refl;
     later = back.does.does.cause.later;

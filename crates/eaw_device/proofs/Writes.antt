@@ -103,7 +103,7 @@ module _ (tells : Bool) (old : View) (shape : Shape) (logs : List Log) (late : L
           old new r does told (long told) (sound.told told alive).sure is_dead alive
 
       pub write_failed : Rose old.faults new.faults → (let failed : Result ℕ EawFault = Err Media in face.Does tells (Opens shape) (log_write t addr bytes) (view_of old shape logs late is_dead) (view_of new shape logs late true) failed)
-      write_failed rose = failed tells (Opens shape) (log_write t addr bytes) (view_of old shape logs late is_dead) (view_of new shape logs late true) refl refl (refl, λ alive. refl) does.cause.later time alive small (write_fits room) rose refl (λ u other. refl)
+      write_failed rose = failed tells (Opens shape) (log_write t addr bytes) (view_of old shape logs late is_dead) (view_of new shape logs late true) refl refl does.device (refl, λ alive. refl) does.cause.later time alive small (write_fits room) rose refl (λ u other. refl)
 
       module _ (holds : IsTrue tells → (g : ℕ) → g < shape.loggers → HoldsParts shape new.content.bytes g t (slice_index log.held g) (write_parts_on shape g addr bytes))
           (now : Log) (kept' : IsKept shape now) (live : now.is_live ≡ true) (adds : Adds log.entries.items now.entries.items (map (λ (p : Place). (p.addr, p.len)) (parts_of shape addr (length bytes)))) where
@@ -184,7 +184,7 @@ module _ (tells : Bool) (old : View) (shape : Shape) (logs : List Log) (late : L
 
           pub write_done : (k : ℕ) → new.faults ≡ old.faults → (let done : Result ℕ EawFault = Ok k in face.Does tells (Opens shape) (log_write t addr bytes) (view_of old shape logs late is_dead) (view_of new shape (slice_set logs at now) late is_dead) done)
           write_done k same' = subst (λ (j : ℕ). let done : Result ℕ EawFault = Ok k in face.Does tells (Opens shape) (log_write t addr bytes) (view_of old shape logs late is_dead) (view_of new shape (slice_set logs j now) late is_dead) done) (sym is)
-              (done tells (Opens shape) (log_write t addr bytes) (view_of old shape logs late is_dead) (view_of new shape (slice_set logs t now) late is_dead) refl refl (refl, λ alive. refl) does.cause.later time k same' alive small (write_fits room)
+              (done tells (Opens shape) (log_write t addr bytes) (view_of old shape logs late is_dead) (view_of new shape (slice_set logs t now) late is_dead) refl refl does.device (refl, λ alive. refl) does.cause.later time k same' alive small (write_fits room)
               (record {
                 alive = alive;
                 ranges = ranges_set logs t now below _ (ap (option_map ranges_in) (entries_live now live)

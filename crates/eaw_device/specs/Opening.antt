@@ -43,6 +43,7 @@ pub record Settled (tells : Bool) (old : View) (shape : Shape) (new : View) : Ty
   pub shape_is : IsTrue tells → SaysShape (header_of old.content.bytes) shape
   pub sized : old.size ≡ media_len shape
   pub size : new.size ≡ old.size
+  pub device : new.device ≡ old.device
   pub good : IsTrue tells → rows_good shape old.content.bytes None
   pub bytes : IsTrue tells → data_of shape new.content.bytes ≡ settled_data shape old.content.bytes
   pub clean : IsTrue tells → IsClean shape new.content

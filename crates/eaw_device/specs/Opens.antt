@@ -55,6 +55,7 @@ pub record Attached (tells : Bool) (media : View) (store : StoreView) : Type 0 w
   pub unlogged : (t : ℕ) → store.state.logs t ≡ None
   pub alive : store.is_dead ≡ false
   pub faults : store.faults ≡ media.faults
+  pub device : store.device ≡ media.device
   pub calls : IsTrue tells → HasNoVote store.shape media.content.bytes → store.moment ≡ media.moment + opening_calls store.shape
 
 -- an image that opens with some data, in some shape, was opened as just that
@@ -97,4 +98,5 @@ pub record IsBehind (tells defers : Bool) (store : StoreView) (media : View) : T
   pub quiet : IsTrue tells → store.is_dead ≡ false → IsFalse defers → HasNoVote store.shape media.content.bytes
   pub faults : media.faults ≡ store.faults
   pub moment : media.moment ≡ store.moment
+  pub device : media.device ≡ store.device
   pub left : (t : ℕ) (image : List ℕ) → media.left_since t image → store.left_since t image

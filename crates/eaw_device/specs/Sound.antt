@@ -81,6 +81,7 @@ view_of media shape logs late is_dead = record {
   faults = media.faults;
   moment = media.moment;
   left_since = media.left_since;
+  device = media.device;
   sending = silent;
 }
 

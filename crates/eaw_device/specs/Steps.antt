@@ -42,6 +42,7 @@ RefusesWrite shape logs is_dead t addr len Dead = is_dead ≡ true
 pub record IsQuiet {T : Type 0} (tells : Bool) (Opens : List ℕ → List ℕ → Type 0) (old new : StoreView) (result : Result T EawFault) : Type 0 where
   pub shape : new.shape ≡ old.shape
   pub depth : new.depth ≡ old.depth
+  pub device : new.device ≡ old.device
   pub ranges : new.ranges ≡ old.ranges
   pub sending : new.sending ≡ old.sending
   pub later : old.faults ≤ new.faults

@@ -16,12 +16,13 @@ use Rattle.eaw_face.specs.Due.{SendsDue}
 use Rattle.eaw_face.specs.declared.fault.EawFault.{EawFault}
 
 -- nothing was sent, and the data is as it was
-pub none_sent : (tells : Bool) (old new : StoreView) → new.shape ≡ old.shape → new.depth ≡ old.depth → new.sending ≡ old.sending → (new.is_dead ≡ false → old.is_dead ≡ false)
+pub none_sent : (tells : Bool) (old new : StoreView) → new.shape ≡ old.shape → new.depth ≡ old.depth → new.device ≡ old.device → new.sending ≡ old.sending → (new.is_dead ≡ false → old.is_dead ≡ false)
     → (IsTrue tells → old.sending.mirrors ≡ true → new.is_dead ≡ false → new.state.bytes ≡ old.state.bytes) → Mirrors tells old new
-none_sent tells old new shape depth sending lived same = record {
+none_sent tells old new shape depth device sending lived same = record {
   added = [];
   shape = shape;
   depth = depth;
+  device = device;
   kind = record { mirrors = ap (λ (s : Sending). s.mirrors) sending; told = ap (λ (s : Sending). s.told) sending };
   adds = record {
     good = All-nil (IsFrameIn old.shape);
@@ -97,6 +98,7 @@ module _ (tells : Bool) (old mid new : StoreView) (one : Mirrors tells old mid) 
     added = one.added ++ two.added;
     shape = two.shape ∙ one.shape;
     depth = two.depth ∙ one.depth;
+    device = two.device ∙ one.device;
     kind = record { mirrors = two.kind.mirrors ∙ one.kind.mirrors; told = two.kind.told ∙ one.kind.told };
     adds = adds;
     ends = ends;

@@ -42,6 +42,7 @@ pub record Mirrors (tells : Bool) (old new : StoreView) : Type 0 where
   pub added : List Frame
   pub shape : new.shape ≡ old.shape
   pub depth : new.depth ≡ old.depth
+  pub device : new.device ≡ old.device
   pub kind : IsKindOf old.sending new.sending
   pub adds : Adds old.shape added old.sending new.sending
   pub ends : EndsFor added old.sending new.sending
@@ -53,6 +54,7 @@ pub record Mirrors (tells : Bool) (old new : StoreView) : Type 0 where
 pub record GivesUp (old new : StoreView) : Type 0 where
   pub shape : new.shape ≡ old.shape
   pub depth : new.depth ≡ old.depth
+  pub device : new.device ≡ old.device
   pub state : new.state ≡ old.state
   pub ranges : new.ranges ≡ old.ranges
   pub is_dead : new.is_dead ≡ old.is_dead

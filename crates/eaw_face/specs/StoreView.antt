@@ -1,6 +1,7 @@
 -- What a store shows.
 use Rattle.std.specs.Prelude.{ℕ, ◌<◌, Bool, List, [], ◌∷◌, length, IsSome}
 use Rattle.mars_base.specs.Moments.{Elapses}
+use Rattle.pcm_media.specs.Images.{Content}
 use Rattle.array_shape.specs.declared.shape.Shape.{Shape}
 use Rattle.array_shape.specs.Places.{IsPlaced}
 use Rattle.eaw_face.specs.State.{Logs, State, listed}
@@ -8,7 +9,8 @@ use Rattle.eaw_face.specs.Sending.{Sending}
 
 -- Its shape; how many commits may wait for their write-back; its data and logs; for each live number the ranges of its parts; whether an
 -- earlier call met a fault of the medium; how often the medium has failed; the moment; whether a loss of power at this moment or a later
--- one might have left this image; and what it has sent of its commits.
+-- one might have left this image; what was done so far on the device, where that is another's work (else nothing); and what it has sent of its
+-- commits.
 pub record StoreView : Type 1 where
   pub shape : Shape
   pub depth : ℕ
@@ -18,6 +20,7 @@ pub record StoreView : Type 1 where
   pub faults : ℕ
   pub moment : ℕ
   pub left_since : ℕ → List ℕ → Type 0
+  pub device : Content
   pub sending : Sending
 
 -- how many parts a number has logged

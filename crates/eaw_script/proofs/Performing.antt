@@ -24,4 +24,4 @@ performed_as {tells} {Opens} {old} {new} {t} {result} k raw is performed = subst
 
 -- nothing was done, so nothing is sent
 pub sends_none : (tells : Bool) (store : StoreView) → Mirrors tells store store
-sends_none tells store = none_sent tells store store refl refl refl (λ alive. alive) (λ told mirrors alive. refl)
+sends_none tells store = none_sent tells store store refl refl refl refl (λ alive. alive) (λ told mirrors alive. refl)

@@ -88,7 +88,7 @@ module _ (tells : Bool) (Opens : List ℕ → List ℕ → Type 0) (t : ℕ) whe
     made = λ told living. refl;
     dies = λ failed. absurd (false≢true failed);
     time = λ told living. weaker (λ image opens. inl opens) (stays old.store.moment old.store.left_since (λ image. Opens image old.store.state.bytes));
-    mirrors = none_sent tells old.store old.store refl refl refl (λ fine. fine) (λ told mirrors fine. refl);
+    mirrors = none_sent tells old.store old.store refl refl refl refl (λ fine. fine) (λ told mirrors fine. refl);
   }
 
   -- Within a top action that has begun: these parts were written, and in these pages a part each is still to be written.
@@ -114,7 +114,7 @@ module _ (tells : Bool) (Opens : List ℕ → List ℕ → Type 0) (t : ℕ) whe
       record {
         shape = ap (λ (s : StoreView). s.shape) same;
         depth = ap (λ (s : StoreView). s.depth) same;
-        mirrors = subst (λ (s : StoreView). Mirrors tells old.store s) (sym same) (none_sent tells old.store old.store refl refl refl (λ fine. fine) (λ told mirrors fine. refl));
+        mirrors = subst (λ (s : StoreView). Mirrors tells old.store s) (sym same) (none_sent tells old.store old.store refl refl refl refl (λ fine. fine) (λ told mirrors fine. refl));
         alive = begun.alive;
         faults = ap (λ (s : StoreView). s.faults) same;
         saves = ap (λ (o : Outline). o.counts) begun.outline;

@@ -21,7 +21,7 @@ module _ (tells : Bool) (Opens : List ℕ → List ℕ → Type 0) where
   looks_none old = record {
     shape = refl;
     depth = refl;
-    mirrors = none_sent tells old.store old.store refl refl refl (λ fine. fine) (λ told mirrors fine. refl);
+    mirrors = none_sent tells old.store old.store refl refl refl refl (λ fine. fine) (λ told mirrors fine. refl);
     ranges = refl;
     saves = refl;
     tops = refl;

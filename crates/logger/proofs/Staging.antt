@@ -61,7 +61,7 @@ one_cell shape g t e (suc n) k le lt i out = elim (cases_eq k e) [
 
 -- what was done, if the last call succeeded
 pub writes_done : {T E : Type 0} (tells : Bool) (ranges : List (ℕ × ℕ)) (old new : View) (r : Result T E) → IsOk r → Writes tells ranges old new r → Writes tells ranges old new done
-writes_done tells ranges old new r ok does = record { size = does.size; cause = done_cause old.faults new.faults r ok does.cause; touched = does.touched; time = does.time }
+writes_done tells ranges old new r ok does = record { size = does.size; device = does.device; cause = done_cause old.faults new.faults r ok does.cause; touched = does.touched; time = does.time }
   where
     done_cause : {T E : Type 0} (before now : ℕ) (r : Result T E) → IsOk r → HasCause before now r → HasCause before now done
     done_cause before now (Ok x) ok cause = record { later = cause.later; failed = tt; kept = cause.kept }

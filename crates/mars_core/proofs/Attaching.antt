@@ -151,7 +151,7 @@ pub gives_same : (tells : Bool) (Opens : List ℕ → List ℕ → Type 0) (old 
 gives_same tells Opens old = record {
   shape = refl;
   depth = refl;
-  mirrors = none_sent tells old old refl refl refl (λ fine. fine) (λ told mirrors fine. refl);
+  mirrors = none_sent tells old old refl refl refl refl (λ fine. fine) (λ told mirrors fine. refl);
   kept = λ well. (refl, refl);
   unwritten = λ told well. refl;
   dies = λ failed. absurd (false≢true failed);

@@ -260,7 +260,7 @@ module _ (tells : Bool) (Opens : List ℕ → List ℕ → Type 0) (index : belo
   busy_tries holder busy = record {
     shape = refl;
     depth = refl;
-    mirrors = none_sent tells old.store old.store refl refl refl (λ fine. fine) (λ told mirrors fine. refl);
+    mirrors = none_sent tells old.store old.store refl refl refl refl (λ fine. fine) (λ told mirrors fine. refl);
     cause = tt;
     faults = λ _. (refl, refl);
     dies = λ failed. absurd (false≢true failed);
@@ -359,7 +359,7 @@ module _ (tells : Bool) (Opens : List ℕ → List ℕ → Type 0) (index : belo
   going_first Passed none ready = record {
     shape = refl;
     depth = refl;
-    mirrors = none_sent tells old.store old.store refl refl refl (λ fine. fine) (λ told mirrors fine. refl);
+    mirrors = none_sent tells old.store old.store refl refl refl refl (λ fine. fine) (λ told mirrors fine. refl);
     dead = refl;
     faults = refl;
     ranges = λ u. refl;

@@ -6,4 +6,4 @@ use Rattle.eaw_face.proofs.Mirroring.{none_sent}
 
 -- nothing was done, so nothing was sent
 pub sends_none : (tells : Bool) (store : StoreView) → Mirrors tells store store
-sends_none tells store = none_sent tells store store refl refl refl (λ alive. alive) (λ told mirrors alive. refl)
+sends_none tells store = none_sent tells store store refl refl refl refl (λ alive. alive) (λ told mirrors alive. refl)

@@ -10,6 +10,7 @@ module _ {T E : Type 0} (tells : Bool) (ranges : List (ℕ × ℕ)) (old new : P
   same_past : (e : E) → moment ≤ later → faults ≤ more → Rose faults more → (let r : Result T E = Err e in Writes tells ranges (view_over old size moment faults) (view_over old size later more) r)
   same_past e le few rose = record {
     size = refl;
+    device = refl;
     cause = record { later = few; failed = rose; kept = tt };
     touched = λ told. touched_by_nothing ranges (held old);
     time = λ told. record { later = le; keeps = λ t image before left. left; only = λ t image before left. inl left };

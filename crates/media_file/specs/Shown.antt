@@ -1,6 +1,6 @@
 -- What a medium over a file shows.
 use Rattle.std.specs.Prelude.{ℕ, ◌+◌, nat_le, if◌then◌else◌, [], length}
-use Rattle.pcm_media.specs.Images.{Content}
+use Rattle.pcm_media.specs.Images.{Content, no_content}
 use Rattle.pcm_media.specs.View.{View}
 use Rattle.media_file.specs.declared.calls.Calls as calls
 use Rattle.media_file.specs.declared.file_media.FileMedia.{FileMedia}
@@ -8,7 +8,7 @@ use Rattle.media_file.specs.Past.{Past, padded, held, LeftSince}
 
 -- its length; what the past of its file makes of the first content; its moment; what its file might have left; its faults
 abbrev pub view_over : Past → ℕ → ℕ → ℕ → View
-view_over past size moment faults = record { size = size; content = held past; moment = moment; left_since = LeftSince past; faults = faults }
+view_over past size moment faults = record { size = size; content = held past; moment = moment; left_since = LeftSince past; faults = faults; device = no_content }
 
 -- the content at the opening: a file that is long enough is as it was, another is extended with zeros, and settled
 abbrev pub opened : ℕ → Content → Content

@@ -1,5 +1,6 @@
 -- A store in memory: its data, what each number has logged, and what it keeps of its calls.
 use Rattle.std.specs.Prelude.{ℕ, ◌≡◌, ◌-◌, ◌^◌, ◌<◌, ◌≤◌, ◌⊎◌, ◌↔◌, Bool, List, [], ◌∷◌, length, All}
+use Rattle.pcm_media.specs.Images.{no_content}
 use Rattle.array_shape.specs.declared.shape.Shape.{Shape}
 use Rattle.array_shape.specs.Places.{data_len}
 use Rattle.eaw_face.specs.Sending.{silent}
@@ -40,6 +41,7 @@ view_of plain = record {
   faults = plain.kept.faults;
   moment = plain.kept.moment;
   left_since = LeftSince plain.bytes plain.kept.past;
+  device = no_content;
   sending = silent;
 }
 

@@ -40,7 +40,7 @@ module _ {T : Type 0} (tells : Bool) (Opens : List ℕ → List ℕ → Type 0) 
   still : (result : Result T EawFault) → Does tells Opens command before after result → new ≡ old → OnOk result (AreDue tells command (over before old) [])
       → (IsTrue tells → after.is_dead ≡ false → after.state.bytes ≡ before.state.bytes) → Does tells Opens command (over before old) (over after new) result
   still result does same due same_data =
-      let m : Mirrors tells (over before old) (over after new) = none_sent tells (over before old) (over after new) does.shape does.depth same does.mirrors.lived (λ told mirrors alive. same_data told alive) in
+      let m : Mirrors tells (over before old) (over after new) = none_sent tells (over before old) (over after new) does.shape does.depth does.mirrors.device same does.mirrors.lived (λ told mirrors alive. same_data told alive) in
       let none = added_none before.shape m.added old new m.adds same in
       does_over tells Opens command before after old new result does m
       (omega (arith, ap (λ (s : Sending). s.sent) same))
@@ -92,6 +92,7 @@ module _ {T : Type 0} (tells : Bool) (Opens : List ℕ → List ℕ → Type 0) 
         added = next_frame old (g ∷ gs) ∷ [];
         shape = does.shape;
         depth = does.depth;
+        device = does.mirrors.device;
         kind = kind;
         adds = record {
           good = All-cons (IsFrameIn before.shape) (next_frame old (g ∷ gs)) [] was.good (All-nil (IsFrameIn before.shape));
@@ -122,6 +123,7 @@ module _ {T : Type 0} (tells : Bool) (Opens : List ℕ → List ℕ → Type 0) 
         added = [];
         shape = does.shape;
         depth = does.depth;
+        device = does.mirrors.device;
         kind = kind;
         adds = record {
           good = All-nil (IsFrameIn before.shape);

@@ -192,7 +192,7 @@ module _ (tells : Bool) (Opens : List ℕ → List ℕ → Type 0) (c : PageComm
   }
 
   abbrev still_mirrors : Mirrors tells old.store new.store
-  still_mirrors = subst (λ (st : StoreView). Mirrors tells old.store st) (sym same) (none_sent tells old.store old.store refl refl refl (λ fine. fine) (λ told mirrors fine. refl))
+  still_mirrors = subst (λ (st : StoreView). Mirrors tells old.store st) (sym same) (none_sent tells old.store old.store refl refl refl refl (λ fine. fine) (λ told mirrors fine. refl))
 
   still_sends : SendsAs tells (device c (outline_of old)) still_mirrors.added old.store new.store
   still_sends = subst (λ (o : Option Command). SendsAs tells o still_mirrors.added old.store new.store) (sym device_is) (ap (λ (st : StoreView). st.sending) same)
@@ -227,7 +227,7 @@ unchanged tells Opens c old p other cause = record {
   dies = λ is. absurd (other (IfErr-at_err (λ q. p ≡ q) is refl));
   others = λ u ne. refl;
   time = λ tell living. stays old.store.moment old.store.left_since _;
-  mirrors = none_sent tells old.store old.store refl refl refl (λ fine. fine) (λ told mirrors fine. refl);
+  mirrors = none_sent tells old.store old.store refl refl refl refl (λ fine. fine) (λ told mirrors fine. refl);
   sends = λ mirrors. tt;
   refused = λ mirrors. refl;
 }

@@ -169,7 +169,7 @@ reads_none tells Opens t old x alive = record {
   dies = λ is. absurd (IfErr-at_err (λ q. ⊥) is tt);
   others = λ u ne. refl;
   time = λ tell living. record { later = omega arith; keeps = λ t image le left. left; only = λ t image le left. inl left };
-  mirrors = none_sent tells old old refl refl refl (λ fine. fine) (λ told mirrors fine. refl);
+  mirrors = none_sent tells old old refl refl refl refl (λ fine. fine) (λ told mirrors fine. refl);
   silent = λ mirrors. refl;
 }
 

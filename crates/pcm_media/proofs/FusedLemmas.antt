@@ -16,6 +16,7 @@ pub stopped : {T E : Type 0} (tells : Bool) (ranges : List (ℕ × ℕ)) (inner 
     → (let r : Result T E = Err e in Writes tells ranges (fused_view inner blown) (fused_view inner then) r)
 stopped tells ranges inner blown then e le is = record {
   size = refl;
+  device = refl;
   cause = record { later = omega arith; failed = omega arith; kept = tt };
   touched = λ told. touched_by_nothing ranges inner.content;
   time = λ told. record { later = omega arith; keeps = λ t image le left. left; only = λ t image le left. inl left };
@@ -59,6 +60,7 @@ module _ (tells : Bool) (ranges : List (ℕ × ℕ)) (old new : View)
     pub passed_on : Writes tells ranges (fused_view old 0) (fused_view new 0) result
     passed_on = record {
       size = writes.size;
+      device = writes.device;
       cause = record { later = omega (arith, writes.cause.later); failed = on_err_weaker result (λ (rose : Rose old.faults new.faults). omega (arith, rose)) writes.cause.failed; kept = on_ok_weaker result (λ (same : new.faults ≡ old.faults). omega (arith, same)) writes.cause.kept };
       touched = writes.touched;
       time = time;

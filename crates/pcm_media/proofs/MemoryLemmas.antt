@@ -173,6 +173,7 @@ module _ (start : List ℕ) (old new : Kept) where
     pub does : {T E : Type 0} (result : Result T E) → Makes call bytes old new result → Writes true (range_of call) (view_of (shows old)) (view_of (shows new)) result
     does result makes = let change : Touched (range_of call) (content_of (shows old)) (content_of (shows new)) = touched result makes in record {
       size = change.bytes.long;
+      device = refl;
       cause = makes.cause;
       touched = λ told. change;
       time = λ told. weaker (left_partly (range_of call) (content_of (shows old)) (content_of (shows new)) change) (time result makes);

@@ -32,6 +32,7 @@ cause_on before mid now r s ok a b = record {
 pub writes_none : {T E : Type 0} (tells : Bool) (ranges : List (ℕ × ℕ)) (old : View) (x : T) → (let r : Result T E = Ok x in Writes tells ranges old old r)
 writes_none tells ranges old x = record {
   size = refl;
+  device = refl;
   cause = record { later = omega arith; failed = tt; kept = refl };
   touched = λ told. touched_by_nothing ranges old.content;
   time = λ told. stays old.moment old.left_since (MayLeave (partly ranges old.content));
@@ -42,6 +43,7 @@ pub writes_on : {T E U F : Type 0} (tells : Bool) (all more : List (ℕ × ℕ))
     → IsOk r → ((i : ℕ) → IsOutside all i → IsOutside more i) → Writes tells all old mid r → Writes tells more mid new s → Writes tells all old new s
 writes_on tells all more old mid new r s ok within a b = record {
   size = b.size ∙ a.size;
+  device = b.device ∙ a.device;
   cause = cause_on old.faults mid.faults new.faults r s ok a.cause b.cause;
   touched = λ told. touched_within all more old.content mid.content new.content (a.touched told) within (b.touched told);
   time = λ told. then (a.time told) (weaker (left_partly_on all more old.content mid.content (a.touched told) within) (b.time told));

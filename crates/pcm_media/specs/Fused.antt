@@ -20,6 +20,7 @@ fused_view inner blown = record {
   moment = min (inner.moment + blown) (2 ^ 64 - 1);
   left_since = λ t image. ((t < min inner.moment (2 ^ 64 - 1)) × inner.left_since t image) ⊎ MayLeave inner.content image;
   faults = inner.faults + blown;
+  device = inner.device;
 }
 
 -- the view of a medium behind a fuse, by what the medium shows

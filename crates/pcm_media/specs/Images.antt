@@ -7,6 +7,10 @@ pub record Content : Type 0 where
   pub bytes : List ℕ
   pub unsettled : List (ℕ × ℕ)
 
+-- nothing
+abbrev pub no_content : Content
+no_content = record { bytes = []; unsettled = [] }
+
 -- the place lies in none of the ranges
 abbrev pub IsOutside : List (ℕ × ℕ) → ℕ → Type 0
 IsOutside [] i = Unit {0}

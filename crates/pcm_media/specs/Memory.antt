@@ -2,7 +2,7 @@
 use Rattle.std.specs.Prelude.{ℕ, ◌-◌, ◌^◌, ◌<◌, ◌≤◌, ◌≡◌, ◌⊎◌, Bool, List, length}
 use Rattle.std.proofs.Common.{inl, ⊎_elim, arith}
 use Rattle.mars_base.specs.Causes.{MetListed}
-use Rattle.pcm_media.specs.Images.{Content, MayLeave}
+use Rattle.pcm_media.specs.Images.{Content, MayLeave, no_content}
 use Rattle.pcm_media.specs.View.{View}
 use Rattle.pcm_media.specs.Kept.{Kept, fresh_kept, has_room_for}
 use Rattle.pcm_media.specs.Replay.{at_rest, total_bytes, asked_bytes, IsStamped, content_after, LeftBefore}
@@ -31,6 +31,7 @@ view_of memory = record {
   moment = memory.kept.moment;
   left_since = LeftSince memory;
   faults = memory.kept.faults;
+  device = no_content;
 }
 
 -- its next calls will not fail: this many, which write this many bytes in all

@@ -173,7 +173,7 @@ module _ (tells : Bool) (Opens : List ℕ → List ℕ → Type 0) (index : Inde
         subst (λ (v : PagesView). Does tells Opens index table t c old v (Err SavesFull)) (sym e) (record {
           shape = refl;
           depth = refl;
-          mirrors = none_sent tells old.store old.store refl refl refl (λ fine. fine) (λ told mirrors fine. refl);
+          mirrors = none_sent tells old.store old.store refl refl refl refl (λ fine. fine) (λ told mirrors fine. refl);
           cause = (alive, (call alive).saved_out does.cause.1);
           faults = λ _. (refl, refl);
           dies = λ failed. absurd (false≢true failed);

@@ -214,7 +214,7 @@ module _ (tells : Bool) (Opens : List ℕ → List ℕ → Type 0) (index : Inde
     subst (λ (v : PagesView). CommitsGroup tells Opens index ts old v (let r : Result (Unit {0}) TableFault = Err Dead in r)) (sym e) (record {
       shape = refl;
       depth = refl;
-      mirrors = none_sent tells old.store old.store refl refl refl (λ fine. fine) (λ told mirrors fine. refl);
+      mirrors = none_sent tells old.store old.store refl refl refl refl (λ fine. fine) (λ told mirrors fine. refl);
       cause = does.cause;
       faults = λ _. (refl, refl);
       dies = λ failed. absurd (false≢true failed);

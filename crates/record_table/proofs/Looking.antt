@@ -38,7 +38,7 @@ module _ (tells : Bool) (Opens : List ℕ → List ℕ → Type 0) (t : ℕ) whe
   looks_none old = record {
     shape = refl;
     depth = refl;
-    mirrors = none_sent tells old.store old.store refl refl refl (λ fine. fine) (λ told mirrors fine. refl);
+    mirrors = none_sent tells old.store old.store refl refl refl refl (λ fine. fine) (λ told mirrors fine. refl);
     saves = refl;
     tops = refl;
     others = λ u ne. refl;

@@ -30,6 +30,7 @@ over inner stood moment faults = record {
   moment = moment;
   left_since = λ t image. inner.left_since (below stood moment inner.moment t) image;
   faults = inner.faults + faults;
+  device = inner.device;
 }
 
 abbrev pub shown : {M : Type 0} → (M → View) → Resident M → View

@@ -57,7 +57,7 @@ impl<C: Chip> Media for Flash<C> {
 
     ghost tells = { false };
 
-    ghost view = { λ m. record { size = m.size; content = record { bytes = []; unsettled = [] }; moment = m.moment; left_since = λ _ _. Unit {0}; faults = m.faults } };
+    ghost view = { λ m. record { size = m.size; content = record { bytes = []; unsettled = [] }; moment = m.moment; left_since = λ _ _. Unit {0}; faults = m.faults; device = no_content } };
 
     ghost steady = { λ _ _ _. false };
 

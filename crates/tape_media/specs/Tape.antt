@@ -6,7 +6,7 @@ use Rattle.mars_base.specs.Moments.{Ticks}
 use Rattle.pcm_media.specs.Images.{MayLeave}
 use Rattle.pcm_media.specs.View.{View}
 use Rattle.pcm_media.specs.Replay.{at_rest}
-use Rattle.tape_media.specs.Steps.{Step, Made, Past, with_steps, with_first_done, all_of, content_of, LeftBefore, AreMade, AreRising}
+use Rattle.tape_media.specs.Steps.{Step, Made, Past, with_steps, with_first_done, all_of, content_of, device_of, LeftBefore, AreMade, AreRising}
 
 -- its steps; its moment; how many of its calls failed; and whether a step was told to have failed on the device
 pub record Tape : Type 0 where
@@ -30,6 +30,7 @@ view_of tape = record {
   moment = tape.moment;
   left_since = LeftSince tape;
   faults = tape.faults;
+  device = device_of tape.past;
 }
 
 -- one shows what the other does

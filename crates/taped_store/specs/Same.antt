@@ -2,7 +2,7 @@
 use Rattle.std.specs.Prelude.{ℕ, ◌≡◌, ◌↔◌, List}
 use Rattle.eaw_face.specs.StoreView.{StoreView}
 
--- one store shows what the other does
+-- one store shows what the other does, but for what was done on the device
 pub record ShowsSame (old new : StoreView) : Type 0 where
   pub shape : new.shape ≡ old.shape
   pub depth : new.depth ≡ old.depth

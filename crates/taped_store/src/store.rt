@@ -1,6 +1,6 @@
 // A store over a medium with a tape.
 ghost use Rattle.std.specs.Prelude.{◌≡◌, ◌≤◌, ℕ, List, true, length, None, Some, IfSome, IsSome, MatchOption};
-ghost use Rattle.tape_media.specs.Steps.{DeviceMayLeave, IsWithin, with_first_done};
+ghost use Rattle.tape_media.specs.Steps.{device_of, DeviceMayLeave, IsWithin, with_first_done};
 ghost use Rattle.tape_media.specs.Pieces.{step_of};
 ghost use Rattle.tape_media.specs.Tape.{Tape, next_of, done_moment};
 ghost use Rattle.taped_store.specs.Same.{ShowsSame};
@@ -13,6 +13,9 @@ use tape_media::Piece;
 pub trait TapedStore: EawStore {
     /// The tape of its medium.
     ghost tape: { Self → Tape };
+
+    /// What was done so far on the device is what that tape says.
+    ghost device: { (s : Self) → (Self.view s).device ≡ device_of (tape s).past };
 
     /// The piece to be done next on the device. There is none where the tape is empty, nor after a piece that failed.
     fn next_piece(&self) -> Option<&Piece>

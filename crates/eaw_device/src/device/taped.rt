@@ -1,4 +1,5 @@
 // An array over a medium whose work on the device is left to its caller.
+ghost use Rattle.std.specs.Prelude.{refl};
 ghost use Rattle.eaw_device.specs.Sound.{view_of};
 
 use super::Eaw;
@@ -9,6 +10,8 @@ use taped_store::TapedStore;
 
 impl<D: Depth> TapedStore for Eaw<TapeMedia, D> {
     ghost tape = { λ s. s.media };
+
+    ghost device = { λ s. refl };
 
     fn next_piece(&self) -> Option<&Piece> {
         self.media.next()

@@ -68,5 +68,5 @@ returns g c =
       kept = tt;
       fault = tt;
       costs = costs_all true _ _ _ _ (omega (arith, read.ticks.next, read.ticks.last));
-      does = record { size = does.size; cause = record { later = does.cause.later; failed = tt; kept = does.cause.kept }; touched = does.touched; time = does.time };
+      does = record { size = does.size; device = does.device; cause = record { later = does.cause.later; failed = tt; kept = does.cause.kept }; touched = does.touched; time = does.time };
     }

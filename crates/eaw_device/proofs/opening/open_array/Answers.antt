@@ -47,6 +47,7 @@ returns-in-Ok-settle-clause-settled g c =
       shape_is = c.in_ok-shape.ensures.shape;
       sized = c.in_ok-shape.ensures.sized;
       size = done.size ∙ read.size;
+      device = done.device ∙ read.device;
       good = λ told. subst (λ b. rows_good shape b None) (same_bytes _ _ (read.touched told)) (done.good told);
       bytes = λ told. done.settled told ∙ ap (λ (b : List ℕ). settled_data shape b) (same_bytes _ _ (read.touched told));
       clean = done.clean;

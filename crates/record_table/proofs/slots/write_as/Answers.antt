@@ -18,7 +18,7 @@ returns-then-is_dead-clause-does g c =
       dies = λ failed. dead;
       others = λ u other. refl;
       time = λ told alive. absurd (false≢true (sym alive ∙ dead));
-      mirrors = none_sent g.S.EawStore.tells store store refl refl refl (λ fine. fine) (λ told mirrors fine. refl);
+      mirrors = none_sent g.S.EawStore.tells store store refl refl refl refl (λ fine. fine) (λ told mirrors fine. refl);
       sends = λ mirrors. tt;
       refused = λ mirrors. refl;
     }

@@ -91,5 +91,5 @@ returns g c =
           so_far.bytes told whole long was
           ∙ ap (λ (l : List Entry). range (applied (parts_in c.args.shape.now (g.M.Media.view c.args.media.now).content.bytes c.args.tid l) whole) c.args.addr (length c.args.buf.now)) all;
       costs = costs_all true _ _ _ _ (so_far.costs ∙ ap (λ (l : List Entry). (g.M.Media.view c.args.media.now).moment + count_by (meets c.args.addr (length c.args.buf.now)) l) all);
-      does = record { size = so_far.does.size; cause = record { later = so_far.does.cause.later; failed = tt; kept = so_far.does.cause.kept }; touched = so_far.does.touched; time = so_far.does.time };
+      does = record { size = so_far.does.size; device = so_far.does.device; cause = record { later = so_far.does.cause.later; failed = tt; kept = so_far.does.cause.kept }; touched = so_far.does.touched; time = so_far.does.time };
     }

@@ -16,6 +16,7 @@ returns-clause-behind g c =
       quiet = λ told alive waits. unvoted g.M.Media.tells (g.M.Media.view eaw.media) eaw.shape eaw.logs.items eaw.late eaw.is_dead eaw.sound (none_may_wait g.D.Depth.least g.D.Depth.most _ eaw.depth waits) told alive;
       faults = refl;
       moment = refl;
+      device = refl;
       left = λ t image left. left;
     }
 

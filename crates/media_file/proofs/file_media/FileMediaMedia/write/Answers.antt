@@ -23,6 +23,7 @@ returns-in-Err-clause-does g c =
     let fault = c.fault.ensures in
     record {
       size = search rules;
+      device = refl;
       cause = cause_failed (length c.args.bytes.now) was.faults now.faults (g.C.Calls.faults was.calls) (g.C.Calls.faults ticked.calls) (g.C.Calls.faults c.write_all.new.calls) (g.C.Calls.faults now.calls) c.fault.result
           (ap g.C.Calls.faults tick.calls) (ap g.C.Calls.faults fault.calls) c.in-Err.ensures.tried (omega (arith, tick.faults, fault.later)) (omega (arith, tick.faults, fault.counted));
       touched = search rules;

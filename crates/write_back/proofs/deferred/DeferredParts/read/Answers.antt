@@ -119,5 +119,5 @@ returns g c =
       bytes = λ told. fills_last s.shape c.args.addr len whole m.tells es each all c.loop-part.buf (m.view c.loop-part.media).moment c.loop-part.part-iterator c.in-None.ensures.steps.0 so_far.fills c.loop-part.auto.buf
           (omega (arith, c.requires.range, length_laid s.shape (parts_in_turn s.shape image (entries_of s) c.args.queue.now) (data_of s.shape image) (turn_placed s.shape image (entries_of s) (c.requires.held told) s.kept.entries c.args.queue.now) (length-data_of s.shape image))) told;
       costs = costs_all true _ _ _ _ (calls_last s.shape c.args.addr len whole m.tells es each all c.loop-part.buf (m.view c.loop-part.media).moment c.loop-part.part-iterator c.in-None.ensures.steps.0 so_far.fills);
-      does = record { size = so_far.does.size; cause = record { later = so_far.does.cause.later; failed = tt; kept = so_far.does.cause.kept }; touched = so_far.does.touched; time = so_far.does.time };
+      does = record { size = so_far.does.size; device = so_far.does.device; cause = record { later = so_far.does.cause.later; failed = tt; kept = so_far.does.cause.kept }; touched = so_far.does.touched; time = so_far.does.time };
     }
