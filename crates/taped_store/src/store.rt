@@ -14,9 +14,6 @@ pub trait TapedStore: EawStore {
     /// The tape of its medium.
     ghost tape: { Self → Tape };
 
-    /// What was done so far on the device is what that tape says.
-    ghost device: { (s : Self) → (Self.view s).device ≡ device_of (tape s).past };
-
     /// The piece to be done next on the device. There is none where the tape is empty, nor after a piece that failed.
     fn next_piece(&self) -> Option<&Piece>
         ensures within { IfSome result (λ piece. IsWithin (length (tape self.now).past.start) (step_of piece.now)) }
@@ -42,4 +39,7 @@ pub trait TapedStore: EawStore {
     fn done_up_to(&self) -> u64
         ensures moment { result ≡ done_moment (tape self.now) }
         ensures durable { (t : ℕ) (image : List ℕ) → t ≤ result → DeviceMayLeave (tape self.now).past image → (Self.view self.now).left_since t image };
+
+    /// What was done so far on the device is what the tape says.
+    ghost device: { (s : Self) → (Self.EawStore.view s).device ≡ device_of (tape s).past };
 }
