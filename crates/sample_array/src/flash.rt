@@ -52,12 +52,13 @@ impl<C: Chip> Flash<C> {
 }
 
 impl<C: Chip> Media for Flash<C> {
-    ghost use Rattle.std.specs.Prelude.{false, []};
+    ghost use Rattle.std.specs.Prelude.{false};
     ghost use Rattle.std.proofs.lemmas.Bool.{false≢true};
+    ghost use Rattle.pcm_media.specs.Images.{no_content};
 
     ghost tells = { false };
 
-    ghost view = { λ m. record { size = m.size; content = record { bytes = []; unsettled = [] }; moment = m.moment; left_since = λ _ _. Unit {0}; faults = m.faults; device = no_content } };
+    ghost view = { λ m. record { size = m.size; content = no_content; moment = m.moment; left_since = λ _ _. Unit {0}; faults = m.faults; device = no_content } };
 
     ghost steady = { λ _ _ _. false };
 
