@@ -56,6 +56,8 @@ pub fn open<M: Media, K: KeyIndex, H: Keeper, D: Depth>(
     // As many commits may wait for their write-back as were asked for.
     ensures depth { IfOk result (λ core. (⟦<Core<Eaw<M, D>, K, H> as Steps>⟧.view core).limits.depth ≡ depth) }
     ensures whole { IfOk result (λ core. (⟦<Core<Eaw<M, D>, K, H> as Steps>⟧.view core).faults ≡ (M.view media).faults) }
+    // What is another's to do on the device stays so.
+    ensures device { IfOk result (λ core. (⟦<Eaw<M, D> as EawStore>⟧.view core.records.store).device ≡ (M.view media).device) }
     // At each moment of it, what a loss of power leaves opens with data that was left before, or with the same in version 2.
     ensures time { IfOk result (λ core. KeepsRecords M.tells (M.view media) (⟦<Core<Eaw<M, D>, K, H> as Steps>⟧.view core).moment (⟦<Core<Eaw<M, D>, K, H> as Steps>⟧.view core).left_since) }
     ensures cause { IfErr result (λ failed. IsUnopened M.tells K.index callers (M.view media) (M.view failed.1).faults failed.0) }

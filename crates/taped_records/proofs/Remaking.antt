@@ -4,6 +4,7 @@ use Rattle.std.specs.Prelude.{Option, Some, None, IfOk}
 use Rattle.pcm_media.specs.Images.{MayLeave}
 use Rattle.pcm_media.specs.View.{View}
 use Rattle.pcm_media.proofs.Left.{left_as_read}
+use Rattle.tape_media.specs.Steps.{device_of}
 use Rattle.array_shape.specs.declared.shape.Shape.{Shape}
 use Rattle.eaw_face.specs.StoreView.{StoreView}
 use Rattle.eaw_device.specs.Laws.{one_data}
@@ -36,7 +37,7 @@ use Rattle.taped_records.specs.declared.records.TapedRecords.{TapedRecords}
 use Rattle.taped_records.specs.Making as taped
 use Rattle.taped_records.specs.Making.{MayMake, OpensHolding, OpensMeanwhile, BeginsAnew, UnmadeCause, IsByChance, MayClose, tables_in, records_in}
 use Rattle.taped_records.specs.Remaking.{IsPutDown}
-use Rattle.taped_records.specs.Shown.{core_in}
+use Rattle.taped_records.specs.Shown.{tape_of, core_in}
 
 -- a table that is not there has no records
 no_pair : (index : Index) (bytes name : List ℕ) (key : ℕ) → IsNew name (names_of bytes) → (slot : Option ℕ) → found_key (pairs_of index bytes) (of_table name key) ≡ slot → slot ≡ None
@@ -82,7 +83,8 @@ is_down store depth core media defers told over alive behind opens = record {
   left = λ t image left. (over.left t image).0 (behind.left t image left);
 }
 
-module _ (depth : ℕ) (old : TapedRecords) (media : View) (down : IsPutDown old.core.records.store.shape depth (core_in old) media) (found : StoreView) (finds : FindsData true media found) (keeps : KeepsData true media found.moment found.left_since) where
+module _ (depth : ℕ) (old : TapedRecords) (media : View) (down : IsPutDown old.core.records.store.shape depth (core_in old) media) (found : StoreView) (finds : FindsData true media found) (keeps : KeepsData true media found.moment found.left_since)
+    (opened : found.device ≡ device_of (tape_of old).past) where
   abbrev shape : Shape
   shape = old.core.records.store.shape
 
@@ -141,8 +143,8 @@ module _ (depth : ℕ) (old : TapedRecords) (media : View) (down : IsPutDown old
           let same : is.2 ≡ o.bytes = one_data shape is.0 is.2 o.bytes is.3 o.opened in
           record { bytes = o.bytes; opened = subst (λ (b : List ℕ). OpensUpgraded (Opens shape) b image) same is.4; sound = o.sound; named = o.named; shows = o.shows }
 
-      pub begins_anew : new.callers ≡ old.callers → new.rows ≡ old.rows → BeginsAnew name names old new
-      begins_anew callers rows =
+      pub begins_anew : new.callers ≡ old.callers → new.rows ≡ old.rows → device_of (tape_of new).past ≡ last.device → BeginsAnew name names old new
+      begins_anew callers rows reopened =
           let now = named_now last.content.bytes (left_as_read last.content) in
           let begun = begins refl shape now.bytes now.opened in
           let first = keeps refl shape all_open in
@@ -155,6 +157,7 @@ module _ (depth : ℕ) (old : TapedRecords) (media : View) (down : IsPutDown old
             limits = begun.limits ∙ sym down.limits;
             callers = callers;
             rows = rows;
+            device = reopened ∙ behind.device ∙ makes.mirrors.device ∙ opened;
             later = omega (arith, down.moment, first.later, making.later, behind.moment, opening.later);
             leaves = λ t image le left.
                 ⊎_elim
@@ -167,17 +170,19 @@ module _ (depth : ℕ) (old : TapedRecords) (media : View) (down : IsPutDown old
           }
 
 -- the table was made
-module _ (depth : ℕ) (old : TapedRecords) (media : View) (down : IsPutDown old.core.records.store.shape depth (core_in old) media) (found : StoreView) (finds : FindsData true media found) (keeps : KeepsData true media found.moment found.left_since) (name : List ℕ)
+module _ (depth : ℕ) (old : TapedRecords) (media : View) (down : IsPutDown old.core.records.store.shape depth (core_in old) media) (found : StoreView) (finds : FindsData true media found) (keeps : KeepsData true media found.moment found.left_since)
+    (opened : found.device ≡ device_of (tape_of old).past) (name : List ℕ)
     (after : StoreView) (defers : Bool) (last : View) (behind : IsBehind true defers after last) (counts : (image : List ℕ) → MayLeave last.content image → last.left_since last.moment image) (new : TapedRecords)
-    (begins : OfData true last (λ (s : Shape) (b : List ℕ). Begins tree depth s b (core_in new))) (time : KeepsRecords true last (core_in new).moment (core_in new).left_since) (callers : new.callers ≡ old.callers) (rows : new.rows ≡ old.rows) (may : MayMake name old) where
+    (begins : OfData true last (λ (s : Shape) (b : List ℕ). Begins tree depth s b (core_in new))) (time : KeepsRecords true last (core_in new).moment (core_in new).left_since) (callers : new.callers ≡ old.callers) (rows : new.rows ≡ old.rows) (reopened : device_of (tape_of new).past ≡ last.device)
+    (may : MayMake name old) where
   pub has_table : (number : ℕ) → MakesTable true (Opens found.shape) tree name found after (Ok number) → taped.MakesTable name number old new
   has_table number makes =
-      let opens = λ (image : List ℕ) (left : after.left_since after.moment image). with_name depth old media down found finds keeps name image (makes.now refl image left) in
-      let anew = begins_anew depth old media down found finds keeps name after (Ok number) makes defers last behind counts (tables_in old ++ name ∷ []) opens (λ image is. inr is) new begins time callers rows in
+      let opens = λ (image : List ℕ) (left : after.left_since after.moment image). with_name depth old media down found finds keeps opened name image (makes.now refl image left) in
+      let anew = begins_anew depth old media down found finds keeps opened name after (Ok number) makes defers last behind counts (tables_in old ++ name ∷ []) opens (λ image is. inr is) new begins time callers rows reopened in
       let told = makes.cause.1 refl in
       record {
         may = may;
-        number = told.1 ∙ ap length (ap names_of (as_found depth old media down found finds keeps).1 ∙ down.named);
+        number = told.1 ∙ ap length (ap names_of (as_found depth old media down found finds keeps opened).1 ∙ down.named);
         begins = anew;
         empty =
             ap (rows_of name) (anew.records ∙ sym down.shows)
@@ -187,9 +192,9 @@ module _ (depth : ℕ) (old : TapedRecords) (media : View) (down : IsPutDown old
   -- no page was left for it
   pub has_no_page : (pages : ℕ) → MakesTable true (Opens found.shape) tree name found after (Err (refused.PagesFull pages)) → UnmadeCause name old PagesFull × BeginsAnew name (tables_in old) old new
   has_no_page pages makes =
-      let opens = λ (image : List ℕ) (left : after.left_since after.moment image). as_named depth old media down found finds keeps image (makes.same refl refl image left) in
-      let is = as_found depth old media down found finds keeps in
+      let opens = λ (image : List ℕ) (left : after.left_since after.moment image). as_named depth old media down found finds keeps opened image (makes.same refl refl image left) in
+      let is = as_found depth old media down found finds keeps opened in
       let told = makes.cause.2 refl in (
         (may, down.pages ∙ ap next_page (sym is.1) ∙ told.2 ∙ ap index_pages_of is.0 ∙ sym (ap (λ (l : Limits). l.index_pages) down.limits)),
-        begins_anew depth old media down found finds keeps name after (Err (refused.PagesFull pages)) makes defers last behind counts (tables_in old) opens (λ image is. inl is) new begins time callers rows,
+        begins_anew depth old media down found finds keeps opened name after (Err (refused.PagesFull pages)) makes defers last behind counts (tables_in old) opens (λ image is. inl is) new begins time callers rows reopened,
       )

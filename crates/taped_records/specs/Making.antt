@@ -1,5 +1,6 @@
 -- What the making of a table does to an open array.
 use Rattle.std.specs.Prelude.{ℕ, ℤ, pos, ◌≡◌, ◌<◌, ◌≤◌, ◌⊎◌, ◌++◌, ◌∷◌, [], true, List, length, Some, None, slice_get, IsSome}
+use Rattle.tape_media.specs.Steps.{device_of}
 use Rattle.array_shape.specs.declared.shape.Shape.{Shape}
 use Rattle.record_slots.specs.Text.{IsName}
 use Rattle.history.specs.Writes.{Table, rows_of}
@@ -12,7 +13,7 @@ use Rattle.btree_pages.specs.Index.{tree}
 use Rattle.taped_records.specs.declared.making.Unmade.{Unmade}
 use Rattle.taped_records.specs.declared.making.Unmade.TheVariants.{BadName, Exists, TablesFull, InUse, PagesFull, Media, Dead, NoMemory}
 use Rattle.taped_records.specs.declared.records.TapedRecords.{TapedRecords}
-use Rattle.taped_records.specs.Shown.{core_in}
+use Rattle.taped_records.specs.Shown.{tape_of, core_in}
 
 -- the names of its tables, and the records that are committed
 abbrev pub tables_in : TapedRecords → List (List ℕ)
@@ -41,8 +42,8 @@ OpensMeanwhile name old image =
     let shape = old.core.records.store.shape in
     OpensHolding shape (tables_in old) (records_in old) image ⊎ OpensHolding shape (tables_in old ++ name ∷ []) (records_in old) image
 
--- The array begins anew with tables of these names and the records that there were, and its moments go on. Whatever else a loss of power might leave
--- opens as it does while the table is made.
+-- The array begins anew with tables of these names and the records that there were, and its moments go on. On the device nothing was done meanwhile.
+-- Whatever else a loss of power might leave opens as it does while the table is made.
 pub record BeginsAnew (name : List ℕ) (called : List (List ℕ)) (old new : TapedRecords) : Type 0 where
   pub names : tables_in new ≡ called
   pub records : records_in new ≡ records_in old
@@ -50,6 +51,7 @@ pub record BeginsAnew (name : List ℕ) (called : List (List ℕ)) (old new : Ta
   pub limits : (core_in new).limits ≡ (core_in old).limits
   pub callers : new.callers ≡ old.callers
   pub rows : new.rows ≡ old.rows
+  pub device : device_of (tape_of new).past ≡ device_of (tape_of old).past
   pub later : (core_in old).moment ≤ (core_in new).moment
   pub leaves : (t : ℕ) (image : List ℕ) → t ≤ (core_in old).moment → (core_in new).left_since t image → (core_in old).left_since t image ⊎ OpensMeanwhile name old image
 

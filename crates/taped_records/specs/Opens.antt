@@ -1,6 +1,8 @@
 -- How an array in memory is opened.
 use Rattle.std.specs.Prelude.{ℕ, ◌≡◌, true, IsFalse, List, []}
+use Rattle.pcm_media.specs.Replay.{at_rest}
 use Rattle.page_store.specs.Index.{Index}
+use Rattle.tape_media.specs.Steps.{device_of}
 use Rattle.tape_media.specs.Tape.{view_of}
 use Rattle.eaw_device.specs.declared.fault.AttachFault.TheVariants as array
 use Rattle.mars_core.specs.declared.fault.CoreFault.TheVariants as core
@@ -9,13 +11,14 @@ use Rattle.open_records.specs.declared.opening.OpenFault.{OpenFault}
 use Rattle.open_records.specs.declared.opening.OpenFault.TheVariants as unopened
 use Rattle.taped_calls.specs.Formats.{fresh}
 use Rattle.taped_records.specs.declared.records.TapedRecords.{TapedRecords}
-use Rattle.taped_records.specs.Shown.{core_in}
+use Rattle.taped_records.specs.Shown.{tape_of, core_in}
 
--- The array in these bytes, for so many callers: it begins with its records, and at each moment of the opening a loss of power leaves them. As many
--- commits may wait for their write-back as were asked for. No rows are kept.
+-- The array in these bytes, for so many callers: it begins with its records, and at each moment of the opening a loss of power leaves them. On the
+-- device nothing was done yet: it holds the bytes. As many commits may wait for their write-back as were asked for. No rows are kept.
 pub record IsOpened (index : Index) (asked most : ℕ) (bytes : List ℕ) (taped : TapedRecords) : Type 0 where
   pub begins : BeginsOn index most (view_of (fresh bytes)) (core_in taped)
   pub keeps : KeepsRecords true (view_of (fresh bytes)) (core_in taped).moment (core_in taped).left_since
+  pub device : device_of (tape_of taped).past ≡ at_rest bytes
   pub callers : taped.callers ≡ asked
   pub depth : (core_in taped).limits.depth ≡ most
   pub rows : taped.rows ≡ []

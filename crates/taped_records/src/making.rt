@@ -1,9 +1,10 @@
 // A table is made in an open array.
 ghost use Rattle.std.specs.Prelude.{◌≡◌, ◌<◌, ◌≤◌, ℕ, None, true, IfOk, IfErr, IfSome, IfNone, IsSome};
+ghost use Rattle.tape_media.specs.Steps.{device_of};
 ghost use Rattle.tape_media.specs.Tape.{view_of};
 ghost use Rattle.btree_pages.specs.Index.{tree};
 ghost use Rattle.open_records.specs.Opens.{Begins, OfData, KeepsRecords};
-ghost use Rattle.taped_records.specs.Shown.{core_in};
+ghost use Rattle.taped_records.specs.Shown.{tape_of, core_in};
 ghost use Rattle.taped_records.specs.Making.{MayMake, MakesTable, UnmadeCause, IsLeft, IsByChance, MayClose, status_of_unmade};
 ghost use Rattle.taped_records.specs.Remaking.{IsPutDown};
 
@@ -150,6 +151,7 @@ fn remade(
 fn put_down(core: Sound<TapedCore>) -> Option<(TapeMedia, u8)>
     ensures down { IfSome result (λ down. IsPutDown core.records.store.shape down.1 (⟦<TapedCore as Steps>⟧.view core) (view_of down.0)) }
     ensures depth { IfSome result (λ down. down.1 ≤ 64) }
+    ensures device { IfSome result (λ down. device_of down.0.past ≡ device_of core.records.store.media.past) }
     ensures dead { IfNone result ((⟦<TapedCore as Steps>⟧.view core).state.is_dead ≡ true) }
 {
     let store = core.into_core().into_store();
@@ -173,6 +175,7 @@ fn reopened(
     ensures keeps { IfOk result (λ array. KeepsRecords true (view_of media) (core_in array.value).moment (core_in array.value).left_since) }
     ensures callers { IfOk result (λ array. array.value.callers ≡ callers) }
     ensures rows { IfOk result (λ array. array.value.rows ≡ rows) }
+    ensures device { IfOk result (λ array. device_of (tape_of array.value).past ≡ device_of media.past) }
     ensures chance { IfErr result IsByChance }
 {
     let core: TapedCore = match open(alloc, media, callers, depth) {

@@ -44,6 +44,9 @@ returns-in-Ok-attach-clause-depth g c =
     let begins = c.in-Ok-attach.ensures.begins in
     ap (λ (limits : Limits). limits.depth) begins.over.limits ∙ begins.depth ∙ c.in-Ok-attach_late.ensures.limit
 
+pub returns-in-Ok-attach-clause-device : goal.returns-in-Ok-attach-clause-device
+returns-in-Ok-attach-clause-device g c = c.in-Ok-attach.ensures.begins.mirrors.device ∙ c.in-Ok-attach_late.ensures.opens.device
+
 pub returns-in-Ok-attach-clause-time : goal.returns-in-Ok-attach-clause-time
 returns-in-Ok-attach-clause-time g c told shape all =
     let store = c.in-Ok-attach_late.store in

@@ -1,4 +1,5 @@
-use Rattle.std.proofs.Common.{true, sym, subst}
+use Rattle.std.proofs.Common.{true, sym, ◌∙◌, ap, subst}
+use Rattle.tape_media.specs.Steps.{device_of}
 use Rattle.tape_media.specs.Tape.{Tape, view_of}
 use Rattle.eaw_device.specs.Opens.{Attached, FindsData, KeepsData, AttachCause}
 use Rattle.taped_array.specs.declared.open_array.OpenArray.{OpenArray}
@@ -23,6 +24,7 @@ returns-in-Ok-new-clause-opened c =
       attached = subst (λ (tape : Tape). Attached true (view_of tape) (store_in made)) c.in-Ok.ensures found.opens;
       found = subst (λ (tape : Tape). FindsData true (view_of tape) (store_in made)) c.in-Ok.ensures found.found;
       keeps = subst (λ (tape : Tape). KeepsData true (view_of tape) (store_in made).moment (store_in made).left_since) c.in-Ok.ensures found.keeps;
+      device = found.opens.device ∙ ap (λ (tape : Tape). device_of tape.past) c.in-Ok.ensures;
       limit = found.limit;
       none_waits = found.none_waits;
     })

@@ -18,3 +18,6 @@ returns-clause-down c =
     λ image left. device.only_now true (view_of s.media) s.shape s.logs.items s.late s.is_dead image s.sound refl alive
     (only_now s.media image (subst (λ (t : ℕ). LeftSince s.media t image) behind.moment (behind.left media.moment image (counts_now media media.moment image left)))) in
     rw (← c.into_core.ensures) (rw (← c.into_store-store.ensures.store) (is_down view c.depth-depth.result _ (view_of media) _ c.depth-depth.ensures.depth c.into_store-store.ensures.over alive behind opens))
+
+pub returns-clause-device : goal.returns-clause-device
+returns-clause-device c = rw (← c.into_core.ensures) (rw (← c.into_store-store.ensures.store) c.into_media.ensures.behind.device)

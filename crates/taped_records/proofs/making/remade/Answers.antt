@@ -1,4 +1,4 @@
-use Rattle.std.proofs.Common.{ℕ, true, rules, Result, Ok, Err}
+use Rattle.std.proofs.Common.{ℕ, true, rules, ◌∙◌, Result, Ok, Err}
 use Rattle.tape_media.specs.Tape.{view_of, counts_now}
 use Rattle.btree_pages.specs.Index.{tree}
 use Rattle.eaw_device.specs.Opens.{Opens}
@@ -18,8 +18,8 @@ returns-in_ok-array-in-Ok-Ok-default-clause-made c =
     let found = device.view_of (view_of s.media) s.shape s.logs.items s.late s.is_dead in
     let after = device.view_of (view_of t.media) t.shape t.logs.items t.late t.is_dead in
     let makes = made_of (λ (m : Result ℕ MakeFault). MakesTable true (Opens found.shape) tree c.args.name.now found after m) c.make_table.result.0 (Ok c.in-Ok-Ok-default.number) c.make_table.ensures.makes (search rules) in
-    has_table c.in-Some.depth c.args.array (view_of c.in-Some.media) c.in-Some.ensures.down found c.in-Ok.ensures.found c.in-Ok.ensures.keeps c.args.name.now after _ (view_of tape) c.into_media.ensures.behind
-    (λ image left. counts_now tape tape.moment image left) new.array.value new.ensures.begins new.ensures.keeps new.ensures.callers new.ensures.rows c.requires c.in-Ok-Ok-default.number makes
+    has_table c.in-Some.depth c.args.array (view_of c.in-Some.media) c.in-Some.ensures.down found c.in-Ok.ensures.found c.in-Ok.ensures.keeps (c.in-Ok.ensures.opens.device ∙ c.in-Some.ensures.device) c.args.name.now after _ (view_of tape) c.into_media.ensures.behind
+    (λ image left. counts_now tape tape.moment image left) new.array.value new.ensures.begins new.ensures.keeps new.ensures.callers new.ensures.rows new.ensures.device c.requires c.in-Ok-Ok-default.number makes
 
 pub returns-in_ok-array-in-Ok-Err-PagesFull-default-clause-left : goal.returns-in_ok-array-in-Ok-Err-PagesFull-default-clause-left
 returns-in_ok-array-in-Ok-Err-PagesFull-default-clause-left c =
@@ -30,8 +30,8 @@ returns-in_ok-array-in-Ok-Err-PagesFull-default-clause-left c =
     let found = device.view_of (view_of s.media) s.shape s.logs.items s.late s.is_dead in
     let after = device.view_of (view_of t.media) t.shape t.logs.items t.late t.is_dead in
     let makes = made_of (λ (m : Result ℕ MakeFault). MakesTable true (Opens found.shape) tree c.args.name.now found after m) c.make_table.result.0 (Err (PagesFull c.in-Ok-Err-PagesFull-default.pages)) c.make_table.ensures.makes (search rules) in
-    has_no_page c.in-Some.depth c.args.array (view_of c.in-Some.media) c.in-Some.ensures.down found c.in-Ok.ensures.found c.in-Ok.ensures.keeps c.args.name.now after _ (view_of tape) c.into_media-in-Ok-Err-PagesFull-default.ensures.behind
-    (λ image left. counts_now tape tape.moment image left) new.array.value new.ensures.begins new.ensures.keeps new.ensures.callers new.ensures.rows c.requires c.in-Ok-Err-PagesFull-default.pages makes
+    has_no_page c.in-Some.depth c.args.array (view_of c.in-Some.media) c.in-Some.ensures.down found c.in-Ok.ensures.found c.in-Ok.ensures.keeps (c.in-Ok.ensures.opens.device ∙ c.in-Some.ensures.device) c.args.name.now after _ (view_of tape) c.into_media-in-Ok-Err-PagesFull-default.ensures.behind
+    (λ image left. counts_now tape tape.moment image left) new.array.value new.ensures.begins new.ensures.keeps new.ensures.callers new.ensures.rows new.ensures.device c.requires c.in-Ok-Err-PagesFull-default.pages makes
 
 pub returns-in-Err-default-clause-closed : goal.returns-in-Err-default-clause-closed
 returns-in-Err-default-clause-closed c = by_chance c.args.name.now c.args.array c.unopened-in-Err-default.result c.requires c.unopened-in-Err-default.ensures

@@ -5,3 +5,6 @@ returns-in-Ok-new-clause-begins c = rw c.in-Ok-new.ensures.ok (rw c.new.ensures.
 
 pub returns-in-Ok-new-clause-keeps : goal.returns-in-Ok-new-clause-keeps
 returns-in-Ok-new-clause-keeps c = rw c.in-Ok-new.ensures.ok (rw c.new.ensures.core c.in-Ok.ensures.time)
+
+pub returns-in-Ok-new-clause-device : goal.returns-in-Ok-new-clause-device
+returns-in-Ok-new-clause-device c = rw c.in-Ok-new.ensures.ok (rw c.new.ensures.core c.in-Ok.ensures.device)

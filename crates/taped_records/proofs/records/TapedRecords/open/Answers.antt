@@ -1,4 +1,5 @@
-use Rattle.std.proofs.Common.{refl, true, subst, rules}
+use Rattle.std.proofs.Common.{refl, true, ap, subst, ◌∙◌, rules}
+use Rattle.tape_media.specs.Steps.{device_of}
 use Rattle.tape_media.specs.Tape.{Tape, view_of}
 use Rattle.btree_pages.specs.Index.{tree}
 use Rattle.open_records.specs.Opens.{BeginsOn, KeepsRecords, IsUnopened}
@@ -18,6 +19,7 @@ returns-in-Ok-new-clause-opened c =
     rw c.in-Ok-new.ensures.ok (record {
       begins = subst (λ (tape : Tape). BeginsOn tree c.args.depth (view_of tape) (core_in made)) c.in-Ok.ensures (rw c.new-3.ensures.core (c.in-Ok-open.ensures.array refl));
       keeps = subst (λ (tape : Tape). KeepsRecords true (view_of tape) (core_in made).moment (core_in made).left_since) c.in-Ok.ensures (rw c.new-3.ensures.core c.in-Ok-open.ensures.time);
+      device = rw c.new-3.ensures.core (c.in-Ok-open.ensures.device ∙ ap (λ (tape : Tape). device_of tape.past) c.in-Ok.ensures);
       callers = c.new-3.ensures.callers;
       depth = rw c.new-3.ensures.core c.in-Ok-open.ensures.depth;
       rows = search (rules, c.new-3.ensures.rows, c.new-2.ensures);
