@@ -2,14 +2,17 @@ use Rattle.std.proofs.Common.{◌*◌, ◌<◌, ◌++◌, true, length, sym, ◌
 use Rattle.std.proofs.lemmas.List.{length-append}
 use Rattle.array_shape.specs.Parts.{parts_of_write}
 use Rattle.array_shape.specs.Logged.{ranges_of}
+use Rattle.std.proofs.lemmas.Result.{err_from_is_err_and}
+use Rattle.eaw_face.specs.Command as command
 use Rattle.eaw_face.specs.State.{listed}
+use Rattle.eaw_face.specs.declared.fault.EawFault.TheVariants.{LogFull}
 use Rattle.memory_eaw.specs.Plain.{Plain}
 use Rattle.memory_eaw.specs.Shown.{plain_of, shown}
 use Rattle.mirror.specs.Log.{log_at}
 use Rattle.memory_eaw.specs.Steps.{relogged}
 use Rattle.mirror.proofs.Parts.{length-ranges_of}
 use Rattle.memory_eaw.proofs.Room.{fit_room}
-use Rattle.memory_eaw.proofs.Doing.{log_len_is}
+use Rattle.memory_eaw.proofs.Doing.{does_refused, log_len_is}
 use Rattle.memory_eaw.proofs.Commands.{does_written, parts-relogged}
 use Rattle.memory_eaw.proofs.eaw.MemoryEawEawStore.log_write.Goals as goal
 
@@ -25,6 +28,14 @@ append-requires-clause-room c =
       ap (λ (p : Plain). length (log_at p.logs c.args.tid).parts) c.in_ok-call.ensures.done.1,
       ap (λ (p : Plain). p.shape.loggers * p.shape.entries) c.in_ok-call.ensures.done.1,
     )
+
+pub returns-in_err-check_room-clause-does : goal.returns-in_err-check_room-clause-does
+returns-in_err-check_room-clause-does c =
+    let self = c.args.self.now in
+    let full = c.in_err-check_room.ensures.full in
+    let p = err_from_is_err_and c.from_residual-in_err-check_room.result c.from_residual-in_err-check_room.ensures.1 in
+    rw (p.1, p.2, full.fault_is) (does_refused (shown self) (command.log_write c.args.tid c.args.addr c.args.bytes.now) (LogFull full.g full.h full.n)
+    (c.in_ok-check_number.ensures.known.0, c.in_ok-check_number.ensures.known.1, full.first) (λ is. cc))
 
 pub returns-clause-does : goal.returns-clause-does
 returns-clause-does c =
