@@ -36,6 +36,7 @@ use Rattle.caller_steps.specs.Run.{Turn}
 use Rattle.frame_lines.specs.declared.ended.FollowEnd.{FollowEnd}
 use Rattle.script_run.specs.declared.ended.Ended.{Ended}
 use Rattle.script_run.specs.declared.ended.Ended.TheVariants as script
+use Rattle.caller_work.specs.declared.gate.Place.{Place}
 use Rattle.mars_shell.specs.Asked.{OutcomeFor}
 use Rattle.mars_shell.specs.Commands.{ObeysBy, ObeysAs}
 use Rattle.mars_shell.specs.Drill.{Drills}
@@ -144,12 +145,12 @@ module _ (tells : Bool) (told : IsTrue tells) (old new : View) (counts_now : (t 
         ⊎_elim (λ like. (like.2, subst (λ (s : Shape). Opens s image like.2) same like.4)) (λ first. (_, subst (λ (s : Shape). Opens s image (followed first.frames (settled_data follows.shape old.content.bytes))) same first.opens))
         (follows.since all_there image (counts_now old.moment image told (follows.later all_there) left))
 
-    pub next_followed : (status : Status) (input : List ℕ) (cut : Bool) (text : List ℕ) → OutcomeFor Follow old status new input cut text → AllOpen shape new.content
+    pub next_followed : (status : Status) (input : List ℕ) (cut : Bool) (text : List ℕ) → OutcomeFor (λ place. Unit {0}) Follow old status new input cut text → AllOpen shape new.content
     next_followed status input cut text outcome = ⊎_elim
         (λ unopened. outcome_gives (AllOpen shape new.content) true (λ ended. ⊥) (λ page. ⊥) ⊥ ⊥ old status new cut text (idle_open cut text) (λ ended none. absurd none) unopened)
         (λ ran. followed_open input cut text ran.0 ran.2) outcome
 
-    pub next_open : (given : EawOptions) (status : Status) (input : List ℕ) (cut : Bool) (text : List ℕ) → OutcomeFor (Eaw given) old status new input cut text → AllOpen shape new.content
+    pub next_open : (given : EawOptions) (status : Status) (input : List ℕ) (cut : Bool) (text : List ℕ) → OutcomeFor (λ place. Unit {0}) (Eaw given) old status new input cut text → AllOpen shape new.content
     next_open given status input cut text outcome =
         outcome_gives (AllOpen shape new.content) true (λ ended. ObeysAs given.frames old input ended new cut text) (λ page. ⊥) ⊥ ⊥ old status new cut text (idle_open cut text) (obeyed_as given.frames input cut text) outcome
 
@@ -204,7 +205,7 @@ module _ (tells : Bool) (told : IsTrue tells) (old new : View) (counts_now : (t 
     made_by_sound name cut text script.MediaFault made = tried_sound name made.1.0 made.1.1
     made_by_sound name cut text script.NoMemory made = absurd made
 
-    made_sound : (name : List ℕ) (status : Status) (cut : Bool) (text : List ℕ) → OutcomeFor (Make name) old status new [] cut text → AllSound shape form new.content
+    made_sound : (name : List ℕ) (status : Status) (cut : Bool) (text : List ℕ) → OutcomeFor (λ place. Unit {0}) (Make name) old status new [] cut text → AllSound shape form new.content
     made_sound name status cut text outcome =
         ⊎_elim (λ over. records_sound true 0 (MadeBy name old new cut text) status cut text (made_by_sound name cut text) over) (λ refused. tried_sound name refused.2.shape refused.2.tries) outcome
 
@@ -234,16 +235,16 @@ module _ (tells : Bool) (told : IsTrue tells) (old new : View) (counts_now : (t 
     run_sound true depth input cut text ended framed = turns_sound depth _ ended framed.taken
     run_sound false depth input cut text ended taken = turns_sound depth (Answers input ended cut text) ended taken
 
-    pub next_sound : (asked : Words) (status : Status) (input : List ℕ) (cut : Bool) (text : List ℕ) → IsOfRecords asked → OutcomeFor asked old status new input cut text → AllSound shape form new.content
-    next_sound (Run given) status input cut text of outcome = records_sound false 0 (λ ended. RunsAs given.frames (depth_of given.writing) input cut text old ended new) status cut text (λ ended taken. run_sound given.frames (depth_of given.writing) input cut text ended taken) outcome
-    next_sound (Callers numbers) status input cut text of outcome = records_sound false (passes_for numbers.callers numbers.readers) (λ ended. TakesTurns (depth_of numbers.writing) (JointWork numbers.callers numbers.readers numbers.tries input ended cut text) old ended new) status cut text (λ ended taken. turns_sound (depth_of numbers.writing) (JointWork numbers.callers numbers.readers numbers.tries input ended cut text) ended taken) outcome
-    next_sound Dump status input cut text of outcome = records_sound true 0 (DumpsRecords old new cut text) status cut text (dumped_sound cut text) outcome
-    next_sound (Drill numbers) status input cut text of outcome = records_sound false 0 (λ ended. TakesTurns (depth_of numbers.writing) (Drills numbers ended cut text) old ended new) status cut text (λ ended taken. turns_sound (depth_of numbers.writing) (Drills numbers ended cut text) ended taken) outcome
-    next_sound (Make name) status input cut text of outcome = made_sound name status cut text outcome
-    next_sound Purge status input cut text of outcome = records_sound false 0 (PurgedBy old new cut text) status cut text (purged_by_sound cut text) outcome
-    next_sound (Eaw given) status input cut text of outcome = absurd of
-    next_sound Follow status input cut text of outcome = absurd of
-    next_sound (Format numbers) status input cut text of outcome = absurd of
+    pub next_sound : (Knows : Place → Type 0) (asked : Words) (status : Status) (input : List ℕ) (cut : Bool) (text : List ℕ) → IsOfRecords asked → OutcomeFor Knows asked old status new input cut text → AllSound shape form new.content
+    next_sound Knows (Run given) status input cut text of outcome = records_sound false 0 (λ ended. RunsAs given.frames (depth_of given.writing) input cut text old ended new) status cut text (λ ended taken. run_sound given.frames (depth_of given.writing) input cut text ended taken) outcome
+    next_sound Knows (Callers numbers) status input cut text of outcome = records_sound false (passes_for numbers.callers numbers.readers) (λ ended. TakesTurns (depth_of numbers.writing) (JointWork Knows numbers.callers numbers.readers numbers.tries input ended cut text) old ended new) status cut text (λ ended taken. turns_sound (depth_of numbers.writing) (JointWork Knows numbers.callers numbers.readers numbers.tries input ended cut text) ended taken) outcome
+    next_sound Knows Dump status input cut text of outcome = records_sound true 0 (DumpsRecords old new cut text) status cut text (dumped_sound cut text) outcome
+    next_sound Knows (Drill numbers) status input cut text of outcome = records_sound false 0 (λ ended. TakesTurns (depth_of numbers.writing) (Drills numbers ended cut text) old ended new) status cut text (λ ended taken. turns_sound (depth_of numbers.writing) (Drills numbers ended cut text) ended taken) outcome
+    next_sound Knows (Make name) status input cut text of outcome = made_sound name status cut text outcome
+    next_sound Knows Purge status input cut text of outcome = records_sound false 0 (PurgedBy old new cut text) status cut text (purged_by_sound cut text) outcome
+    next_sound Knows (Eaw given) status input cut text of outcome = absurd of
+    next_sound Knows Follow status input cut text of outcome = absurd of
+    next_sound Knows (Format numbers) status input cut text of outcome = absurd of
 
 -- ---- a fresh array
 

@@ -39,6 +39,7 @@ use Rattle.told_commands.specs.Tables.{Tries, HasNewName, MakesTable, MadeBy, na
 use Rattle.told_commands.specs.Purge.{PurgedBy}
 use Rattle.told_commands.specs.Told.{HasNames, WorksOn}
 use Rattle.reader_work.specs.Readership.{passes_for}
+use Rattle.caller_work.specs.declared.gate.Place.{Place}
 use Rattle.mars_shell.specs.Asked.{OutcomeFor}
 use Rattle.mars_shell.specs.Drill.{Drills}
 use Rattle.mars_shell.specs.Formats.{HasAsked, IsFormatted, FormatOutcome}
@@ -173,12 +174,12 @@ module _ (old : View) (shape : Shape) (form : ℕ) (names : List (List ℕ)) (ta
     told_one cut text ended makes image left =
         with_more name image (subst (λ (s : Shape). HasNewName name s old image) (this_shape makes.shape makes.tries.holds.array.header) (makes.finishes.now image left))
 
-    pub named : (status : Status) (input : List ℕ) (cut : Bool) (text : List ℕ) → (status ≡ Good) ⊎ (status ≡ WriteFault) → OutcomeFor (Make name) old status new input cut text
+    pub named : (status : Status) (input : List ℕ) (cut : Bool) (text : List ℕ) → (status ≡ Good) ⊎ (status ≡ WriteFault) → OutcomeFor (λ place. Unit {0}) (Make name) old status new input cut text
         → AllAreOf shape form (names ++ name ∷ []) table new.content
     named status input cut text (inl is) outcome =
-        ⊎_elim (λ makes. told_one cut text script.All makes) (λ refused. absurd (not_refused Good refused.0 tt refused.1)) (subst (λ (s : Status). OutcomeFor (Make name) old s new input cut text) is outcome)
+        ⊎_elim (λ makes. told_one cut text script.All makes) (λ refused. absurd (not_refused Good refused.0 tt refused.1)) (subst (λ (s : Status). OutcomeFor (λ place. Unit {0}) (Make name) old s new input cut text) is outcome)
     named status input cut text (inr is) outcome =
-        ⊎_elim (λ makes. told_one cut text script.WriteFault makes) (λ refused. absurd (not_refused WriteFault refused.0 tt refused.1)) (subst (λ (s : Status). OutcomeFor (Make name) old s new input cut text) is outcome)
+        ⊎_elim (λ makes. told_one cut text script.WriteFault makes) (λ refused. absurd (not_refused WriteFault refused.0 tt refused.1)) (subst (λ (s : Status). OutcomeFor (λ place. Unit {0}) (Make name) old s new input cut text) is outcome)
 
   module _ (version_two : (form : ℕ) (bytes : List ℕ) → (index_of_form form).sound bytes → length bytes < 2 ^ 32
       → (index_of_form form).sound (upgraded bytes) × (names_of (upgraded bytes) ≡ names_of bytes) × (table_of (index_of_form form) (upgraded bytes) ≡ table_of (index_of_form form) bytes)) where
@@ -244,19 +245,19 @@ module _ (old : View) (shape : Shape) (form : ℕ) (names : List (List ℕ)) (ta
           outcome_gives P spares Works (λ page. IsDamaged old page × (Exceeds callers old → ⊥)) (HoldsArray old × (Exceeds callers old → ⊥)) (Exceeds callers old) old status new cut text
           (λ spared MayWrite Cause none. as_before (idle cut text spared MayWrite Cause none)) works outcome
 
-      pub unchanged : (asked : Words) (status : Status) (input : List ℕ) (cut : Bool) (text : List ℕ) → ChangesNone asked → OutcomeFor asked old status new input cut text
+      pub unchanged : (Knows : Place → Type 0) (asked : Words) (status : Status) (input : List ℕ) (cut : Bool) (text : List ℕ) → ChangesNone asked → OutcomeFor Knows asked old status new input cut text
           → (called : List (List ℕ)) × MayName asked names called × IsOf shape form called table image
-      unchanged Dump status input cut text none outcome = over (HasTables Dump) (λ of. (names, refl, of)) true 0 (DumpsRecords old new cut text) status cut text (dumped cut text) outcome
-      unchanged (Make name) status input cut text none outcome = ⊎_elim
+      unchanged Knows Dump status input cut text none outcome = over (HasTables Dump) (λ of. (names, refl, of)) true 0 (DumpsRecords old new cut text) status cut text (dumped cut text) outcome
+      unchanged Knows (Make name) status input cut text none outcome = ⊎_elim
           (λ over-it. over (HasTables (Make name)) (λ of. (names, inl refl, of)) true 0 (MadeBy name old new cut text) status cut text (made_by name cut text) over-it)
           (λ refused. tried name refused.2.shape refused.2.tries) outcome
-      unchanged Purge status input cut text none outcome = over (HasTables Purge) (λ of. (names, refl, of)) false 0 (PurgedBy old new cut text) status cut text (purged_by cut text) outcome
-      unchanged (Run given) status input cut text none outcome = absurd none
-      unchanged (Callers numbers) status input cut text none outcome = absurd none
-      unchanged (Drill numbers) status input cut text none outcome = absurd none
-      unchanged (Eaw given) status input cut text none outcome = absurd none
-      unchanged Follow status input cut text none outcome = absurd none
-      unchanged (Format numbers) status input cut text none outcome = absurd none
+      unchanged Knows Purge status input cut text none outcome = over (HasTables Purge) (λ of. (names, refl, of)) false 0 (PurgedBy old new cut text) status cut text (purged_by cut text) outcome
+      unchanged Knows (Run given) status input cut text none outcome = absurd none
+      unchanged Knows (Callers numbers) status input cut text none outcome = absurd none
+      unchanged Knows (Drill numbers) status input cut text none outcome = absurd none
+      unchanged Knows (Eaw given) status input cut text none outcome = absurd none
+      unchanged Knows Follow status input cut text none outcome = absurd none
+      unchanged Knows (Format numbers) status input cut text none outcome = absurd none
 
       -- the same tables, and some records
       abbrev HasSome : Type 0
@@ -277,18 +278,18 @@ module _ (old : View) (shape : Shape) (form : ℕ) (names : List (List ℕ)) (ta
       run_by true depth input cut text ended framed = turned depth _ ended framed.taken
       run_by false depth input cut text ended taken = turned depth (Answers input ended cut text) ended taken
 
-      pub some : (asked : Words) (status : Status) (input : List ℕ) (cut : Bool) (text : List ℕ) → IsOfRecords asked → OutcomeFor asked old status new input cut text
+      pub some : (Knows : Place → Type 0) (asked : Words) (status : Status) (input : List ℕ) (cut : Bool) (text : List ℕ) → IsOfRecords asked → OutcomeFor Knows asked old status new input cut text
           → (called : List (List ℕ)) × MayName asked names called × (records : Table) × IsOf shape form called records image
-      some (Run given) status input cut text of outcome = over HasSome as_before false 0 (λ ended. RunsAs given.frames (depth_of given.writing) input cut text old ended new) status cut text
+      some Knows (Run given) status input cut text of outcome = over HasSome as_before false 0 (λ ended. RunsAs given.frames (depth_of given.writing) input cut text old ended new) status cut text
           (λ ended taken. run_by given.frames (depth_of given.writing) input cut text ended taken) outcome
-      some (Callers numbers) status input cut text of outcome = over HasSome as_before false (passes_for numbers.callers numbers.readers)
-          (λ ended. TakesTurns (depth_of numbers.writing) (JointWork numbers.callers numbers.readers numbers.tries input ended cut text) old ended new) status cut text
-          (λ ended taken. turned (depth_of numbers.writing) (JointWork numbers.callers numbers.readers numbers.tries input ended cut text) ended taken) outcome
-      some (Drill numbers) status input cut text of outcome = over HasSome as_before false 0 (λ ended. TakesTurns (depth_of numbers.writing) (Drills numbers ended cut text) old ended new) status cut text
+      some Knows (Callers numbers) status input cut text of outcome = over HasSome as_before false (passes_for numbers.callers numbers.readers)
+          (λ ended. TakesTurns (depth_of numbers.writing) (JointWork Knows numbers.callers numbers.readers numbers.tries input ended cut text) old ended new) status cut text
+          (λ ended taken. turned (depth_of numbers.writing) (JointWork Knows numbers.callers numbers.readers numbers.tries input ended cut text) ended taken) outcome
+      some Knows (Drill numbers) status input cut text of outcome = over HasSome as_before false 0 (λ ended. TakesTurns (depth_of numbers.writing) (Drills numbers ended cut text) old ended new) status cut text
           (λ ended taken. turned (depth_of numbers.writing) (Drills numbers ended cut text) ended taken) outcome
-      some Dump status input cut text of outcome = let has = unchanged Dump status input cut text tt outcome in (has.0, has.1, table, has.2)
-      some (Make name) status input cut text of outcome = let has = unchanged (Make name) status input cut text tt outcome in (has.0, has.1, table, has.2)
-      some Purge status input cut text of outcome = let has = unchanged Purge status input cut text tt outcome in (has.0, has.1, table, has.2)
-      some (Eaw given) status input cut text of outcome = absurd of
-      some Follow status input cut text of outcome = absurd of
-      some (Format numbers) status input cut text of outcome = absurd of
+      some Knows Dump status input cut text of outcome = let has = unchanged Knows Dump status input cut text tt outcome in (has.0, has.1, table, has.2)
+      some Knows (Make name) status input cut text of outcome = let has = unchanged Knows (Make name) status input cut text tt outcome in (has.0, has.1, table, has.2)
+      some Knows Purge status input cut text of outcome = let has = unchanged Knows Purge status input cut text tt outcome in (has.0, has.1, table, has.2)
+      some Knows (Eaw given) status input cut text of outcome = absurd of
+      some Knows Follow status input cut text of outcome = absurd of
+      some Knows (Format numbers) status input cut text of outcome = absurd of

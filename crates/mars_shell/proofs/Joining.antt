@@ -37,6 +37,8 @@ use Rattle.reader_work.specs.Readership.{passes_for}
 use Rattle.history.specs.declared.answer.Answer.{Answer}
 use Rattle.script_run.specs.declared.ended.Ended.{Ended}
 use Rattle.script_run.specs.declared.ended.Ended.TheVariants as ends
+use Rattle.caller_work.specs.declared.gate.Place.{Place}
+use Rattle.caller_work.specs.Crew.{KnowsFirst}
 use Rattle.mars_shell.specs.Joint.{JointWork}
 use Rattle.mars_shell.specs.OnCore.{TurnsOn}
 use Rattle.mars_shell.specs.Told.{TellsEnd, answers_in}
@@ -97,7 +99,7 @@ retold ended cut text faults faults' history history' base base' fates fates' to
     (subst (λ (whole : List ℕ). TellsEnd ended cut text whole (flat_map done_lines history ++ media_line)) (λ i. work_text (f i) (h i) (t i) (entries (records (rows.table_of (b i)) (h i))) told) tells)
 
 module _ (tells : Bool) (core last : CoreView) (callers readers tries : ℕ) (input : List ℕ) (said : List JointLine) (says : AllSay callers readers (lines_of input) said)
-    (plans : List (List Plan)) (plans_are : plans ≡ plans_from 0 callers said) (fates : List (List Fate)) (end : WorkEnd) (worked : Worked tells tries plans core last fates end) (enough : passes_for callers readers ≤ core.limits.callers) (told : List (List Answer)) where
+    (plans : List (List Plan)) (plans_are : plans ≡ plans_from 0 callers said) (fates : List (List Fate)) (end : WorkEnd) (worked : Worked tells tries plans core last fates end) (enough : passes_for callers readers ≤ core.limits.callers) (told : List (List Answer)) (Knows : Place → Type 0) (known : KnowsFirst Knows plans) where
   counted : length plans ≡ callers
   counted = ap length plans_are ∙ as_many 0 callers said
 
@@ -151,7 +153,7 @@ module _ (tells : Bool) (core last : CoreView) (callers readers tries : ℕ) (in
   joint_work : last.state.names ≡ core.state.names → (ended : Ended) (cut : Bool) (text : List ℕ) → (ended ≢ ends.MediaFault → ended ≢ ends.NoMemory → end ≡ work.All) → (ended ≡ ends.MediaFault) ↔ (end ≡ work.MediaFault)
       → (ended ≢ ends.MediaFault → ended ≢ ends.NoMemory → AllAnswer last.state.names last.state.base last.state.history (keys_from 0 readers said) told)
       → TellsEnd ended cut text (work_text (faults_from 1 (λ caller. false) said) last.state.history fates (entries (records last.state.base last.state.history)) told) (flat_map done_lines last.state.history ++ media_line)
-      → JointWork callers readers tries input ended cut text core.limits worked.turns last.state
+      → JointWork Knows callers readers tries input ended cut text core.limits worked.turns last.state
   joint_work named ended cut text whole fault answered tells_work = record {
     enough = enough;
     said = said;
@@ -164,6 +166,7 @@ module _ (tells : Bool) (core last : CoreView) (callers readers tries : ℕ) (in
       its caller less,
       (λ unfailed remembered. worked.whole (whole unfailed remembered) caller (within caller less)),
     );
+    known = λ caller less plans_one. known caller (within caller less) (subst (λ (ps : List Plan). 0 < length ps) (sym (planned_at caller less)) plans_one);
     causes = λ caller less call holder there. caused named caller less call holder there;
     fault = (λ is. worked.dead ∙ ap is_fault (fault.0 is), λ has. fault.1 (fault_of end (sym worked.dead ∙ has)));
     told = told;
@@ -174,7 +177,7 @@ module _ (tells : Bool) (core last : CoreView) (callers readers tries : ℕ) (in
   pub joint_turns : IsTrue tells → (ended : Ended) (cut : Bool) (text : List ℕ) → (ended ≢ ends.MediaFault → ended ≢ ends.NoMemory → end ≡ work.All) → (ended ≡ ends.MediaFault) ↔ (end ≡ work.MediaFault)
       → (ended ≢ ends.MediaFault → ended ≢ ends.NoMemory → AllAnswer last.state.names last.state.base last.state.history (keys_from 0 readers said) told)
       → TellsEnd ended cut text (work_text (faults_from 1 (λ caller. false) said) last.state.history fates (entries (records last.state.base last.state.history)) told) (flat_map done_lines last.state.history ++ media_line)
-      → TurnsOn (JointWork callers readers tries input ended cut text) core ended last
+      → TurnsOn (JointWork Knows callers readers tries input ended cut text) core ended last
   joint_turns tells_all ended cut text whole fault answered tells_work = record {
     turns = worked.turns;
     runs = runs tells_all;

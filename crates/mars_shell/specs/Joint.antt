@@ -9,6 +9,8 @@ use Rattle.caller_steps.specs.Room.{Limits}
 use Rattle.caller_steps.specs.Run.{Turn, AreOf, turns_of}
 use Rattle.caller_plans.specs.declared.fate.Fate.{Fate}
 use Rattle.caller_plans.specs.Plans.{planned, calls_by, faults_from}
+use Rattle.caller_work.specs.declared.gate.Place.{Place}
+use Rattle.caller_work.specs.declared.gate.Place.TheVariants as place
 use Rattle.caller_work.specs.declared.tries.Tries.TheVariants.{Times}
 use Rattle.caller_work.specs.Tries.{IsWorkOf}
 use Rattle.caller_work.specs.Asked.{HaveCauses}
@@ -27,12 +29,13 @@ use Rattle.script_run.specs.declared.ended.Ended.TheVariants.{MediaFault, NoMemo
 use Rattle.mars_shell.specs.Told.{TellsEnd}
 
 -- What comes of the callers' work on a core of these limits, which has at least as many callers, and one more if there are readers: what the
--- lines of the input say, and that each caller's turns are those that its plans ask for, of which its fates are told. Each `Busy` that a
+-- lines of the input say, and that each caller's turns are those that its plans ask for, of which its fates are told. The gate knows of each
+-- caller that plans a transaction where its first has ended, or was left for last. Each `Busy` that a
 -- caller was told names another one that plans a call on the same stripe, one of the two for writing. The work ended at a fault of the
 -- medium exactly if the medium has failed. If neither that was so nor memory ran out, each caller came to the end of its plans, and each
 -- reader was answered for each key that it asks for: the value after some first transactions of the history, no fewer from one of its
 -- answers to the next. The text has all of this, or, if the medium failed, the history and a line that says so.
-pub record JointWork (callers readers tries : ℕ) (input : List ℕ) (ended : Ended) (cut : Bool) (text : List ℕ) (limits : Limits) (turns : List Turn) (final : State) : Type 0 where
+pub record JointWork (Knows : Place → Type 0) (callers readers tries : ℕ) (input : List ℕ) (ended : Ended) (cut : Bool) (text : List ℕ) (limits : Limits) (turns : List Turn) (final : State) : Type 0 where
   pub enough : passes_for callers readers ≤ limits.callers
   pub said : List JointLine
   pub says : AllZip (JointLineSays callers readers) (lines_of input) said
@@ -41,6 +44,7 @@ pub record JointWork (callers readers tries : ℕ) (input : List ℕ) (ended : E
   pub each : length fates ≡ callers
   pub works : (caller : ℕ) → caller < callers → (stopped : Option Reply) × IsWorkOf (Times tries) (planned None (calls_by caller said)) (turns_of caller turns) (of_caller fates caller) stopped
       × (ended ≢ MediaFault → ended ≢ NoMemory → stopped ≡ None)
+  pub known : (caller : ℕ) → caller < callers → 0 < length (planned None (calls_by caller said)) → Knows (place.Ended caller 1)
   pub causes : (caller : ℕ) (within : caller < callers) → HaveCauses callers final.names (λ other. planned None (calls_by other said)) caller (works caller within).1.0
   pub fault : (ended ≡ MediaFault) ↔ IsTrue final.is_dead
   pub told : List (List Answer)
