@@ -63,6 +63,7 @@ module _ (tells : Bool) (old new : View) (shape : Shape) (logs : List Log) (late
     unlogged = λ t. ap (option_map (parts_in shape new.content.bytes t)) (none_at t (slice_get logs t) refl);
     alive = refl;
     faults = settled.faults;
+    device = settled.device;
     calls = settled.calls;
   }
 

@@ -50,6 +50,7 @@ pub(crate) fn settle<M: Media>(media: &mut M, shape: &Shape) -> Result<(), Attac
     ensures costs { IsTrue M.tells → HasNoVote shape.now (M.view media.old).content.bytes → Costs true (quiet_calls shape.now) (M.view media.old).moment (M.view media.new).moment result }
     ensures keeps { KeepsData M.tells (M.view media.old) (M.view media.new).moment (M.view media.new).left_since }
     ensures size { (M.view media.new).size ≡ (M.view media.old).size }
+    ensures device { (M.view media.new).device ≡ (M.view media.old).device }
     ensures faults { OnOk result ((M.view media.new).faults ≡ (M.view media.old).faults) }
     ensures kept { IfErr result (λ fault. fault ≢ AttachFault.Media → (M.view media.new).faults ≡ (M.view media.old).faults) }
     ensures later { (M.view media.old).faults ≤ (M.view media.new).faults }

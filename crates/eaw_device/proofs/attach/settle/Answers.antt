@@ -27,6 +27,7 @@ returns-in_err-recover g c =
       costs = λ told none. record { done = λ exact. tt; most = (refused.costs told none).most };
       keeps = settling_keeps m.tells shape old new c.requires.header refused.any_moment;
       size = refused.does.size;
+      device = refused.does.device;
       faults = tt;
       kept = refusal_kept m.tells shape old new Report fault refused.does.cause.kept;
       later = refused.does.cause.later;
@@ -50,6 +51,7 @@ returns g c =
       costs = λ told none. costs_all true _ _ _ _ ((done.costs told none).done refl);
       keeps = settling_keeps m.tells shape old new c.requires.header done.any_moment;
       size = done.does.size;
+      device = done.does.device;
       faults = done.does.cause.kept;
       kept = tt;
       later = done.does.cause.later;

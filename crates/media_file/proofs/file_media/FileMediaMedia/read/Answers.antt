@@ -1,4 +1,4 @@
-use Rattle.std.proofs.Common.{◌≡◌, ◌+◌, [], length, ap, arith, rules}
+use Rattle.std.proofs.Common.{refl, ◌≡◌, ◌+◌, [], length, ap, arith, rules}
 use Rattle.std.proofs.lemmas.Result.{err_from_is_err_and}
 use Rattle.media_file.proofs.CountLemmas.{cause_failed}
 use Rattle.media_file.proofs.ShowLemmas.{writes_stopped}
