@@ -72,20 +72,27 @@ last_there count page [] are is = absurd is
 last_there count page (r ∷ rs) are is = omega (arith, are.0, is)
 
 module _ {S : Type 0} (tells : Bool) (view : S → StoreView) (calls : S → store.Command → ℕ) (root key most : ℕ) where
+  -- the super page was read, and then these pages of the way
+  found : (U : Type 0) (Ends : U → List Step → Type 0) (old new : StoreView) (result : Result U PageFault) (w : List Reading) → Spends tells (is_done result) view calls (onwards w ++ front ∷ []) old new → IsWay (along root key) w → length w ≤ most
+      → IfSome (blamed result) (λ page. (page < page_count old.shape) × IsMet page (onwards w ++ front ∷ [])) → IfOk result (λ x. Ends x (onwards w ++ front ∷ []))
+      → Finds tells view calls root key most Ends old new result
+  found U Ends old new result w spends way few blames ends = record {
+    steps = onwards w ++ front ∷ [];
+    spends = spends;
+    only = reads_only w;
+    fronts = omega (arith, reads_fronts w);
+    way = subst (λ (rs : List Reading). IsWay (along root key) rs) (sym (reads_way w)) way;
+    few = omega (arith, ap (λ (rs : List Reading). length rs) (reads_way w), few);
+    blames = blames;
+    ends = ends;
+  }
+
   -- the super page cannot be read, or is none
   pub front_fails : (T U : Type 0) (Ends : U → List Step → Type 0) (Good : Type 0) (at : S) (calls_now : store.Command → ℕ) (old new : StoreView) (said there : List ℕ) (fault : PageFault) → 0 < page_count old.shape
       → (let r : Result T PageFault = Err fault in HasRead tells (is_failed r) (calls at) calls_now old new (one_reading 0 said there r)) → (let r : Result T PageFault = Err fault in TestCause tells Good 0 old r)
       → (let s : Result U PageFault = Err fault in Finds tells view calls root key most Ends old new s)
-  front_fails T U Ends Good at calls_now old new said there faults.Media some reads cause = record {
-    steps = front ∷ [];
-    spends = spends_front tells view calls at true calls_now old new there reads;
-    only = tt;
-    fronts = omega arith;
-    way = tt;
-    few = omega arith;
-    blames = tt;
-    ends = tt;
-  }
+  front_fails T U Ends Good at calls_now old new said there faults.Media some reads cause =
+      found U Ends old new (Err faults.Media) [] (spends_front tells view calls at true calls_now old new there reads) tt (omega arith) tt tt
   front_fails T U Ends Good at calls_now old new said there faults.Dead some reads cause = record {
     steps = [];
     spends = spends_none tells view calls false old new (omega (arith, reads.exact refl));
@@ -96,32 +103,16 @@ module _ {S : Type 0} (tells : Bool) (view : S → StoreView) (calls : S → sto
     blames = tt;
     ends = tt;
   }
-  front_fails T U Ends Good at calls_now old new said there (faults.Damaged bad) some reads cause = record {
-    steps = front ∷ [];
-    spends = spends_ill tells view calls false (front ∷ []) old new (spends_front tells view calls at false calls_now old new said reads);
-    only = tt;
-    fronts = omega arith;
-    way = tt;
-    few = omega arith;
-    blames = (omega (arith, cause.1, some), inl cause.1);
-    ends = tt;
-  }
+  front_fails T U Ends Good at calls_now old new said there (faults.Damaged bad) some reads cause =
+      found U Ends old new (Err (faults.Damaged bad)) [] (spends_ill tells view calls false (front ∷ []) old new (spends_front tells view calls at false calls_now old new said reads)) tt (omega arith)
+      (omega (arith, cause.1, some), inl cause.1) tt
   front_fails T U Ends Good at calls_now old new said there (faults.LogFull g h n) some reads cause = absurd cause
   front_fails T U Ends Good at calls_now old new said there faults.SavesFull some reads cause = absurd cause
 
   -- it was read, and the page is known
   pub known_finds : (U : Type 0) (x : U) (Ends : U → List Step → Type 0) (at : S) (calls_now : store.Command → ℕ) (old new : StoreView) (said : List ℕ) → HasRead tells false (calls at) calls_now old new ((0, said) ∷ []) → Ends x (front ∷ [])
       → (let s : Result U PageFault = Ok x in Finds tells view calls root key most Ends old new s)
-  known_finds U x Ends at calls_now old new said reads ends = record {
-    steps = front ∷ [];
-    spends = spends_front tells view calls at false calls_now old new said reads;
-    only = tt;
-    fronts = omega arith;
-    way = tt;
-    few = omega arith;
-    blames = tt;
-    ends = ends;
-  }
+  known_finds U x Ends at calls_now old new said reads ends = found U Ends old new (Ok x) [] (spends_front tells view calls at false calls_now old new said reads) tt (omega arith) tt ends
 
   -- it was read, and then pages of the way
   module _ (T U : Type 0) (Walked : T → List Reading → Type 0) (Ends : U → List Step → Type 0) (first_at then_at : S) (calls_now : store.Command → ℕ) (old mid new : StoreView) (said : List ℕ) (shape : mid.shape ≡ old.shape)
@@ -130,32 +121,18 @@ module _ {S : Type 0} (tells : Bool) (view : S → StoreView) (calls : S → sto
     walked failed rs then_reads =
         spends_then tells view calls (not failed) (front ∷ []) (onwards rs) old mid new (spends_front tells view calls first_at false (calls then_at) old mid said reads) (spends_onward tells view calls then_at failed calls_now mid new rs then_reads)
 
-    found : (result : Result U PageFault) (w : List Reading) → Spends tells (is_done result) view calls (onwards w ++ front ∷ []) old new → IsWay (along root key) w → length w ≤ most
-        → IfSome (blamed result) (λ page. (page < page_count old.shape) × IsMet page (onwards w ++ front ∷ [])) → IfOk result (λ x. Ends x (onwards w ++ front ∷ []))
-        → Finds tells view calls root key most Ends old new result
-    found result w spends way few blames ends = record {
-      steps = onwards w ++ front ∷ [];
-      spends = spends;
-      only = reads_only w;
-      fronts = omega (arith, reads_fronts w);
-      way = subst (λ (rs : List Reading). IsWay (along root key) rs) (sym (reads_way w)) way;
-      few = omega (arith, ap (λ (rs : List Reading). length rs) (reads_way w), few);
-      blames = blames;
-      ends = ends;
-    }
-
     pub walk_finds : (x : T) (y : U) → (let r : Result T PageFault = Ok x in Walks tells (calls then_at) calls_now (along root key) most Walked mid new r) → ((rs : List Reading) → Walked x rs → Ends y (onwards rs ++ front ∷ []))
         → (let s : Result U PageFault = Ok y in Finds tells view calls root key most Ends old new s)
-    walk_finds x y walks ends = found (Ok y) walks.read (walked false walks.read walks.reads) walks.way walks.few tt (ends walks.read walks.ends)
+    walk_finds x y walks ends = found U Ends old new (Ok y) walks.read (walked false walks.read walks.reads) walks.way walks.few tt (ends walks.read walks.ends)
 
     pub walk_fails : (fault : PageFault) → (let r : Result T PageFault = Err fault in Walks tells (calls then_at) calls_now (along root key) most Walked mid new r) → (let s : Result U PageFault = Err fault in Finds tells view calls root key most Ends old new s)
-    walk_fails faults.Media walks = found (Err faults.Media) walks.read (walked true walks.read walks.reads) walks.way walks.few tt tt
-    walk_fails faults.Dead walks = found (Err faults.Dead) walks.read (spends_ill tells view calls false (onwards walks.read ++ front ∷ []) old new (walked false walks.read walks.reads)) walks.way walks.few tt tt
+    walk_fails faults.Media walks = found U Ends old new (Err faults.Media) walks.read (walked true walks.read walks.reads) walks.way walks.few tt tt
+    walk_fails faults.Dead walks = found U Ends old new (Err faults.Dead) walks.read (spends_ill tells view calls false (onwards walks.read ++ front ∷ []) old new (walked false walks.read walks.reads)) walks.way walks.few tt tt
     walk_fails (faults.Damaged bad) walks =
-        found (Err (faults.Damaged bad)) walks.read (spends_ill tells view calls false (onwards walks.read ++ front ∷ []) old new (walked false walks.read walks.reads)) walks.way walks.few
+        found U Ends old new (Err (faults.Damaged bad)) walks.read (spends_ill tells view calls false (onwards walks.read ++ front ∷ []) old new (walked false walks.read walks.reads)) walks.way walks.few
         (subst (λ (s : Shape). bad < page_count s) shape (last_there (page_count mid.shape) bad walks.read walks.reads.there walks.blames), last_met bad walks.read walks.blames) tt
-    walk_fails (faults.LogFull g h n) walks = found (Err (faults.LogFull g h n)) walks.read (spends_ill tells view calls false (onwards walks.read ++ front ∷ []) old new (walked false walks.read walks.reads)) walks.way walks.few tt tt
-    walk_fails faults.SavesFull walks = found (Err faults.SavesFull) walks.read (spends_ill tells view calls false (onwards walks.read ++ front ∷ []) old new (walked false walks.read walks.reads)) walks.way walks.few tt tt
+    walk_fails (faults.LogFull g h n) walks = found U Ends old new (Err (faults.LogFull g h n)) walks.read (spends_ill tells view calls false (onwards walks.read ++ front ∷ []) old new (walked false walks.read walks.reads)) walks.way walks.few tt tt
+    walk_fails faults.SavesFull walks = found U Ends old new (Err faults.SavesFull) walks.read (spends_ill tells view calls false (onwards walks.read ++ front ∷ []) old new (walked false walks.read walks.reads)) walks.way walks.few tt tt
 
   -- how what is found is put before what is done then
   module _ (T : Type 0) (Ends : T → List Step → Type 0) (sure : Type 0) (t : ℕ) (limits : Limits) (due : List Action) (bad : Option ℕ) (old mid : StoreView) (fronts : 1 ≤ limits.fronts) (few : most ≤ limits.way) where

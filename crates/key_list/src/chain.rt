@@ -5,8 +5,16 @@ ghost use Rattle.key_list.specs.Resting.{sound_table, sound_chain_given, sound_c
 ghost use Rattle.key_list.specs.Extending.{sound_chains_extend};
 ghost use Rattle.key_list.specs.Index.{chain};
 
-use crate::{checking, insertion, look, place, removal};
+use crate::checking::check_tables;
+use crate::insertion::{has_slot, insert_cut, insert_here};
+use crate::look::{page_for, reach};
+use crate::place::{FORM, locate, locate_for, room_in, slot_in};
+use crate::removal::remove_here;
 use eaw_face::EawStore;
+use index_pages::{
+    PAGE_LEN, PAIRS_MAX, SLOTS_IN_PAGE, check_lists, check_super, index_page_count, next_pair,
+    rest_of,
+};
 use noted::Keeper;
 use page_store::{
     CheckFault, IndexFault, KeyIndex, LeafPage, NextPairs, PageFault, Pages, Sought, TableRows,
@@ -32,7 +40,9 @@ impl KeyIndex for KeyList {
         pages: &mut Pages<S>,
         tables: &mut TableRows<H>,
     ) -> Result<(), CheckFault> {
-        checking::check(alloc, pages, tables)
+        let front = check_super(pages, FORM)?;
+        check_lists(pages, &front)?;
+        check_tables(alloc, pages, tables, &front)
     }
 
     fn find<S: EawStore>(
@@ -41,7 +51,24 @@ impl KeyIndex for KeyList {
         table: u8,
         key: u64,
     ) -> Result<Option<u32>, PageFault> {
-        look::find(pages, root, table, key)
+        let slots = SLOTS_IN_PAGE * index_page_count(pages);
+        let mut bytes = [0; PAGE_LEN];
+        let at = match reach(pages, root, table, key, &mut bytes) {
+            Ok(Some(at)) => at,
+            Ok(None) => return Ok(None),
+            Err(fault) => return Err(fault),
+        };
+        let Some((least, slot)) = next_pair(&bytes, at.count, key) else {
+            return Ok(None);
+        };
+        if slot >= u64::from(slots) {
+            return Err(PageFault::Damaged { page: at.page });
+        }
+        if least == key {
+            Ok(Some(slot as u32))
+        } else {
+            Ok(None)
+        }
     }
 
     fn find_place<S: EawStore>(
@@ -50,7 +77,16 @@ impl KeyIndex for KeyList {
         table: u8,
         key: u64,
     ) -> Result<Sought, PageFault> {
-        place::find_place(pages, root, table, key)
+        let slots = SLOTS_IN_PAGE * index_page_count(pages);
+        let mut bytes = [0; PAGE_LEN];
+        let at = page_for(pages, root, table, key, &mut bytes)?;
+        let Some(slot) = slot_in(&at, &bytes, key) else {
+            return Ok(room_in(&at, &bytes));
+        };
+        if slot >= u64::from(slots) {
+            return Err(PageFault::Damaged { page: at.page });
+        }
+        Ok(Sought::Slot(slot as u32))
     }
 
     fn next_pairs<S: EawStore>(
@@ -59,7 +95,17 @@ impl KeyIndex for KeyList {
         table: u8,
         from: u64,
     ) -> Result<NextPairs, PageFault> {
-        look::next(pages, root, table, from)
+        let slots = SLOTS_IN_PAGE * index_page_count(pages);
+        let mut bytes = [0; PAGE_LEN];
+        let at = match reach(pages, root, table, from, &mut bytes) {
+            Ok(Some(at)) => at,
+            Ok(None) => return Ok(NextPairs::new()),
+            Err(fault) => return Err(fault),
+        };
+        let Some(some) = rest_of(&bytes, at.count, from, slots) else {
+            return Err(PageFault::Damaged { page: at.page });
+        };
+        Ok(some)
     }
 
     fn insert<S: EawStore>(
@@ -70,7 +116,15 @@ impl KeyIndex for KeyList {
         key: u64,
         place: Option<LeafPage>,
     ) -> Result<u32, IndexFault> {
-        insertion::insert(pages, tid, root, table, key, place)
+        let at = locate_for(pages, root, table, key, place)?;
+        let slots = SLOTS_IN_PAGE * index_page_count(pages);
+        if !has_slot(&at.front, slots) {
+            return Err(IndexFault::SlotsFull { slots });
+        }
+        if at.pairs.len() < PAIRS_MAX {
+            return insert_here(pages, tid, root, table, key, at);
+        }
+        insert_cut(pages, tid, root, table, key, at)
     }
 
     fn remove<S: EawStore>(
@@ -80,7 +134,8 @@ impl KeyIndex for KeyList {
         table: u8,
         key: u64,
     ) -> Result<bool, PageFault> {
-        removal::remove(pages, tid, root, table, key)
+        let at = locate(pages, root, table, key)?;
+        remove_here(pages, tid, root, table, key, at)
     }
 
     ghost rises = { λ bytes table root sound is. sound_chain_rises bytes root table (sound_table bytes table root sound is) };

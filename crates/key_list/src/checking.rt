@@ -5,10 +5,10 @@ ghost use Rattle.array_shape.specs.Places.{page_count};
 ghost use Rattle.record_slots.specs.Places.{next_slot, page_bytes, tables_of, IsSuper};
 ghost use Rattle.record_slots.specs.Super.{SaysSuper, tables_in};
 ghost use Rattle.page_store.specs.Index.{slots_of, index_pages_of};
-ghost use Rattle.page_store.specs.Looks.{Looks, CheckCause, is_check_failed};
+ghost use Rattle.page_store.specs.Looks.{Looks, is_check_failed};
 ghost use Rattle.page_store.specs.Records.{row_of, rows_of, records_of};
 ghost use Rattle.page_store.specs.Shown.{pages_of};
-ghost use Rattle.page_store.specs.Tested.{Tests, holding};
+ghost use Rattle.page_store.specs.Tested.{holding};
 ghost use Rattle.index_pages.specs.Fetched.{IsFront};
 ghost use Rattle.index_pages.specs.Held.{IsHeld};
 ghost use Rattle.index_pages.specs.Page.{count_said, pairs_said};
@@ -18,40 +18,18 @@ ghost use Rattle.index_pages.specs.Slots.{IsVerdict, tables_check};
 ghost use Rattle.key_list.specs.Chain.{behind, IsChainHead, pair_check, pairs_check, chain_check, pairs_of_chain};
 ghost use Rattle.key_list.specs.Checked.{low_of};
 ghost use Rattle.key_list.specs.Index.{chain};
-ghost use Rattle.key_list.specs.Tried.{chain_plan, chain_testing, pairs_plan};
+ghost use Rattle.key_list.specs.Tried.{chain_plan, pairs_plan};
 
 use crate::page::read_leaf_head;
-use crate::place::FORM;
 use eaw_face::EawStore;
-use index_pages::{
-    Head, HeldPage, PAGE_LEN, check_lists, check_slot, check_super, fetch_page, read_pair,
-};
+use index_pages::{Head, HeldPage, PAGE_LEN, check_slot, fetch_page, read_pair};
 use noted::{Keeper, NotedRows};
 use page_store::{CheckFault, Pages, TableRows};
 use record_slots::{Super, TABLES_MAX, table_root};
 use std::alloc::Global;
 
-// Tests the super page, the lists of what is free, and then the chain of each table, and gathers the records.
-pub fn check<S: EawStore, H: Keeper>(
-    alloc: Global,
-    pages: &mut Pages<S>,
-    tables: &mut TableRows<H>,
-) -> Result<(), CheckFault>
-    ensures looks { Looks S.tells (S.opens (S.view pages.old.store).shape) (is_check_failed result)
-        (pages_of (S.view pages.old.store) pages.old) (pages_of (S.view pages.new.store) pages.new) }
-    ensures cause { CheckCause S.tells chain (S.view pages.old.store) result }
-    ensures records { IsTrue S.tells → OnOk result (tables.new ≡ tables.old ++ records_of chain (S.view pages.old.store).state.bytes) }
-    ensures tests { Tests S.tells (S.calls pages.old.store) (S.calls pages.new.store) (chain_testing (S.view pages.old.store).shape)
-        (S.view pages.old.store) (S.view pages.new.store) result }
-    ensures dead { IsErrOf result CheckFault.Dead → pages.new ≡ pages.old }
-{
-    let front = check_super(pages, FORM)?;
-    check_lists(pages, &front)?;
-    check_tables(alloc, pages, tables, &front)
-}
-
 // Tests the chain of each table by its number.
-fn check_tables<S: EawStore, H: Keeper>(
+pub fn check_tables<S: EawStore, H: Keeper>(
     alloc: Global,
     pages: &mut Pages<S>,
     tables: &mut TableRows<H>,

@@ -3,12 +3,12 @@ ghost use Rattle.std.specs.Prelude.{◌≡◌, ◌↔◌, ◌≢◌, ◌<◌, �
 ghost use Rattle.array_shape.specs.Places.{page_count};
 ghost use Rattle.eaw_face.specs.Causes.{IsAlive};
 ghost use Rattle.record_slots.specs.Places.{page_bytes};
-ghost use Rattle.page_store.specs.Follows.{Follows, HasRead, Walks, one_reading};
-ghost use Rattle.page_store.specs.Index.{slots_of, index_pages_of, IsTable};
+ghost use Rattle.page_store.specs.Follows.{HasRead, Walks, one_reading};
+ghost use Rattle.page_store.specs.Index.{index_pages_of, IsTable};
 ghost use Rattle.page_store.specs.Looks.{Looks, LookCause, is_failed};
-ghost use Rattle.page_store.specs.Pairs.{AreInside, AreNext, found, next};
+ghost use Rattle.page_store.specs.Pairs.{next};
 ghost use Rattle.page_store.specs.Shown.{pages_of};
-ghost use Rattle.key_list.specs.Along.{Arrives, Stays, along, ends_at, chain_finding, chain_nexting};
+ghost use Rattle.key_list.specs.Along.{Arrives, Stays, along, ends_at};
 ghost use Rattle.key_list.specs.Chain.{IsSoundChain, first_key, pairs_of_chain, page_of_key};
 ghost use Rattle.index_pages.specs.Fetched.{TestCause};
 ghost use Rattle.index_pages.specs.Page.{count_said, pairs_said};
@@ -16,10 +16,8 @@ ghost use Rattle.key_list.specs.Linked.{IsLinked, Reaches, SaysLeaf};
 
 use crate::page::read_leaf_head;
 use eaw_face::EawStore;
-use index_pages::{
-    Head, PAGE_LEN, SLOTS_IN_PAGE, fetch_page, index_page_count, next_pair, read_pair, rest_of,
-};
-use page_store::{NextPairs, PageFault, Pages};
+use index_pages::{Head, PAGE_LEN, fetch_page, index_page_count, next_pair, read_pair};
+use page_store::{PageFault, Pages};
 
 // Reads a page of the chain.
 pub fn read_page<S: EawStore>(
@@ -52,13 +50,13 @@ pub fn read_page<S: EawStore>(
 
 // A page of the chain on the way to a key, and how many pairs it has.
 #[derive(Clone, Copy)]
-struct Reached {
-    page: u32,
-    count: u16,
+pub struct Reached {
+    pub page: u32,
+    pub count: u16,
 }
 
 // Goes along to the first page that has a pair from a key on, if there is one.
-fn reach<S: EawStore>(
+pub fn reach<S: EawStore>(
     pages: &mut Pages<S>,
     root: u32,
     table: u8,
@@ -98,79 +96,6 @@ fn reach<S: EawStore>(
         page = head.link;
     }
     Err(PageFault::Damaged { page: last })
-}
-
-// The pairs from a key on in the first page that has any.
-pub fn next<S: EawStore>(
-    pages: &mut Pages<S>,
-    root: u32,
-    table: u8,
-    from: u64,
-) -> Result<NextPairs, PageFault>
-    requires table { table < 8 }
-    requires root { root < page_count (S.view pages.old.store).shape }
-    requires sound { IsTrue S.tells → IsAlive (S.view pages.old.store) → IsSoundChain (S.view pages.old.store).state.bytes }
-    requires named { IsTrue S.tells → IsAlive (S.view pages.old.store) → IsTable (S.view pages.old.store).state.bytes table root }
-    ensures looks { Looks S.tells (S.opens (S.view pages.old.store).shape) (is_failed result)
-        (pages_of (S.view pages.old.store) pages.old) (pages_of (S.view pages.new.store) pages.new) }
-    ensures cause { LookCause S.tells (S.view pages.old.store) result }
-    ensures follows { Follows S.tells (S.calls pages.old.store) (S.calls pages.new.store) (chain_nexting root from) (λ some. some.items)
-        (S.view pages.old.store) (S.view pages.new.store) result }
-    ensures next { IsTrue S.tells → IfOk result (λ some. AreNext (pairs_of_chain (S.view pages.old.store).state.bytes root) from some.items) }
-    ensures inside { IfOk result (λ some. AreInside from (slots_of (S.view pages.old.store).shape) some.items) }
-    ensures dead { IsErrOf result PageFault.Dead → pages.new ≡ pages.old }
-{
-    let slots = SLOTS_IN_PAGE * index_page_count(pages);
-    let mut bytes = [0; PAGE_LEN];
-    let at = match reach(pages, root, table, from, &mut bytes) {
-        Ok(Some(at)) => at,
-        Ok(None) => return Ok(NextPairs::new()),
-        Err(fault) => return Err(fault),
-    };
-    let Some(some) = rest_of(&bytes, at.count, from, slots) else {
-        return Err(PageFault::Damaged { page: at.page });
-    };
-    Ok(some)
-}
-
-// The slot of a key.
-pub fn find<S: EawStore>(
-    pages: &mut Pages<S>,
-    root: u32,
-    table: u8,
-    key: u64,
-) -> Result<Option<u32>, PageFault>
-    requires table { table < 8 }
-    requires root { root < page_count (S.view pages.old.store).shape }
-    requires sound { IsTrue S.tells → IsAlive (S.view pages.old.store) → IsSoundChain (S.view pages.old.store).state.bytes }
-    requires named { IsTrue S.tells → IsAlive (S.view pages.old.store) → IsTable (S.view pages.old.store).state.bytes table root }
-    ensures looks { Looks S.tells (S.opens (S.view pages.old.store).shape) (is_failed result)
-        (pages_of (S.view pages.old.store) pages.old) (pages_of (S.view pages.new.store) pages.new) }
-    ensures cause { LookCause S.tells (S.view pages.old.store) result }
-    ensures follows { Follows S.tells (S.calls pages.old.store) (S.calls pages.new.store) (chain_finding root key) (λ slot. slot)
-        (S.view pages.old.store) (S.view pages.new.store) result }
-    ensures found { IsTrue S.tells → IfOk result (λ slot. slot ≡ found (pairs_of_chain (S.view pages.old.store).state.bytes root) key) }
-    ensures inside { IfOk result (λ slot. IfSome slot (λ slot. slot < slots_of (S.view pages.old.store).shape)) }
-    ensures dead { IsErrOf result PageFault.Dead → pages.new ≡ pages.old }
-{
-    let slots = SLOTS_IN_PAGE * index_page_count(pages);
-    let mut bytes = [0; PAGE_LEN];
-    let at = match reach(pages, root, table, key, &mut bytes) {
-        Ok(Some(at)) => at,
-        Ok(None) => return Ok(None),
-        Err(fault) => return Err(fault),
-    };
-    let Some((least, slot)) = next_pair(&bytes, at.count, key) else {
-        return Ok(None);
-    };
-    if slot >= u64::from(slots) {
-        return Err(PageFault::Damaged { page: at.page });
-    }
-    if least == key {
-        Ok(Some(slot as u32))
-    } else {
-        Ok(None)
-    }
 }
 
 // A page of the chain, and what its head says.

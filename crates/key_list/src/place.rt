@@ -1,26 +1,24 @@
 // The page that a key is in or goes into, for insertions and removals, and for a look-up that an insertion follows.
-ghost use Rattle.std.specs.Prelude.{◌≡◌, ◌<◌, ◌≤◌, IfOk, IfSome, IsErrOf, IsTrue, is_some, length};
+ghost use Rattle.std.specs.Prelude.{◌≡◌, ◌<◌, IfOk, IfSome, IsErrOf, IsTrue, is_some, length};
 ghost use Rattle.array_shape.specs.Places.{page_count};
 ghost use Rattle.eaw_face.specs.Causes.{IsAlive};
 ghost use Rattle.page_store.specs.Index.{IsTable, index_pages_of};
 ghost use Rattle.page_store.specs.Looks.{Looks, LookCause, is_failed};
-ghost use Rattle.page_store.specs.Pairs.{AreSmall, found, next};
-ghost use Rattle.page_store.specs.Placed.{FollowsToPlace, IsPlaceIn, IsSoughtFor, IsSoughtIn, slot_sought};
+ghost use Rattle.page_store.specs.Pairs.{AreSmall, next};
+ghost use Rattle.page_store.specs.Placed.{IsPlaceIn};
 ghost use Rattle.page_store.specs.Shown.{pages_of};
 ghost use Rattle.page_store.specs.Works.{IsMet};
 ghost use Rattle.index_pages.specs.Page.{pairs_said};
 ghost use Rattle.key_list.specs.Along.{led_to};
-ghost use Rattle.key_list.specs.Chain.{IsSoundChain, pairs_of_chain};
+ghost use Rattle.key_list.specs.Chain.{IsSoundChain};
 ghost use Rattle.key_list.specs.Finds.{Finds, most_read};
-ghost use Rattle.key_list.specs.Index.{chain, IsPlaceOf};
+ghost use Rattle.key_list.specs.Index.{IsPlaceOf};
 ghost use Rattle.key_list.specs.Linked.{SaysLeaf};
 ghost use Rattle.key_list.specs.Located.{IsLocated, Locates, IsRoomIn};
 
 use crate::look::{KeyPage, page_for};
 use eaw_face::EawStore;
-use index_pages::{
-    PAGE_LEN, PAIRS_MAX, Pairs, SLOTS_IN_PAGE, fetch_super, index_page_count, next_pair, read_pairs,
-};
+use index_pages::{PAGE_LEN, PAIRS_MAX, Pairs, fetch_super, next_pair, read_pairs};
 use page_store::{LeafPage, PageFault, Pages, Sought};
 use record_slots::Super;
 
@@ -36,41 +34,8 @@ pub struct Located {
     pub pairs: Pairs,
 }
 
-// The slot of a key, or the page that it goes into. A page that is full is to be cut first.
-pub fn find_place<S: EawStore>(
-    pages: &mut Pages<S>,
-    root: u32,
-    table: u8,
-    key: u64,
-) -> Result<Sought, PageFault>
-    requires table { table < 8 }
-    requires root { root < page_count (S.view pages.old.store).shape }
-    requires sound { IsTrue S.tells → IsAlive (S.view pages.old.store) → IsSoundChain (S.view pages.old.store).state.bytes }
-    requires named { IsTrue S.tells → IsAlive (S.view pages.old.store) → IsTable (S.view pages.old.store).state.bytes table root }
-    ensures looks { Looks S.tells (S.opens (S.view pages.old.store).shape) (is_failed result)
-        (pages_of (S.view pages.old.store) pages.old) (pages_of (S.view pages.new.store) pages.new) }
-    ensures cause { LookCause S.tells (S.view pages.old.store) result }
-    ensures follows { FollowsToPlace S.tells (S.calls pages.old.store) (S.calls pages.new.store) chain root key
-        (S.view pages.old.store) (S.view pages.new.store) result }
-    ensures found { IsTrue S.tells → IfOk result (λ sought. slot_sought sought ≡ found (pairs_of_chain (S.view pages.old.store).state.bytes root) key) }
-    ensures place { IsTrue S.tells → IfOk result (IsSoughtFor chain (S.view pages.old.store).state.bytes root key) }
-    ensures inside { IfOk result (IsSoughtIn (S.view pages.old.store).shape) }
-    ensures dead { IsErrOf result PageFault.Dead → pages.new ≡ pages.old }
-{
-    let slots = SLOTS_IN_PAGE * index_page_count(pages);
-    let mut bytes = [0; PAGE_LEN];
-    let at = page_for(pages, root, table, key, &mut bytes)?;
-    let Some(slot) = slot_in(&at, &bytes, key) else {
-        return Ok(room_in(&at, &bytes));
-    };
-    if slot >= u64::from(slots) {
-        return Err(PageFault::Damaged { page: at.page });
-    }
-    Ok(Sought::Slot(slot as u32))
-}
-
 // What a page leads a key to.
-fn slot_in(at: &KeyPage, bytes: &[u8; PAGE_LEN], key: u64) -> Option<u64>
+pub fn slot_in(at: &KeyPage, bytes: &[u8; PAGE_LEN], key: u64) -> Option<u64>
     requires { SaysLeaf bytes.now at.now.head }
     ensures { result ≡ led_to key (next (pairs_said bytes.now) key) }
 {
@@ -81,7 +46,7 @@ fn slot_in(at: &KeyPage, bytes: &[u8; PAGE_LEN], key: u64) -> Option<u64>
 }
 
 // The page as a place for one more pair, if it has room.
-fn room_in(at: &KeyPage, bytes: &[u8; PAGE_LEN]) -> Sought
+pub fn room_in(at: &KeyPage, bytes: &[u8; PAGE_LEN]) -> Sought
     requires { SaysLeaf bytes.now at.now.head }
     ensures { IsRoomIn at.now bytes.now result }
 {

@@ -1,55 +1,26 @@
 // Removals from the chain of a table.
 ghost use Rattle.std.specs.Prelude.{◌≡◌, ◌<◌, ◌≤◌, ℕ, [], ◌∷◌, None, Some, IfSome, IfNone, IsErrOf, IsTrue, length};
-ghost use Rattle.array_shape.specs.Places.{page_count};
 ghost use Rattle.eaw_face.specs.Causes.{IsAlive};
 ghost use Rattle.record_slots.specs.Places.{version_of};
 ghost use Rattle.page_store.specs.Index.{IsTable};
 ghost use Rattle.page_store.specs.Pairs.{found};
 ghost use Rattle.page_store.specs.Removes.{HasAbsent, Removes};
 ghost use Rattle.page_store.specs.Shown.{pages_of, top_in};
-ghost use Rattle.page_store.specs.Works.{Works, WorksFrom, blamed, is_done, removal_actions, removal_limits};
+ghost use Rattle.page_store.specs.Works.{WorksFrom, blamed, is_done, removal_actions};
 ghost use Rattle.key_list.specs.Chain.{IsSoundChain};
 ghost use Rattle.key_list.specs.Index.{chain, chain_removal, keeps_last};
-ghost use Rattle.key_list.specs.Along.{along, chain_finding};
 ghost use Rattle.key_list.specs.Finds.{limits_here, no_way};
 ghost use Rattle.key_list.specs.Located.{IsLocated, Locates};
 
-use crate::place::{Located, locate};
+use crate::place::Located;
 use eaw_face::EawStore;
 use index_pages::{
     LeafPage, Pairs, SLOTS_IN_PAGE, give_slot, index_page_count, place_found, remove_pair,
 };
 use page_store::{PageFault, Pages};
 
-// Takes out the pair of a key, whose slot is absent, and frees the slot.
-pub fn remove<S: EawStore>(
-    pages: &mut Pages<S>,
-    tid: u8,
-    root: u32,
-    table: u8,
-    key: u64,
-) -> Result<bool, PageFault>
-    requires tid { tid < (S.view pages.old.store).shape.numbers }
-    requires table { table < 8 }
-    requires root { root < page_count (S.view pages.old.store).shape }
-    requires closed { IsAlive (S.view pages.old.store) → top_in pages.old.marks tid ≡ None }
-    requires sound { IsTrue S.tells → IsAlive (S.view pages.old.store) → IsSoundChain (S.view pages.old.store).state.bytes }
-    requires named { IsTrue S.tells → IsAlive (S.view pages.old.store) → IsTable (S.view pages.old.store).state.bytes table root }
-    requires lists { IsTrue S.tells → IsAlive (S.view pages.old.store) → version_of (S.view pages.old.store).state.bytes ≡ 2 }
-    requires absent { IsTrue S.tells → IsAlive (S.view pages.old.store) → HasAbsent chain root table key (S.view pages.old.store).state.bytes }
-    ensures removes { Removes S.tells (S.opens (S.view pages.old.store).shape) chain tid root key
-        (pages_of (S.view pages.old.store) pages.old) (pages_of (S.view pages.new.store) pages.new) result }
-    ensures works { Works (Unit {0}) S.tells (is_done result) S.view S.calls tid (along root key)
-        (removal_limits (chain_finding root key) (S.view pages.old.store).shape) (removal_actions (chain_removal (S.view pages.old.store).state.bytes root key))
-        (blamed result) (S.view pages.old.store) (S.view pages.new.store) }
-    ensures dead { IsErrOf result PageFault.Dead → pages.new ≡ pages.old }
-{
-    let at = locate(pages, root, table, key)?;
-    remove_here(pages, tid, root, table, key, at)
-}
-
 // Takes the pair out of its page, unless it is the last one and stays there.
-fn remove_here<S: EawStore>(
+pub fn remove_here<S: EawStore>(
     pages: &mut Pages<S>,
     tid: u8,
     root: u32,

@@ -24,7 +24,7 @@ use Rattle.index_pages.proofs.Trying.{SoFar, so_first, so_then, so_fails, so_end
 use Rattle.key_list.specs.Tried.{chain_plan, chain_testing}
 use Rattle.key_list.proofs.Trials.{owns_chain}
 use Rattle.std.proofs.lemmas.Result.{err_from_is_err_and}
-use Rattle.key_list.proofs.checking.check.Goals as goal
+use Rattle.key_list.proofs.chain.KeyListKeyIndex.check.Goals as goal
 
 pub returns-in_err-front-clause-looks : goal.returns-in_err-front-clause-looks
 returns-in_err-front-clause-looks g c =

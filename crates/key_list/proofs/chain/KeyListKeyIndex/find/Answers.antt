@@ -11,7 +11,7 @@ use Rattle.page_store.specs.Index.{index_pages_of}
 use Rattle.index_pages.proofs.Courses.{walks_ok, walks_bad, walks_err}
 use Rattle.key_list.specs.Along.{along, answered, led_to, Arrives}
 use Rattle.key_list.proofs.Ends.{answer_is, led_here, led_past}
-use Rattle.key_list.proofs.look.find.Goals as goal
+use Rattle.key_list.proofs.chain.KeyListKeyIndex.find.Goals as goal
 
 pub returns-in-Ok-None-clause-found : goal.returns-in-Ok-None-clause-found
 returns-in-Ok-None-clause-found g c = λ told.

@@ -26,7 +26,7 @@ use Rattle.key_list.specs.Index.{chain_actions}
 use Rattle.key_list.proofs.Finding.{finds_fail, finds_then, front_only}
 use Rattle.key_list.proofs.Spending.{limits_one, limits_two, none_done}
 use Rattle.std.proofs.lemmas.Result.{err_from_is_err_and}
-use Rattle.key_list.proofs.insertion.insert.Goals as goal
+use Rattle.key_list.proofs.chain.KeyListKeyIndex.insert.Goals as goal
 
 pub returns-in_err-at-clause-inserts : goal.returns-in_err-at-clause-inserts
 returns-in_err-at-clause-inserts g c =

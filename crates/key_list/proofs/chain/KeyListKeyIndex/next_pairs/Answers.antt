@@ -14,7 +14,7 @@ use Rattle.index_pages.specs.Keys.{from_on}
 use Rattle.index_pages.proofs.Courses.{walks_ok, walks_bad, walks_err}
 use Rattle.key_list.specs.Along.{along, answered, Arrives}
 use Rattle.key_list.proofs.Ends.{answer_is, none_from}
-use Rattle.key_list.proofs.look.next.Goals as goal
+use Rattle.key_list.proofs.chain.KeyListKeyIndex.next_pairs.Goals as goal
 
 pub returns-in-Ok-None-clause-next : goal.returns-in-Ok-None-clause-next
 returns-in-Ok-None-clause-next g c = λ told.

@@ -12,7 +12,7 @@ use Rattle.key_list.specs.Index.{chain_removal}
 use Rattle.key_list.specs.declared.place.Located.{Located}
 use Rattle.key_list.proofs.Finding.{blamed_as, finds_fail, finds_then, both_only}
 use Rattle.std.proofs.lemmas.Result.{err_from_is_err_and}
-use Rattle.key_list.proofs.removal.remove.Goals as goal
+use Rattle.key_list.proofs.chain.KeyListKeyIndex.remove.Goals as goal
 
 pub remove_here-requires-clause-closed : goal.remove_here-requires-clause-closed
 remove_here-requires-clause-closed g c = ap (λ (f : ℕ → Option ℕ). f c.args.tid) c.in_ok-at.ensures.looks.tops ∙ c.requires.closed c.in_ok-at.ensures.cause

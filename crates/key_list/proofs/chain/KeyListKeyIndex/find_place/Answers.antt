@@ -9,7 +9,7 @@ use Rattle.key_list.specs.Along.{along, answered, chain_placing, led_to, Stays}
 use Rattle.key_list.specs.Resting.{sound_table}
 use Rattle.key_list.proofs.Placing.{room_none, room_inside, room_place, room_said, led_in_chain, led_given, led_some}
 use Rattle.std.proofs.lemmas.Result.{err_from_is_err_and}
-use Rattle.key_list.proofs.place.find_place.Goals as goal
+use Rattle.key_list.proofs.chain.KeyListKeyIndex.find_place.Goals as goal
 
 pub returns-in_err-at-clause-follows : goal.returns-in_err-at-clause-follows
 returns-in_err-at-clause-follows g c =
