@@ -1,8 +1,6 @@
 -- What the command line answers to words.
-use Rattle.std.proofs.Common.{◌≡◌, List, [], true, refl, ⊎_elim}
-use Rattle.clap.specs.Words.{App, Text, HasMatchesOf, subcommand_of, subcommand_rows_of, is_simple, is_simple_and_free, fault_of, kind_of, HasKind}
-use Rattle.clap.specs.declared.error.Error.{Error}
-use Rattle.clap.specs.declared.error.ErrorKind.TheVariants.{OutOfMemory}
+use Rattle.std.proofs.Common.{◌≡◌, List, [], true, refl}
+use Rattle.clap.specs.Words.{App, Text, HasMatchesOf, subcommand_of, subcommand_rows_of, is_simple, is_simple_and_free, fault_of}
 use Rattle.clap.specs.declared.parser.ArgMatches.{ArgMatches}
 use Rattle.command_words.specs.CommandLine.{command_line}
 use Rattle.command_words.specs.Asked.{AskForNothing}
@@ -22,8 +20,7 @@ accepted app words m is matches faults =
     (none simple_and_free, (at_line simple).1)
 
 -- the words are refused
-pub refused : (app : App) (words : List Text) (e : Error) → app ≡ command_line → (kind_of e ≡ OutOfMemory → ⊥) → (is_simple_and_free app ≡ true → HasKind (fault_of app words) e) → AskForNothing words
-refused app words e is other faults asked asks =
-    let at_line : is_simple_and_free command_line ≡ true → HasKind (fault_of command_line words) e = rw is at faults in
-    let kinds : HasKind [] e = rw asks.0 at (at_line simple_and_free) in
-    ⊎_elim other (λ among. among) kinds
+pub refused : (app : App) (words : List Text) → app ≡ command_line → (is_simple_and_free app ≡ true → fault_of app words ≡ [] → ⊥) → AskForNothing words
+refused app words is faults asked asks =
+    let at_line : is_simple_and_free command_line ≡ true → fault_of command_line words ≡ [] → ⊥ = rw is at faults in
+    at_line simple_and_free asks.0

@@ -1,9 +1,7 @@
 -- What the words of the program that restores say.
-use Rattle.std.proofs.Common.{◌≡◌, ◌≤◌, ℕ, List, [], Option, Some, None, Bool, true, sym, refl, subst, arith, ⊎_elim}
+use Rattle.std.proofs.Common.{◌≡◌, ◌≤◌, ℕ, List, [], Option, Some, None, Bool, true, sym, refl, subst, arith}
 use Rattle.std.specs.Fmt.{decimal}
-use Rattle.clap.specs.Words.{App, Text, Row, HasMatchesOf, found_of, rows_of, matches_of, is_simple, is_simple_and_free, fault_of, kind_of, HasKind}
-use Rattle.clap.specs.declared.error.Error.{Error}
-use Rattle.clap.specs.declared.error.ErrorKind.TheVariants.{OutOfMemory}
+use Rattle.clap.specs.Words.{App, Text, HasMatchesOf, found_of, rows_of, matches_of, is_simple, is_simple_and_free, fault_of}
 use Rattle.clap.specs.declared.parser.ArgMatches.{ArgMatches}
 use Rattle.command_words.specs.Restore.{AsksToRestore, IsSaid, restore_line}
 use Rattle.command_words.specs.declared.restore_numbers.RestoreNumbers.{RestoreNumbers}
@@ -36,9 +34,8 @@ taken app words m is matches faults =
     (none simple_and_free, (at_line simple).0)
 
 -- the words are refused
-pub not_taken : (app : App) (words : List Text) (e : Error) → app ≡ restore_line → (kind_of e ≡ OutOfMemory → ⊥) → (is_simple_and_free app ≡ true → HasKind (fault_of app words) e)
+pub not_taken : (app : App) (words : List Text) → app ≡ restore_line → (is_simple_and_free app ≡ true → fault_of app words ≡ [] → ⊥)
     → (image : Text) (numbers : RestoreNumbers) (replace : Bool) → AsksToRestore words image numbers replace → ⊥
-not_taken app words e is other faults image numbers replace asks =
-    let at_line : is_simple_and_free restore_line ≡ true → HasKind (fault_of restore_line words) e = rw is at faults in
-    let kinds : HasKind [] e = rw asks.0 at (at_line simple_and_free) in
-    ⊎_elim other (λ among. among) kinds
+not_taken app words is faults image numbers replace asks =
+    let at_line : is_simple_and_free restore_line ≡ true → fault_of restore_line words ≡ [] → ⊥ = rw is at faults in
+    at_line simple_and_free asks.0

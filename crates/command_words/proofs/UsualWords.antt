@@ -24,7 +24,7 @@ use Rattle.command_words.specs.declared.words.Writing.TheVariants.{AtOnce, Late}
 use Rattle.clap.proofs.OnLiterals.{clap_on_literals}
 use Rattle.command_words.specs.CommandLine.{command_line, option_of}
 use Rattle.command_words.proofs.Shapes.{run_shape, eaw_shape, format_shape, drill_shape, callers_shape, make_shape}
-use Rattle.command_words.specs.Asked.{AsksFor, AskForNothing, IsNumber, GivesWriting, is_given}
+use Rattle.command_words.specs.Asked.{AsksFor, AskForNothing, IsNumber, GivesCallers, GivesWriting, is_given}
 use Rattle.command_words.specs.declared.words.Words.TheVariants.{Run, Callers, Eaw, Dump, Drill, Format, Make, Purge, Follow}
 
 -- the word is not a flag
@@ -400,6 +400,18 @@ module _ (s : Shape) (held : Held) (position : ℕ) (word : Text) (plain : IsPla
   unnamed_passes rest a is none = ap (λ k. or_else k (walk_fault s [] (walked s.rules [] (stands held position) word) rest)) (unnamed_turn a is none)
       ∙ ap (λ w. walk_fault s [] w rest) unnamed_walked
 
+-- the only word of a subcommand
+module _ (s : Shape) (word : Text) (plain : IsPlain word) where
+  abbrev with_word : Walk
+  with_word = to_positional s.rules (arg_by_index s.rules 1) word (stands nothing_held 1) nothing_held
+
+  word_walk : walk s.rules [] nothing_held (word ∷ []) ≡ with_word
+  word_walk = unnamed_walked s nothing_held 1 word plain
+
+  word_passes : (a : Rule) → arg_by_index s.rules 1 ≡ Some a → positional_fault s.rules s.args_override_self a nothing_held ≡ [] → walk_fault s [] (walk_from nothing_held) (word ∷ []) ≡ []
+  unfolding walk_fault
+  word_passes a is none = unnamed_passes s nothing_held 1 word plain [] a is none
+
 -- `drill` as it is built
 abbrev drill_built : Shape
 drill_built = unwrap_or (slice_get (built command_line).subs 4) drill_shape
@@ -463,155 +475,132 @@ tries_rule = unwrap_or (arg_by_id callers_built.rules (codes "tries")) (option_o
 abbrev readers_rule : Rule
 readers_rule = unwrap_or (arg_by_id callers_built.rules (codes "readers")) (option_of (codes "readers"))
 
+-- an option that waits for its value, and then the value
+abbrev with_option : Shape → Walk → Text → Text → Rule → Text → Walk
+with_option s before name id a word = after_value (walked s.rules [] before name).held before.position id a word
+
+module _ (s : Shape) (before : Walk) (name id : Text) (a : Rule) (word : Text)
+    (asks : walked s.rules [] before name ≡ waits (walked s.rules [] before name).held before.position id)
+    (is : arg_by_id s.rules id ≡ Some a) (plain : IsPlain word) where
+  option_walked : fold (walked s.rules []) before (name ∷ word ∷ []) ≡ with_option s before name id a word
+  option_walked = ap (λ (w : Walk). walked s.rules [] w word) asks ∙ value_walked s.rules [] (walked s.rules [] before name).held before.position id a word is plain
+
+  option_passes : turn_fault s [] before name ≡ [] → walk_fault s [] before (name ∷ word ∷ []) ≡ []
+  unfolding walk_fault
+  option_passes none = ap (λ k. or_else k (walk_fault s [] (walked s.rules [] before name) (word ∷ []))) none
+      ∙ ap (λ (w : Walk). walk_fault s [] w (word ∷ [])) asks
+      ∙ value_passes s [] (walked s.rules [] before name).held before.position id a word is plain []
+
+-- the rows of words of `callers`, and what they say
+abbrev callers_rows : Walk → List Row
+callers_rows w = finished callers_built.rules w.held
+
+abbrev HasValues : List Row → Option Text → Option Text → Option Text → Type 0
+HasValues rows callers tries readers = (first_of (codes "callers") rows ≡ callers) × (first_of (codes "tries") rows ≡ tries)
+    × (first_of (codes "late") rows ≡ None) × (first_of (codes "readers") rows ≡ readers)
+
 module _ (callers : Text) (plain_callers : IsPlain callers) where
   abbrev with_callers : Walk
-  with_callers = to_positional callers_built.rules (arg_by_index callers_built.rules 1) callers (stands nothing_held 1) nothing_held
+  with_callers = with_word callers_built callers plain_callers
 
-  callers_walk : walk callers_built.rules [] nothing_held (callers ∷ []) ≡ with_callers
+  callers_taken : IsTaken (codes "callers" ∷ callers ∷ []) (codes "callers") (callers_rows with_callers)
   unfolding clap_on_literals
-  callers_walk = unnamed_walked callers_built nothing_held 1 callers plain_callers
+  callers_taken = (
+    ap (λ k. or_else k []) (level_passes callers_built (callers ∷ []) with_callers (word_passes callers_built callers plain_callers _ refl refl) (word_walk callers_built callers plain_callers) refl),
+    ap (λ (w : Walk). Some (codes "callers", callers_rows w)) (word_walk callers_built callers plain_callers),
+  )
 
-  callers_passes : walk_fault callers_built [] (walk_from nothing_held) (callers ∷ []) ≡ []
-  unfolding clap_on_literals
-  callers_passes = unnamed_passes callers_built nothing_held 1 callers plain_callers [] _ refl refl
-
-  callers_taken : fault_of command_line (codes "callers" ∷ callers ∷ []) ≡ []
-  unfolding clap_on_literals
-  callers_taken = ap (λ k. or_else k []) (level_passes callers_built (callers ∷ []) with_callers callers_passes callers_walk refl)
-
-  callers_met : subcommand_of command_line (codes "callers" ∷ callers ∷ []) ≡ Some (codes "callers", finished callers_built.rules with_callers.held)
-  unfolding clap_on_literals
-  callers_met = ap (λ (w : Walk). Some (codes "callers", finished callers_built.rules w.held)) callers_walk
-
-  callers_values : (first_of (codes "callers") (finished callers_built.rules with_callers.held) ≡ Some callers) × (first_of (codes "tries") (finished callers_built.rules with_callers.held) ≡ None)
-      × (first_of (codes "late") (finished callers_built.rules with_callers.held) ≡ None) × (first_of (codes "readers") (finished callers_built.rules with_callers.held) ≡ None)
+  callers_values : HasValues (callers_rows with_callers) (Some callers) None None
   unfolding clap_on_literals
   callers_values = (refl, refl, refl, refl)
 
-  module _ (tries : Text) (plain_tries : IsPlain tries) where
-    abbrev tries_option : List Text
-    tries_option = codes "--tries" ∷ tries ∷ []
-
-    abbrev with_tries : Walk
-    with_tries = after_value (walked callers_built.rules [] with_callers (codes "--tries")).held 2 (codes "tries") tries_rule tries
-
-    tries_walk : walk callers_built.rules [] nothing_held (callers ∷ tries_option) ≡ with_tries
+  -- behind the number of callers an option
+  module _ (name id : Text) (a : Rule) (word : Text)
+      (asks : walked callers_built.rules [] with_callers name ≡ waits (walked callers_built.rules [] with_callers name).held with_callers.position id)
+      (is : arg_by_id callers_built.rules id ≡ Some a) (plain : IsPlain word) where
+    optioned_walk : walk callers_built.rules [] nothing_held (callers ∷ name ∷ word ∷ []) ≡ with_option callers_built with_callers name id a word
     unfolding clap_on_literals
-    tries_walk = ap (λ w. fold (walked callers_built.rules []) w tries_option) (unnamed_walked callers_built nothing_held 1 callers plain_callers)
-        ∙ value_walked callers_built.rules [] (walked callers_built.rules [] with_callers (codes "--tries")).held 2 (codes "tries") tries_rule tries refl plain_tries
+    optioned_walk = ap (λ w. fold (walked callers_built.rules []) w (name ∷ word ∷ [])) (unnamed_walked callers_built nothing_held 1 callers plain_callers)
+        ∙ option_walked callers_built with_callers name id a word asks is plain
 
-    tries_passes : walk_fault callers_built [] (walk_from nothing_held) (callers ∷ tries_option) ≡ []
+    optioned_passes : turn_fault callers_built [] with_callers name ≡ [] → walk_fault callers_built [] (walk_from nothing_held) (callers ∷ name ∷ word ∷ []) ≡ []
     unfolding clap_on_literals
-    tries_passes = unnamed_passes callers_built nothing_held 1 callers plain_callers tries_option _ refl refl
-        ∙ value_passes callers_built [] (walked callers_built.rules [] with_callers (codes "--tries")).held 2 (codes "tries") tries_rule tries refl plain_tries []
+    optioned_passes none = unnamed_passes callers_built nothing_held 1 callers plain_callers (name ∷ word ∷ []) _ refl refl
+        ∙ option_passes callers_built with_callers name id a word asks is plain none
 
-    tries_taken : fault_of command_line (codes "callers" ∷ callers ∷ tries_option) ≡ []
+    optioned_taken : turn_fault callers_built [] with_callers name ≡ [] → behind_walk callers_built (with_option callers_built with_callers name id a word) ≡ []
+        → IsTaken (codes "callers" ∷ callers ∷ name ∷ word ∷ []) (codes "callers") (callers_rows (with_option callers_built with_callers name id a word))
     unfolding clap_on_literals
-    tries_taken = ap (λ k. or_else k []) (level_passes callers_built (callers ∷ tries_option) with_tries tries_passes tries_walk refl)
+    optioned_taken none no_more = (
+      ap (λ k. or_else k []) (level_passes callers_built (callers ∷ name ∷ word ∷ []) _ (optioned_passes none) optioned_walk no_more),
+      ap (λ (w : Walk). Some (codes "callers", callers_rows w)) optioned_walk,
+    )
 
-    tries_met : subcommand_of command_line (codes "callers" ∷ callers ∷ tries_option) ≡ Some (codes "callers", finished callers_built.rules with_tries.held)
-    unfolding clap_on_literals
-    tries_met = ap (λ (w : Walk). Some (codes "callers", finished callers_built.rules w.held)) tries_walk
+  abbrev tries_rows : Text → List Row
+  tries_rows tries = callers_rows (with_option callers_built with_callers (codes "--tries") (codes "tries") tries_rule tries)
 
-    tries_values : (first_of (codes "callers") (finished callers_built.rules with_tries.held) ≡ Some callers) × (first_of (codes "tries") (finished callers_built.rules with_tries.held) ≡ Some tries)
-        × (first_of (codes "late") (finished callers_built.rules with_tries.held) ≡ None) × (first_of (codes "readers") (finished callers_built.rules with_tries.held) ≡ None)
-    unfolding clap_on_literals
-    tries_values = (refl, refl, refl, refl)
+  tries_taken : (tries : Text) → IsPlain tries → IsTaken (codes "callers" ∷ callers ∷ codes "--tries" ∷ tries ∷ []) (codes "callers") (tries_rows tries)
+  unfolding clap_on_literals
+  tries_taken tries plain = optioned_taken (codes "--tries") (codes "tries") tries_rule tries refl refl plain refl refl
 
-  module _ (readers : Text) (plain_readers : IsPlain readers) where
-    abbrev readers_option : List Text
-    readers_option = codes "--readers" ∷ readers ∷ []
+  tries_values : (tries : Text) → HasValues (tries_rows tries) (Some callers) (Some tries) None
+  unfolding clap_on_literals
+  tries_values tries = (refl, refl, refl, refl)
 
-    abbrev with_readers : Walk
-    with_readers = after_value (walked callers_built.rules [] with_callers (codes "--readers")).held 2 (codes "readers") readers_rule readers
+  abbrev readers_rows : Text → List Row
+  readers_rows readers = callers_rows (with_option callers_built with_callers (codes "--readers") (codes "readers") readers_rule readers)
 
-    readers_walk : walk callers_built.rules [] nothing_held (callers ∷ readers_option) ≡ with_readers
-    unfolding clap_on_literals
-    readers_walk = ap (λ w. fold (walked callers_built.rules []) w readers_option) (unnamed_walked callers_built nothing_held 1 callers plain_callers)
-        ∙ value_walked callers_built.rules [] (walked callers_built.rules [] with_callers (codes "--readers")).held 2 (codes "readers") readers_rule readers refl plain_readers
+  readers_taken : (readers : Text) → IsPlain readers → IsTaken (codes "callers" ∷ callers ∷ codes "--readers" ∷ readers ∷ []) (codes "callers") (readers_rows readers)
+  unfolding clap_on_literals
+  readers_taken readers plain = optioned_taken (codes "--readers") (codes "readers") readers_rule readers refl refl plain refl refl
 
-    readers_passes : walk_fault callers_built [] (walk_from nothing_held) (callers ∷ readers_option) ≡ []
-    unfolding clap_on_literals
-    readers_passes = unnamed_passes callers_built nothing_held 1 callers plain_callers readers_option _ refl refl
-        ∙ value_passes callers_built [] (walked callers_built.rules [] with_callers (codes "--readers")).held 2 (codes "readers") readers_rule readers refl plain_readers []
-
-    readers_taken : fault_of command_line (codes "callers" ∷ callers ∷ readers_option) ≡ []
-    unfolding clap_on_literals
-    readers_taken = ap (λ k. or_else k []) (level_passes callers_built (callers ∷ readers_option) with_readers readers_passes readers_walk refl)
-
-    readers_met : subcommand_of command_line (codes "callers" ∷ callers ∷ readers_option) ≡ Some (codes "callers", finished callers_built.rules with_readers.held)
-    unfolding clap_on_literals
-    readers_met = ap (λ (w : Walk). Some (codes "callers", finished callers_built.rules w.held)) readers_walk
-
-    readers_values : (first_of (codes "callers") (finished callers_built.rules with_readers.held) ≡ Some callers) × (first_of (codes "tries") (finished callers_built.rules with_readers.held) ≡ None)
-        × (first_of (codes "late") (finished callers_built.rules with_readers.held) ≡ None) × (first_of (codes "readers") (finished callers_built.rules with_readers.held) ≡ Some readers)
-    unfolding clap_on_literals
-    readers_values = (refl, refl, refl, refl)
+  readers_values : (readers : Text) → HasValues (readers_rows readers) (Some callers) None (Some readers)
+  unfolding clap_on_literals
+  readers_values readers = (refl, refl, refl, refl)
 
 left : (least most number : ℕ) (first : Option Text) → first ≡ None → IsNumber least most (Some number) first number
 left least most number first is = rw is refl
 
+asks_callers : (numbers : CallersNumbers) (words : List Text) (options : List Row) → IsTaken words (codes "callers") options → GivesCallers options numbers → AsksFor words (Callers numbers)
+asks_callers numbers words options taken gives = (taken.0, codes "callers", options, taken.1, (refl, gives))
+
+-- without readers, and the tries as they are said
+unread_asks : (numbers : CallersNumbers) (words : List Text) (options : List Row) (tries : Option Text) → AreOfCallers numbers → IsTaken words (codes "callers") options
+    → HasValues options (Some (decimal numbers.callers)) tries None → IsNumber 1 1000000 (Some 100) (first_of (codes "tries") options) numbers.tries → AsksFor words (Callers numbers)
+unread_asks numbers words options tries are taken found said = asks_callers numbers words options taken (record {
+  callers = given 1 32 _ None _ found.0 are.some are.few;
+  tries = said;
+  writing = at_once _ numbers.writing are.writing found.2;
+  readers = rw are.readers (left 1 8 0 _ found.3);
+  room = λ some. absurd (omega (arith, are.readers, some));
+})
+
 pub callers_asks : (numbers : CallersNumbers) → AreOfCallers numbers → numbers.tries ≡ 100 → AsksFor (callers_words numbers) (Callers numbers)
 callers_asks numbers are default =
     let plain_callers = plain_decimal numbers.callers (omega (arith, are.few)) in
-    let found = callers_values (decimal numbers.callers) plain_callers in (
-      callers_taken (decimal numbers.callers) plain_callers,
-      codes "callers",
-      _,
-      callers_met (decimal numbers.callers) plain_callers,
-      (
-        refl,
-        record {
-          callers = given 1 32 _ None _ found.0 are.some are.few;
-          tries = rw default (left 1 1000000 100 _ found.1);
-          writing = at_once _ numbers.writing are.writing found.2;
-          readers = rw are.readers (left 1 8 0 _ found.3);
-          room = λ some. absurd (omega (arith, are.readers, some));
-        },
-      ),
-    )
+    let found = callers_values (decimal numbers.callers) plain_callers in
+    unread_asks numbers _ _ None are (callers_taken (decimal numbers.callers) plain_callers) found (rw default (left 1 1000000 100 _ found.1))
 
 pub tries_asks : (numbers : CallersNumbers) → AreOfCallers numbers → AsksFor (tries_words numbers) (Callers numbers)
 tries_asks numbers are =
     let plain_callers = plain_decimal numbers.callers (omega (arith, are.few)) in
     let plain_tries = plain_decimal numbers.tries (omega (arith, are.bounded)) in
-    let found = tries_values (decimal numbers.callers) plain_callers (decimal numbers.tries) plain_tries in (
-      tries_taken (decimal numbers.callers) plain_callers (decimal numbers.tries) plain_tries,
-      codes "callers",
-      _,
-      tries_met (decimal numbers.callers) plain_callers (decimal numbers.tries) plain_tries,
-      (
-        refl,
-        record {
-          callers = given 1 32 _ None _ found.0 are.some are.few;
-          tries = given 1 1000000 _ _ _ found.1 are.once are.bounded;
-          writing = at_once _ numbers.writing are.writing found.2;
-          readers = rw are.readers (left 1 8 0 _ found.3);
-          room = λ some. absurd (omega (arith, are.readers, some));
-        },
-      ),
-    )
+    let found = tries_values (decimal numbers.callers) plain_callers (decimal numbers.tries) in
+    unread_asks numbers _ _ (Some (decimal numbers.tries)) are (tries_taken (decimal numbers.callers) plain_callers (decimal numbers.tries) plain_tries) found
+    (given 1 1000000 _ _ _ found.1 are.once are.bounded)
 
 pub readers_asks : (numbers : CallersNumbers) → AreOfReaders numbers → AsksFor (readers_words numbers) (Callers numbers)
 readers_asks numbers are =
     let plain_callers = plain_decimal numbers.callers (omega (arith, are.few)) in
-    let plain_readers = plain_decimal numbers.readers (omega (arith, are.few_readers)) in
-    let found = readers_values (decimal numbers.callers) plain_callers (decimal numbers.readers) plain_readers in (
-      readers_taken (decimal numbers.callers) plain_callers (decimal numbers.readers) plain_readers,
-      codes "callers",
-      _,
-      readers_met (decimal numbers.callers) plain_callers (decimal numbers.readers) plain_readers,
-      (
-        refl,
-        record {
-          callers = given 1 32 _ None _ found.0 are.some (omega (arith, are.few));
-          tries = rw are.tries (left 1 1000000 100 _ found.1);
-          writing = at_once _ numbers.writing are.writing found.2;
-          readers = given 1 8 _ _ _ found.3 are.some_readers are.few_readers;
-          room = λ some. are.few;
-        },
-      ),
-    )
+    let found = readers_values (decimal numbers.callers) plain_callers (decimal numbers.readers) in
+    let taken = readers_taken (decimal numbers.callers) plain_callers (decimal numbers.readers) (plain_decimal numbers.readers (omega (arith, are.few_readers))) in
+    asks_callers numbers _ _ taken (record {
+      callers = given 1 32 _ None _ found.0 are.some (omega (arith, are.few));
+      tries = rw are.tries (left 1 1000000 100 _ found.1);
+      writing = at_once _ numbers.writing are.writing found.2;
+      readers = given 1 8 _ _ _ found.3 are.some_readers are.few_readers;
+      room = λ some. are.few;
+    })
 
 -- a name begins with a letter
 plain_name : (table : List ℕ) → IsName table → IsPlain table
@@ -623,30 +612,22 @@ abbrev make_built : Shape
 make_built = unwrap_or (slice_get (built command_line).subs 6) make_shape
 
 module _ (table : Text) (plain : IsPlain table) where
-  abbrev with_table : Walk
-  with_table = to_positional make_built.rules (arg_by_index make_built.rules 1) table (stands nothing_held 1) nothing_held
+  abbrev make_rows : Walk → List Row
+  make_rows w = finished make_built.rules w.held
 
-  make_walk : walk make_built.rules [] nothing_held (table ∷ []) ≡ with_table
+  make_taken : IsTaken (codes "make" ∷ table ∷ []) (codes "make") (make_rows (with_word make_built table plain))
   unfolding clap_on_literals
-  make_walk = unnamed_walked make_built nothing_held 1 table plain
+  make_taken = (
+    ap (λ k. or_else k []) (level_passes make_built (table ∷ []) _ (word_passes make_built table plain _ refl refl) (word_walk make_built table plain) refl),
+    ap (λ (w : Walk). Some (codes "make", make_rows w)) (word_walk make_built table plain),
+  )
 
-  make_passes : walk_fault make_built [] (walk_from nothing_held) (table ∷ []) ≡ []
-  unfolding clap_on_literals
-  make_passes = unnamed_passes make_built nothing_held 1 table plain [] _ refl refl
-
-  make_taken : fault_of command_line (codes "make" ∷ table ∷ []) ≡ []
-  unfolding clap_on_literals
-  make_taken = ap (λ k. or_else k []) (level_passes make_built (table ∷ []) with_table make_passes make_walk refl)
-
-  make_met : subcommand_of command_line (codes "make" ∷ table ∷ []) ≡ Some (codes "make", finished make_built.rules with_table.held)
-  unfolding clap_on_literals
-  make_met = ap (λ (w : Walk). Some (codes "make", finished make_built.rules w.held)) make_walk
-
-  make_value : first_of (codes "name") (finished make_built.rules with_table.held) ≡ Some table
+  make_value : first_of (codes "name") (make_rows (with_word make_built table plain)) ≡ Some table
   unfolding clap_on_literals
   make_value = refl
 
 pub make_asks : (table : List ℕ) → IsName table → AsksFor (codes "make" ∷ table ∷ []) (Make table)
 make_asks table is =
     let plain = plain_name table is in
-    (make_taken table plain, codes "make", _, make_met table plain, (refl, (make_value table plain, is)))
+    let taken = make_taken table plain in
+    (taken.0, codes "make", _, taken.1, (refl, (make_value table plain, is)))

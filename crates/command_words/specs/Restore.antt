@@ -1,7 +1,7 @@
 -- The words of the program that restores.
-use Rattle.std.specs.Prelude.{ℕ, ◌≡◌, ◌≤◌, List, [], ◌∷◌, ◌++◌, Option, Some, None, Bool, true, codes}
+use Rattle.std.specs.Prelude.{ℕ, ◌≡◌, ◌≤◌, List, [], ◌∷◌, Option, Some, None, Bool, true, codes}
 use Rattle.std.specs.Fmt.{decimal}
-use Rattle.clap.specs.Words.{Text, Row, Rule, Shape, App, new_app, new_rule, fault_of, matches_of, first_of}
+use Rattle.clap.specs.Words.{Text, Row, Rule, App, new_app, new_rule, fault_of, matches_of, first_of}
 use Rattle.command_words.specs.CommandLine.{option_of, flag_of}
 use Rattle.command_words.specs.Asked.{IsNumber, is_given}
 use Rattle.command_words.specs.declared.restore_numbers.RestoreNumbers.{RestoreNumbers}

@@ -6,16 +6,17 @@
 #![tactic(auto)]
 
 mod command_line;
+mod fault;
 mod laws;
 mod number;
 mod restore_numbers;
 mod restore_words;
 mod words;
 
+pub use fault::WordsFault;
 pub use laws::{one_command, usual_words};
 pub use restore_numbers::RestoreNumbers;
 pub use restore_words::{RestoreWords, read_restore_words};
 pub use words::{
-    CallersNumbers, DrillNumbers, EawOptions, FormatNumbers, RunOptions, Words, WordsFault,
-    Writing, read_words,
+    CallersNumbers, DrillNumbers, EawOptions, FormatNumbers, RunOptions, Words, Writing, read_words,
 };

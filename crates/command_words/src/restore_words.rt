@@ -5,11 +5,11 @@ ghost use Rattle.clap.specs.declared.builder.Command.TheViews.{out-Command};
 ghost use Rattle.command_words.specs.Restore.{AsksToRestore, GivesNumbersTo, GivesRestore, IsSaid, bare_line, restore_line};
 
 use crate::command_line::{flag, option};
+use crate::fault::{WordsFault, matched};
 use crate::number::read_within;
 use crate::restore_numbers::RestoreNumbers;
-use crate::words::{SHORT_MOST, WordsFault, number_of, read_flag};
+use crate::words::{SHORT_MOST, number_of, read_flag};
 use array_shape::Shape;
-use clap::error::ErrorKind;
 use clap::{Arg, ArgMatches, Command};
 use std::alloc::{AllocError, Global};
 
@@ -42,11 +42,7 @@ pub fn read_restore_words<'a>(
     let Ok(command) = restore_line(alloc) else {
         return Err(WordsFault::NoMemory);
     };
-    let matches = match command.try_get_matches_from(words) {
-        Ok(matches) => matches,
-        Err(error) if error.kind() == ErrorKind::OutOfMemory => return Err(WordsFault::NoMemory),
-        Err(_) => return Err(WordsFault::NoCommand),
-    };
+    let matches = matched(command, words)?;
     match asked(&matches) {
         Some(asked) => Ok(asked),
         None => Err(WordsFault::NoCommand),

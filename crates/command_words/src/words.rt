@@ -3,13 +3,12 @@ ghost use Rattle.clap.specs.Words.{Text, Row, found_of, rows_of, first_of, subco
 ghost use Rattle.command_words.specs.Asked.{AsksFor, AskForNothing, SubcommandAsks, GivesNumbers, GivesDrill, GivesCallers, GivesWriting, GivesName, IsNumber, is_given};
 
 use crate::command_line::command_line;
+use crate::fault::{WordsFault, matched};
 use crate::number::read_within;
 use array_shape::Shape;
 use clap::ArgMatches;
-use clap::error::ErrorKind;
 use record_slots::Name;
 use std::alloc::Global;
-use thiserror::Error;
 
 /// What the words ask for.
 #[derive(Clone, Copy, Debug, PartialEq, Eq)]
@@ -111,16 +110,6 @@ const TRIES_DEFAULT: u32 = 100;
 
 const DEPTH_MOST: u32 = 64;
 
-/// Why words could not be read.
-#[derive(Clone, Copy, Debug, PartialEq, Eq, Error)]
-pub enum WordsFault {
-    /// They ask for nothing that the program does.
-    #[error("usage")]
-    NoCommand,
-    #[error("no memory")]
-    NoMemory,
-}
-
 /// Reads the words after the image's: `run`, `eaw`, `dump`, `purge`, `follow`, `make` with the name of a table, `callers` with a number and
 /// the options `tries` and `readers`, `drill` with a seed and a count, or `format` with its options in any order. `run`, `callers` and
 /// `drill` have the option `late` too, and `run` and `eaw` have `frames`. Each option is given at most once.
@@ -131,11 +120,7 @@ pub fn read_words(alloc: Global, words: &[String]) -> Result<Words, WordsFault>
     let Ok(command) = command_line(alloc) else {
         return Err(WordsFault::NoMemory);
     };
-    let matches = match command.try_get_matches_from(words) {
-        Ok(matches) => matches,
-        Err(error) if error.kind() == ErrorKind::OutOfMemory => return Err(WordsFault::NoMemory),
-        Err(_) => return Err(WordsFault::NoCommand),
-    };
+    let matches = matched(command, words)?;
     match asked(&matches) {
         Some(asked) => Ok(asked),
         None => Err(WordsFault::NoCommand),

@@ -1,5 +1,5 @@
 -- The text of a number's command is the text of no other, and a line means one thing.
-use Rattle.std.proofs.Common.{◌≡◌, ℕ, ◌+◌, ◌*◌, ◌<◌, ◌≤◌, ◌^◌, List, [], ◌∷◌, ◌++◌, get_or, refl, ap, sym, ◌∙◌, subst, arith}
+use Rattle.std.proofs.Common.{◌≡◌, ℕ, ◌+◌, ◌*◌, ◌<◌, ◌≤◌, ◌^◌, List, [], ◌∷◌, ◌++◌, get_or, inl, inr, refl, ap, sym, ◌∙◌, subst, arith}
 use Rattle.std.specs.Prelude.{codes}
 use Rattle.std.specs.Fmt.{decimal}
 use Rattle.std.proofs.lemmas.Fmt.{decimal_injective}
@@ -7,11 +7,11 @@ use Rattle.std.proofs.lemmas.List.{append_cancel_left}
 use Rattle.eaw_face.specs.Command.{Command, log_write, log_edit, commit, commit_group, abort, nested_top, partial_abort, atomic_write, log_read, read}
 use Rattle.script_text.specs.HexText.{hex_of, IsBlock}
 use Rattle.script_text.specs.Eaw.{Raw, does, read_log, log_len, held, IsTextOf}
-use Rattle.script_text.specs.Line.{IsLineOf}
+use Rattle.script_text.specs.Line.{IsLineOf, IsPassedOver}
 use Rattle.script_text.specs.EawLines.{Meaning, nothing, told, bad, Means}
 use Rattle.script_text.proofs.Words.{first_space}
 use Rattle.script_text.proofs.Numbers.{decimal_is_word}
-use Rattle.script_text.proofs.OneLine.{not_passed}
+use Rattle.script_text.proofs.OneLine.{IsOneOf, one_of, not_passed}
 use Rattle.script_text.proofs.HexTexts.{hex_of_injective}
 use Rattle.script_text.proofs.Fields.{same_fields}
 
@@ -126,16 +126,16 @@ same_eaw_line numbers c d raw other line few is js =
     let same : c ≡ d = decimal_injective c d cf df both.0 in
     (same, same_raw c raw other is.1 is.2 (subst (λ (text : List ℕ). IsTextOf c other text) (sym both.1) (subst (λ (t : ℕ). IsTextOf t other js.1) (sym same) js.2)))
 
--- no two of the three cases hold for one line
-pub same_meaning : (numbers : ℕ) (bytes : List ℕ) (meaning other : Meaning) → numbers ≤ 2 ^ 64 → Means numbers bytes meaning → Means numbers bytes other → meaning ≡ other
-same_meaning numbers bytes nothing nothing few is js = refl
-same_meaning numbers bytes nothing (told c raw) few is js = absurd (not_passed c js.1 bytes (omega (arith, js.0)) js.3 is)
-same_meaning numbers bytes nothing bad few is js = absurd (js.0 is)
-same_meaning numbers bytes (told c raw) nothing few is js = absurd (not_passed c is.1 bytes (omega (arith, is.0)) is.3 js)
-same_meaning numbers bytes (told c raw) (told d other) few is js =
-    let both = same_eaw_line numbers c d raw other bytes few is js in
-    ap (λ (t : ℕ × Raw). told t.0 t.1) (λ i. (both.0 i, both.1 i))
-same_meaning numbers bytes (told c raw) bad few is js = absurd (js.1 c raw is)
-same_meaning numbers bytes bad nothing few is js = absurd (is.0 js)
-same_meaning numbers bytes bad (told c raw) few is js = absurd (is.1 c raw js)
-same_meaning numbers bytes bad bad few is js = refl
+module _ (numbers : ℕ) (bytes : List ℕ) where
+  abbrev TellsRaw : ℕ → Raw → Type 0
+  TellsRaw c raw = IsLineOf (IsTextOf c raw) numbers c bytes
+
+  one_meant : (meaning : Meaning) → Means numbers bytes meaning → IsOneOf nothing bad told (IsPassedOver bytes) TellsRaw meaning
+  one_meant nothing is = inl (refl, is)
+  one_meant (told c raw) is = inr (inl (c, raw, refl, is))
+  one_meant bad is = inr (inr (refl, is.0, is.1))
+
+  pub same_meaning : (meaning other : Meaning) → numbers ≤ 2 ^ 64 → Means numbers bytes meaning → Means numbers bytes other → meaning ≡ other
+  same_meaning meaning other few is js = one_of nothing bad told (IsPassedOver bytes) TellsRaw
+      (λ c raw tells. not_passed c tells.1 bytes (omega (arith, few, tells.0)) tells.3)
+      (λ c d raw raw' tells tells'. same_eaw_line numbers c d raw raw' bytes few tells tells') meaning other (one_meant meaning is) (one_meant other js)

@@ -1,5 +1,5 @@
 -- The text of a caller's call is the text of no other, and a line says one thing.
-use Rattle.std.proofs.Common.{◌≡◌, ℕ, zero, suc, length, ◌+◌, ◌++◌, ◌<◌, ◌≤◌, ◌^◌, List, [], ◌∷◌, get_or, inl, inr, Option, Some, None, refl, ap, ◌∙◌, sym, subst, arith}
+use Rattle.std.proofs.Common.{◌≡◌, ℕ, zero, suc, length, ◌+◌, ◌++◌, ◌<◌, ◌≤◌, ◌^◌, List, [], ◌∷◌, get_or, ◌⊎◌, inl, inr, Option, Some, None, refl, ap, ◌∙◌, sym, subst, arith}
 use Rattle.std.specs.Prelude.{codes, is_some, nat_eq, ◌||◌, if◌then◌else◌}
 use Rattle.std.specs.Fmt.{decimal}
 use Rattle.std.proofs.lemmas.Fmt.{decimal_injective, decimal_digit, decimal_nonempty, first_decimal}
@@ -172,16 +172,36 @@ not_passed c text (byte ∷ bytes) cf e over =
     let digit = get_or_append_left (decimal c) (32 ∷ text) 0 0 (decimal_nonempty c cf) in
     omega (arith, over, head, digit, first_digit c cf)
 
--- no two of the three cases hold for one line
-pub same_told : (callers : ℕ) (bytes : List ℕ) (line other : Line) → callers ≤ 2 ^ 64 → LineSays callers bytes line → LineSays callers bytes other → line ≡ other
-same_told callers bytes Nothing Nothing few is js = refl
-same_told callers bytes Nothing (Told c call) few is js = absurd (not_passed c js.1 bytes (omega (arith, js.0)) js.3 is)
-same_told callers bytes Nothing Bad few is js = absurd (js.0 is)
-same_told callers bytes (Told c call) Nothing few is js = absurd (not_passed c is.1 bytes (omega (arith, is.0)) is.3 js)
-same_told callers bytes (Told c call) (Told d other) few is js =
-    let both = same_line callers c d call other bytes few is js in
-    ap (λ (t : ℕ × Call). Told t.0 t.1) (λ i. (both.0 i, both.1 i))
-same_told callers bytes (Told c call) Bad few is js = absurd (js.1 c call is)
-same_told callers bytes Bad Nothing few is js = absurd (is.0 js)
-same_told callers bytes Bad (Told c call) few is js = absurd (is.1 c call js)
-same_told callers bytes Bad Bad few is js = refl
+-- what a line may say: nothing, something that it tells, or neither
+module _ {Line X : Type 0} (nothing bad : Line) (told : ℕ → X → Line) (Passed : Type 0) (Tells : ℕ → X → Type 0) where
+  abbrev pub IsOneOf : Line → Type 0
+  IsOneOf line = ((line ≡ nothing) × Passed) ⊎ (((c : ℕ) × (x : X) × (line ≡ told c x) × Tells c x) ⊎ ((line ≡ bad) × (Passed → ⊥) × ((c : ℕ) (x : X) → Tells c x → ⊥)))
+
+  -- no two of the three hold for one line
+  module _ (apart : (c : ℕ) (x : X) → Tells c x → Passed → ⊥) (same : (c d : ℕ) (x y : X) → Tells c x → Tells d y → (c ≡ d) × (x ≡ y)) where
+    pub one_of : (line other : Line) → IsOneOf line → IsOneOf other → line ≡ other
+    one_of line other (inl (is, passed)) (inl (js, _)) = is ∙ sym js
+    one_of line other (inl (is, passed)) (inr (inl (d, y, js, tells))) = absurd (apart d y tells passed)
+    one_of line other (inl (is, passed)) (inr (inr (js, none, _))) = absurd (none passed)
+    one_of line other (inr (inl (c, x, is, tells))) (inl (js, passed)) = absurd (apart c x tells passed)
+    one_of line other (inr (inl (c, x, is, tells))) (inr (inl (d, y, js, tells'))) =
+        let both = same c d x y tells tells' in
+        is ∙ (λ i. told (both.0 i) (both.1 i)) ∙ sym js
+    one_of line other (inr (inl (c, x, is, tells))) (inr (inr (js, _, none))) = absurd (none c x tells)
+    one_of line other (inr (inr (is, none, _))) (inl (js, passed)) = absurd (none passed)
+    one_of line other (inr (inr (is, _, none))) (inr (inl (d, y, js, tells))) = absurd (none d y tells)
+    one_of line other (inr (inr (is, _, _))) (inr (inr (js, _, _))) = is ∙ sym js
+
+module _ (callers : ℕ) (bytes : List ℕ) where
+  abbrev TellsCall : ℕ → Call → Type 0
+  TellsCall c call = IsLineOf (IsCallText call) callers c bytes
+
+  one_told : (line : Line) → LineSays callers bytes line → IsOneOf Nothing Bad Told (IsPassedOver bytes) TellsCall line
+  one_told Nothing is = inl (refl, is)
+  one_told (Told c call) is = inr (inl (c, call, refl, is))
+  one_told Bad is = inr (inr (refl, is.0, is.1))
+
+  pub same_told : (line other : Line) → callers ≤ 2 ^ 64 → LineSays callers bytes line → LineSays callers bytes other → line ≡ other
+  same_told line other few is js = one_of Nothing Bad Told (IsPassedOver bytes) TellsCall
+      (λ c call tells. not_passed c tells.1 bytes (omega (arith, few, tells.0)) tells.3)
+      (λ c d call call' tells tells'. same_line callers c d call call' bytes few tells tells') line other (one_told line is) (one_told other js)
