@@ -1,5 +1,5 @@
 -- The text of a number's command is the text of no other, and a line means one thing.
-use Rattle.std.proofs.Common.{◌≡◌, ℕ, ◌+◌, ◌*◌, ◌<◌, ◌≤◌, ◌^◌, List, [], ◌∷◌, ◌++◌, get_or, inl, inr, refl, ap, sym, ◌∙◌, subst, arith}
+use Rattle.std.proofs.Common.{◌≡◌, ℕ, ◌+◌, ◌*◌, ◌<◌, ◌≤◌, ◌^◌, List, [], ◌∷◌, ◌++◌, get_or, inl, inr, refl, ap, sym, ◌∙◌, arith}
 use Rattle.std.specs.Prelude.{codes}
 use Rattle.std.specs.Fmt.{decimal}
 use Rattle.std.proofs.lemmas.Fmt.{decimal_injective}
@@ -7,11 +7,9 @@ use Rattle.std.proofs.lemmas.List.{append_cancel_left}
 use Rattle.eaw_face.specs.Command.{Command, log_write, log_edit, commit, commit_group, abort, nested_top, partial_abort, atomic_write, log_read, read}
 use Rattle.script_text.specs.HexText.{hex_of, IsBlock}
 use Rattle.script_text.specs.Eaw.{Raw, does, read_log, log_len, held, IsTextOf}
-use Rattle.script_text.specs.Line.{IsLineOf, IsPassedOver}
+use Rattle.script_text.specs.Line.{IsLineOf}
 use Rattle.script_text.specs.EawLines.{Meaning, nothing, told, bad, Means}
-use Rattle.script_text.proofs.Words.{first_space}
-use Rattle.script_text.proofs.Numbers.{decimal_is_word}
-use Rattle.script_text.proofs.OneLine.{IsOneOf, one_of, not_passed}
+use Rattle.script_text.proofs.OneLine.{IsOneOf, one_of, one_line}
 use Rattle.script_text.proofs.HexTexts.{hex_of_injective}
 use Rattle.script_text.proofs.Fields.{same_fields}
 
@@ -119,23 +117,13 @@ same_raw t (held n) (does command) text is js = absurd ((does_letters command).2
 same_raw t raw other text is js = absurd (let h : letters raw ≡ letters other = same_letters t raw other text is js in omega (arith, h))
 
 pub same_eaw_line : (numbers c d : ℕ) (raw other : Raw) (line : List ℕ) → numbers ≤ 2 ^ 64 → IsLineOf (IsTextOf c raw) numbers c line → IsLineOf (IsTextOf d other) numbers d line → (c ≡ d) × (raw ≡ other)
-same_eaw_line numbers c d raw other line few is js =
-    let cf : c < 2 ^ 64 = omega (arith, few, is.0) in
-    let df : d < 2 ^ 64 = omega (arith, few, js.0) in
-    let both = first_space (decimal c) (decimal d) is.1 js.1 (decimal_is_word c cf) (decimal_is_word d df) (sym is.3 ∙ js.3) in
-    let same : c ≡ d = decimal_injective c d cf df both.0 in
-    (same, same_raw c raw other is.1 is.2 (subst (λ (text : List ℕ). IsTextOf c other text) (sym both.1) (subst (λ (t : ℕ). IsTextOf t other js.1) (sym same) js.2)))
+same_eaw_line = one_line IsTextOf same_raw
 
-module _ (numbers : ℕ) (bytes : List ℕ) where
-  abbrev TellsRaw : ℕ → Raw → Type 0
-  TellsRaw c raw = IsLineOf (IsTextOf c raw) numbers c bytes
+one_meant : (numbers : ℕ) (bytes : List ℕ) (meaning : Meaning) → Means numbers bytes meaning → IsOneOf nothing bad told IsTextOf numbers bytes meaning
+one_meant numbers bytes nothing is = inl (refl, is)
+one_meant numbers bytes (told c raw) is = inr (inl (c, raw, refl, is))
+one_meant numbers bytes bad is = inr (inr (refl, is.0, is.1))
 
-  one_meant : (meaning : Meaning) → Means numbers bytes meaning → IsOneOf nothing bad told (IsPassedOver bytes) TellsRaw meaning
-  one_meant nothing is = inl (refl, is)
-  one_meant (told c raw) is = inr (inl (c, raw, refl, is))
-  one_meant bad is = inr (inr (refl, is.0, is.1))
-
-  pub same_meaning : (meaning other : Meaning) → numbers ≤ 2 ^ 64 → Means numbers bytes meaning → Means numbers bytes other → meaning ≡ other
-  same_meaning meaning other few is js = one_of nothing bad told (IsPassedOver bytes) TellsRaw
-      (λ c raw tells. not_passed c tells.1 bytes (omega (arith, few, tells.0)) tells.3)
-      (λ c d raw raw' tells tells'. same_eaw_line numbers c d raw raw' bytes few tells tells') meaning other (one_meant meaning is) (one_meant other js)
+pub same_meaning : (numbers : ℕ) (bytes : List ℕ) (meaning other : Meaning) → numbers ≤ 2 ^ 64 → Means numbers bytes meaning → Means numbers bytes other → meaning ≡ other
+same_meaning numbers bytes meaning other few is js =
+    one_of nothing bad told IsTextOf numbers bytes few same_raw meaning other (one_meant numbers bytes meaning is) (one_meant numbers bytes other js)

@@ -152,14 +152,6 @@ same_call call other text is js = go (asked_table call) (asked_table other) refl
     go (Some m) (Some n) e f (proper, inr (main, said)) (proper', inl (words, at, said')) = no_sign call text (n ++ 32 ∷ words) at said
     go (Some m) (Some n) e f (proper, inr (main, said)) (proper', inr (main', said')) = same_words call other text (e ∙ ap Some (main ∙ sym main') ∙ sym f) said said'
 
-pub same_line : (callers c d : ℕ) (call other : Call) (line : List ℕ) → callers ≤ 2 ^ 64 → IsLineOf (IsCallText call) callers c line → IsLineOf (IsCallText other) callers d line
-    → (c ≡ d) × (call ≡ other)
-same_line callers c d call other line few is js =
-    let cf : c < 2 ^ 64 = omega (arith, few, is.0) in
-    let df : d < 2 ^ 64 = omega (arith, few, js.0) in
-    let both = first_space (decimal c) (decimal d) is.1 js.1 (decimal_is_word c cf) (decimal_is_word d df) (sym is.3 ∙ js.3) in
-    (decimal_injective c d cf df both.0, same_call call other is.1 is.2 (subst (IsCallText other) (sym both.1) js.2))
-
 pub first_digit : (n : ℕ) → n < 2 ^ 64 → 48 ≤ get_or (decimal n) 0 0
 first_digit zero fits = omega (arith, ap (λ (l : List ℕ). get_or l 0 0) (decimal_digit 0 (omega arith)))
 first_digit (suc n) fits = omega (arith, first_decimal (suc n) (omega arith) fits)
@@ -172,36 +164,54 @@ not_passed c text (byte ∷ bytes) cf e over =
     let digit = get_or_append_left (decimal c) (32 ∷ text) 0 0 (decimal_nonempty c cf) in
     omega (arith, over, head, digit, first_digit c cf)
 
--- what a line may say: nothing, something that it tells, or neither
-module _ {Line X : Type 0} (nothing bad : Line) (told : ℕ → X → Line) (Passed : Type 0) (Tells : ℕ → X → Type 0) where
+-- a number and a text make one line
+pub one_line : {X : Type 0} (IsText : ℕ → X → List ℕ → Type 0) (same : (c : ℕ) (x y : X) (text : List ℕ) → IsText c x text → IsText c y text → x ≡ y)
+    (numbers c d : ℕ) (x y : X) (line : List ℕ) → numbers ≤ 2 ^ 64 → IsLineOf (IsText c x) numbers c line → IsLineOf (IsText d y) numbers d line → (c ≡ d) × (x ≡ y)
+one_line IsText same numbers c d x y line few is js =
+    let cf : c < 2 ^ 64 = omega (arith, few, is.0) in
+    let df : d < 2 ^ 64 = omega (arith, few, js.0) in
+    let both = first_space (decimal c) (decimal d) is.1 js.1 (decimal_is_word c cf) (decimal_is_word d df) (sym is.3 ∙ js.3) in
+    let number : c ≡ d = decimal_injective c d cf df both.0 in
+    (number, same c x y is.1 is.2 (subst (λ (text : List ℕ). IsText c y text) (sym both.1) (subst (λ (n : ℕ). IsText n y js.1) (sym number) js.2)))
+
+-- what a line may say: nothing, what it tells of a number, or neither
+module _ {Line X : Type 0} (nothing bad : Line) (told : ℕ → X → Line) (IsText : ℕ → X → List ℕ → Type 0) (numbers : ℕ) (bytes : List ℕ) where
   abbrev pub IsOneOf : Line → Type 0
-  IsOneOf line = ((line ≡ nothing) × Passed) ⊎ (((c : ℕ) × (x : X) × (line ≡ told c x) × Tells c x) ⊎ ((line ≡ bad) × (Passed → ⊥) × ((c : ℕ) (x : X) → Tells c x → ⊥)))
+  IsOneOf line = ((line ≡ nothing) × IsPassedOver bytes)
+      ⊎ (((c : ℕ) × (x : X) × (line ≡ told c x) × IsLineOf (IsText c x) numbers c bytes)
+      ⊎ ((line ≡ bad) × (IsPassedOver bytes → ⊥) × ((c : ℕ) (x : X) → IsLineOf (IsText c x) numbers c bytes → ⊥)))
 
   -- no two of the three hold for one line
-  module _ (apart : (c : ℕ) (x : X) → Tells c x → Passed → ⊥) (same : (c d : ℕ) (x y : X) → Tells c x → Tells d y → (c ≡ d) × (x ≡ y)) where
+  module _ (few : numbers ≤ 2 ^ 64) (same : (c : ℕ) (x y : X) (text : List ℕ) → IsText c x text → IsText c y text → x ≡ y) where
+    apart : (c : ℕ) (x : X) → IsLineOf (IsText c x) numbers c bytes → IsPassedOver bytes → ⊥
+    apart c x tells = not_passed c tells.1 bytes (omega (arith, tells.0)) tells.3
+
     pub one_of : (line other : Line) → IsOneOf line → IsOneOf other → line ≡ other
     one_of line other (inl (is, passed)) (inl (js, _)) = is ∙ sym js
     one_of line other (inl (is, passed)) (inr (inl (d, y, js, tells))) = absurd (apart d y tells passed)
     one_of line other (inl (is, passed)) (inr (inr (js, none, _))) = absurd (none passed)
     one_of line other (inr (inl (c, x, is, tells))) (inl (js, passed)) = absurd (apart c x tells passed)
     one_of line other (inr (inl (c, x, is, tells))) (inr (inl (d, y, js, tells'))) =
-        let both = same c d x y tells tells' in
+        let both = one_line IsText same numbers c d x y bytes few tells tells' in
         is ∙ (λ i. told (both.0 i) (both.1 i)) ∙ sym js
     one_of line other (inr (inl (c, x, is, tells))) (inr (inr (js, _, none))) = absurd (none c x tells)
     one_of line other (inr (inr (is, none, _))) (inl (js, passed)) = absurd (none passed)
     one_of line other (inr (inr (is, _, none))) (inr (inl (d, y, js, tells))) = absurd (none d y tells)
     one_of line other (inr (inr (is, _, _))) (inr (inr (js, _, _))) = is ∙ sym js
 
-module _ (callers : ℕ) (bytes : List ℕ) where
-  abbrev TellsCall : ℕ → Call → Type 0
-  TellsCall c call = IsLineOf (IsCallText call) callers c bytes
+-- the text of a call, whoever makes it
+abbrev IsTextBy : ℕ → Call → List ℕ → Type 0
+IsTextBy c call text = IsCallText call text
 
-  one_told : (line : Line) → LineSays callers bytes line → IsOneOf Nothing Bad Told (IsPassedOver bytes) TellsCall line
-  one_told Nothing is = inl (refl, is)
-  one_told (Told c call) is = inr (inl (c, call, refl, is))
-  one_told Bad is = inr (inr (refl, is.0, is.1))
+pub same_line : (callers c d : ℕ) (call other : Call) (line : List ℕ) → callers ≤ 2 ^ 64 → IsLineOf (IsCallText call) callers c line → IsLineOf (IsCallText other) callers d line
+    → (c ≡ d) × (call ≡ other)
+same_line = one_line IsTextBy (λ c. same_call)
 
-  pub same_told : (line other : Line) → callers ≤ 2 ^ 64 → LineSays callers bytes line → LineSays callers bytes other → line ≡ other
-  same_told line other few is js = one_of Nothing Bad Told (IsPassedOver bytes) TellsCall
-      (λ c call tells. not_passed c tells.1 bytes (omega (arith, few, tells.0)) tells.3)
-      (λ c d call call' tells tells'. same_line callers c d call call' bytes few tells tells') line other (one_told line is) (one_told other js)
+one_told : (callers : ℕ) (bytes : List ℕ) (line : Line) → LineSays callers bytes line → IsOneOf Nothing Bad Told IsTextBy callers bytes line
+one_told callers bytes Nothing is = inl (refl, is)
+one_told callers bytes (Told c call) is = inr (inl (c, call, refl, is))
+one_told callers bytes Bad is = inr (inr (refl, is.0, is.1))
+
+pub same_told : (callers : ℕ) (bytes : List ℕ) (line other : Line) → callers ≤ 2 ^ 64 → LineSays callers bytes line → LineSays callers bytes other → line ≡ other
+same_told callers bytes line other few is js =
+    one_of Nothing Bad Told IsTextBy callers bytes few (λ c. same_call) line other (one_told callers bytes line is) (one_told callers bytes other js)
