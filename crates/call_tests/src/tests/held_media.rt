@@ -49,11 +49,11 @@ impl Hold {
     }
 }
 
-/// A medium that passes each call on to the one in it. A read is held first, while its holder does not release it.
+/// A medium that passes each call on to the one in it. A read is held first, while its holder does not release it, if it has one.
 #[derive(Drop)]
 pub struct HeldMedia<M> {
     inner: M,
-    hold: Arc<Hold, Global>,
+    hold: Option<Arc<Hold, Global>>,
 }
 
 impl<M> Model for HeldMedia<M> {
@@ -63,10 +63,27 @@ impl<M> Model for HeldMedia<M> {
 }
 
 impl<M> HeldMedia<M> {
-    pub fn new(inner: M, hold: Arc<Hold, Global>) -> Self
+    /// Nobody holds its reads.
+    pub fn free(inner: M) -> Self
         ensures { result ≡ inner }
     {
-        HeldMedia { inner, hold }
+        HeldMedia { inner, hold: None }
+    }
+
+    pub fn held_by(inner: M, hold: Arc<Hold, Global>) -> Self
+        ensures { result ≡ inner }
+    {
+        HeldMedia {
+            inner,
+            hold: Some(hold),
+        }
+    }
+
+    pub fn into_inner(self) -> M
+        ensures { result ≡ self }
+    {
+        let HeldMedia { inner, hold: _ } = self;
+        inner
     }
 }
 
@@ -94,7 +111,9 @@ impl<M: Media> Media for HeldMedia<M> {
     }
 
     fn read(&mut self, at: u64, buf: &mut [u8]) -> Result<(), Failed> {
-        self.hold.pass();
+        if let Some(hold) = &self.hold {
+            hold.pass();
+        }
         self.inner.read(at, buf)
     }
 

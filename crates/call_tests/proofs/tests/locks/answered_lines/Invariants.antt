@@ -1,5 +1,5 @@
 use Rattle.std.proofs.Common.{◌≡◌}
-use Rattle.thread_tests.proofs.tests.locks.answered_lines.Given as goal
+use Rattle.call_tests.proofs.tests.locks.answered_lines.Given as goal
 
 -- each pass is still its caller's
 abbrev pub invariant-loop-n : goal.invariant-loop-n

@@ -24,11 +24,16 @@ enum By {
 enum Line {
     Locks(u8, Mode, Lock),
     Calls(Call, Reply),
-    // These are of records of `main`.
-    Gets(u64, Reply),
-    Puts(u64, Reply),
-    Dels(u64, Reply),
-    Scans(u64, u64, Reply),
+    Asks(Asked, Reply),
+}
+
+// A call of records of `main`.
+#[derive(Clone, Copy)]
+enum Asked {
+    Get(u64),
+    Put(u64),
+    Del(u64),
+    Scan(u64, u64),
 }
 
 const BUSY_WITH_0: Reply = Reply::Busy { holder: 0 };
@@ -42,8 +47,8 @@ const EXCLUSIVE: [(By, Line); 9] = [
         By::One,
         Line::Locks(5, Mode::Exclusive, Lock::Busy { holder: 0 }),
     ),
-    (By::One, Line::Gets(69, BUSY_WITH_0)),
-    (By::One, Line::Gets(6, Reply::Absent)),
+    (By::One, Line::Asks(Asked::Get(69), BUSY_WITH_0)),
+    (By::One, Line::Asks(Asked::Get(6), Reply::Absent)),
     (
         By::Zero,
         Line::Calls(Call::Control(Control::Commit), Reply::Committed(1)),
@@ -76,30 +81,30 @@ const SHARED: [(By, Line); 7] = [
 const READERS: [(By, Line); 9] = [
     (By::Zero, Line::Calls(Call::Begin, Reply::Fine)),
     (By::One, Line::Calls(Call::Begin, Reply::Fine)),
-    (By::Zero, Line::Gets(5, Reply::Absent)),
-    (By::One, Line::Gets(69, Reply::Absent)),
-    (By::One, Line::Dels(69, BUSY_WITH_0)),
-    (By::Zero, Line::Dels(7, Reply::Absent)),
-    (By::One, Line::Scans(0, 1, BUSY_WITH_0)),
+    (By::Zero, Line::Asks(Asked::Get(5), Reply::Absent)),
+    (By::One, Line::Asks(Asked::Get(69), Reply::Absent)),
+    (By::One, Line::Asks(Asked::Del(69), BUSY_WITH_0)),
+    (By::Zero, Line::Asks(Asked::Del(7), Reply::Absent)),
+    (By::One, Line::Asks(Asked::Scan(0, 1), BUSY_WITH_0)),
     (
         By::Zero,
         Line::Calls(Call::Control(Control::Abort), Reply::Fine),
     ),
-    (By::One, Line::Dels(69, Reply::Absent)),
+    (By::One, Line::Asks(Asked::Del(69), Reply::Absent)),
 ];
 
 // Puts that were dropped leave their keys in the index. A purge takes out those that no live transaction touches, and comes outside of any
 // transaction of its pass's.
 const PURGES: [(By, Line); 16] = [
     (By::Zero, Line::Calls(Call::Begin, Reply::Fine)),
-    (By::Zero, Line::Puts(5, Reply::Fine)),
-    (By::Zero, Line::Puts(6, Reply::Fine)),
+    (By::Zero, Line::Asks(Asked::Put(5), Reply::Fine)),
+    (By::Zero, Line::Asks(Asked::Put(6), Reply::Fine)),
     (
         By::Zero,
         Line::Calls(Call::Control(Control::Abort), Reply::Fine),
     ),
     (By::One, Line::Calls(Call::Begin, Reply::Fine)),
-    (By::One, Line::Gets(69, Reply::Absent)),
+    (By::One, Line::Asks(Asked::Get(69), Reply::Absent)),
     (
         By::One,
         Line::Calls(Call::Control(Control::Purge), Reply::Already),
@@ -108,7 +113,7 @@ const PURGES: [(By, Line); 16] = [
         By::Zero,
         Line::Calls(Call::Control(Control::Purge), Reply::Purged(1)),
     ),
-    (By::One, Line::Gets(5, Reply::Absent)),
+    (By::One, Line::Asks(Asked::Get(5), Reply::Absent)),
     (
         By::One,
         Line::Calls(Call::Control(Control::Offer), Reply::Fine),
@@ -147,39 +152,24 @@ fn is_answered<C: Core + Drop>(mars: &Mars<C>, pass: &mut Pass<C>, line: &Line) 
         }
         Line::Locks(..) => false,
         Line::Calls(call, reply) => is_told(mars, pass, call, reply),
-        Line::Gets(key, reply) => {
-            let get = TableCall::Get {
-                table: main_table(),
-                key: *key,
-            };
-            is_told(mars, pass, &Call::Table(get), reply)
+        Line::Asks(asked, reply) => match call_of(asked) {
+            Some(call) => is_told(mars, pass, &Call::Table(call), reply),
+            None => false,
+        },
+    }
+}
+
+// The call of `main`; there is none where its value is none.
+fn call_of(asked: &Asked) -> Option<TableCall> {
+    let table = main_table();
+    match *asked {
+        Asked::Get(key) => Some(TableCall::Get { table, key }),
+        Asked::Put(key) => {
+            let value = Value::of(b"a")?;
+            Some(TableCall::Put { table, key, value })
         }
-        Line::Puts(key, reply) => {
-            let Some(value) = Value::of(b"a") else {
-                return false;
-            };
-            let put = TableCall::Put {
-                table: main_table(),
-                key: *key,
-                value,
-            };
-            is_told(mars, pass, &Call::Table(put), reply)
-        }
-        Line::Dels(key, reply) => {
-            let del = TableCall::Del {
-                table: main_table(),
-                key: *key,
-            };
-            is_told(mars, pass, &Call::Table(del), reply)
-        }
-        Line::Scans(low, high, reply) => {
-            let scan = TableCall::Scan {
-                table: main_table(),
-                low: *low,
-                high: *high,
-            };
-            is_told(mars, pass, &Call::Table(scan), reply)
-        }
+        Asked::Del(key) => Some(TableCall::Del { table, key }),
+        Asked::Scan(low, high) => Some(TableCall::Scan { table, low, high }),
     }
 }
 
@@ -253,15 +243,10 @@ fn answered(alloc: Global, lines: &[(By, Line)]) -> Option<usize> {
 }
 
 #[test]
-fn passes_are_kept_out_by_locks(rt: HostRuntime) -> Result<(), Fail> {
-    assert_eq!(rt; answered(rt.alloc(), &EXCLUSIVE), Some(EXCLUSIVE.len()));
-    assert_eq!(rt; answered(rt.alloc(), &SHARED), Some(SHARED.len()));
-    assert_eq!(rt; answered(rt.alloc(), &READERS), Some(READERS.len()));
-    Ok(())
-}
-
-#[test]
-fn a_pass_purges_beside_another(rt: HostRuntime) -> Result<(), Fail> {
-    assert_eq!(rt; answered(rt.alloc(), &PURGES), Some(PURGES.len()));
+fn passes_lock_and_purge_beside_each_other(rt: HostRuntime) -> Result<(), Fail> {
+    let lists: [&[(By, Line)]; 4] = [&EXCLUSIVE, &SHARED, &READERS, &PURGES];
+    for lines in lists {
+        assert_eq!(rt; answered(rt.alloc(), lines), Some(lines.len()));
+    }
     Ok(())
 }

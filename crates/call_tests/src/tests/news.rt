@@ -4,11 +4,10 @@ ghost use Rattle.caller_steps.specs.Prefix.{Grows};
 ghost use Rattle.mars_manager.specs.Pass.{dealt};
 ghost use Rattle.mars_manager.specs.Sharing.{CanShare};
 
-use super::sharing::{array, opened_by};
+use super::sharing::{array, opened};
 use caller_steps::Core;
-use history::{Done, History, Key, Reply, TableCall, Tables, Told, main_table};
+use history::{History, Key, Reply, Tables, main_table};
 use mars_manager::{Mars, NotCopied, Pass, Passes};
-use noted::{Keeper, KeepsAll, KeepsNews};
 use pcm_media::Media;
 use record_slots::Value;
 use sample_threads::{publish_news, put_one};
@@ -16,29 +15,6 @@ use snapshot_readers::{Reader, open_readers};
 use std::alloc::Global;
 use std::sync::Wait;
 use std::test::*;
-
-// Whether the transaction is that of caller 0 with this number, which puts the value at the key of the same number.
-fn is_put(done: &Done, at: u64, value: Value) -> bool {
-    if done.caller != 0 || done.at != at {
-        return false;
-    }
-    let put = TableCall::Put {
-        table: main_table(),
-        key: at,
-        value,
-    };
-    let Some((call, told, rest)) = done.calls.entries().next() else {
-        return false;
-    };
-    call == put && matches!(&told, Told::Plain(Reply::Fine)) && rest.next().is_none()
-}
-
-fn are_puts(dones: &[Done], first: u64, value: Value) -> bool {
-    if first == 2 {
-        return dones.len() == 1 && is_put(&dones[0], 2, value);
-    }
-    dones.len() == 2 && is_put(&dones[0], 1, value) && is_put(&dones[1], 2, value)
-}
 
 // What the history has behind the first transactions, of which the pass has seen so many.
 fn behind<C: Core + Drop>(
@@ -59,25 +35,23 @@ fn behind<C: Core + Drop>(
     }
 }
 
-// Whether the pass reads both transactions behind none, the second one behind the first, and none behind both.
-fn reads_all<C: Core + Drop>(
+// How many transactions the pass reads behind none, behind the first one, and behind both.
+fn counts_behind<C: Core + Drop>(
     alloc: Global,
     mars: &Mars<C>,
     pass: &mut Pass<C>,
-    value: Value,
-) -> Option<bool>
+) -> Option<[usize; 3]>
     requires { pass.old.table ≡ mars.now.table }
     ensures { pass.new.table ≡ pass.old.table }
 {
     let all = behind(alloc, mars, pass, 0)?;
     let count = all.as_slice().len();
     if count != 2 {
-        return Some(false);
+        return None;
     }
     let last = behind(alloc, mars, pass, 1)?;
     let none = behind(alloc, mars, pass, 2)?;
-    let right = are_puts(all.as_slice(), 1, value) && are_puts(last.as_slice(), 2, value);
-    Some(right && none.as_slice().is_empty())
+    Some([count, last.as_slice().len(), none.as_slice().len()])
 }
 
 // What a reader is answered for the key 1 before it is fed, and then for the keys 1 to 3. Then nothing is left to be fed.
@@ -118,9 +92,8 @@ fn of_main(key: u64) -> Key {
 
 type Read = (u64, Option<Value>);
 
-// What the pass reads of the history behind no transaction, and what a reader is answered; and how many transactions are copied, once they were
-// fed.
-type Outcome = (bool, [Read; 4], Result<usize, NotCopied>);
+// How much the pass reads of the history, and what a reader is answered; and how many transactions are copied, once they were fed.
+type Outcome = ([usize; 3], [Read; 4], Result<usize, NotCopied>);
 
 fn copied_again<C: Core + Drop>(
     alloc: Global,
@@ -161,10 +134,10 @@ fn two_commits<C: Core + Drop, R: Wait>(
     if first != Reply::Committed(1) || second != Reply::Committed(2) {
         return None;
     }
-    let right = reads_all(alloc, mars, &mut two, value)?;
+    let counts = counts_behind(alloc, mars, &mut two)?;
     let read = answers(rt, alloc, mars, &mut two)?;
     let again = copied_again(alloc, mars, &mut two)?;
-    Some((right, read, again))
+    Some((counts, read, again))
 }
 
 fn over_core<C: Core + Drop, R: Wait>(
@@ -179,30 +152,26 @@ fn over_core<C: Core + Drop, R: Wait>(
     two_commits(rt, alloc, &mars, passes, value)
 }
 
-fn over_array<H: Keeper, M: Media + Drop, R: Wait>(
+fn over_array<M: Media + Drop, R: Wait>(
     rt: &R,
     alloc: Global,
     media: M,
     value: Value,
 ) -> Option<Outcome> {
-    let core = opened_by::<M, H>(alloc, media)?;
-    over_core(rt, alloc, core, value)
+    over_core(rt, alloc, opened(alloc, media)?, value)
 }
 
-// What was fed stays where the core keeps all, and is given up where it keeps the news.
+// What was fed is given up, since the core keeps the news alone.
 #[test]
 fn what_was_committed_is_read_and_fed(rt: HostRuntime) -> Result<(), Fail> {
     let value = Value::of(b"kept").ok_or("value")?;
-    let answers = [(0, None), (2, Some(value)), (2, Some(value)), (2, None)];
     let media = array(rt.alloc()).ok_or("array")?;
-    let all = over_array::<KeepsAll, _, _>(&rt, rt.alloc(), media, value).ok_or("shared")?;
-    assert!(rt; all.0);
-    assert_eq!(rt; all.1, answers);
-    assert_eq!(rt; all.2, Ok(2));
-    let media = array(rt.alloc()).ok_or("array")?;
-    let news = over_array::<KeepsNews, _, _>(&rt, rt.alloc(), media, value).ok_or("shared")?;
-    assert!(rt; news.0);
-    assert_eq!(rt; news.1, answers);
-    assert_eq!(rt; news.2, Err(NotCopied::Forgotten));
+    let (counts, read, again) = over_array(&rt, rt.alloc(), media, value).ok_or("shared")?;
+    assert_eq!(rt; counts, [2, 1, 0]);
+    assert_eq!(rt;
+        read,
+        [(0, None), (2, Some(value)), (2, Some(value)), (2, None)]
+    );
+    assert_eq!(rt; again, Err(NotCopied::Forgotten));
     Ok(())
 }
