@@ -2,6 +2,7 @@ mod accounts;
 mod arrays;
 mod beside_a_read;
 mod counting;
+mod drivers;
 mod flags;
 mod held_media;
 mod histories;
