@@ -49,14 +49,14 @@ pub fn what_images_hold<M: Media>()
         → OpensLike shape (M.view old).content image ⊎ OpensInTwo shape (M.view old).content image → IsOf shape form names table image }
     ensures unchanged { (old : M) (shape : Shape) (form : ℕ) (names : List (List ℕ)) (table : Table) → AllAreOf shape form names table (M.view old).content
         → (new : M) (image : List ℕ) → (M.view new).left_since (M.view old).moment image
-        → (Knows : Place → Type 0) (asked : Words) (status : Status) (input : List ℕ) (cut : Bool) (text : List ℕ) → ChangesNone asked → OutcomeFor Knows asked (M.view old) status (M.view new) input cut text
+        → (Knows : Place → Type 0) (asked : Words) (status : Status) (input : List ℕ) (cut : Bool) (text : List ℕ) → ChangesNone asked → OutcomeFor asked Knows (M.view old) status (M.view new) input cut text
         → (left : List (List ℕ)) × MayName asked names left × IsOf shape form left table image }
     ensures named { (old : M) (shape : Shape) (form : ℕ) (names : List (List ℕ)) (table : Table) → AllAreOf shape form names table (M.view old).content
         → (new : M) (name : List ℕ) (status : Status) (input : List ℕ) (cut : Bool) (text : List ℕ) → (status ≡ Status.Good) ⊎ (status ≡ Status.WriteFault)
-        → OutcomeFor (λ place. Unit {0}) (Make name) (M.view old) status (M.view new) input cut text → AllAreOf shape form (names ++ name ∷ []) table (M.view new).content }
+        → OutcomeFor (Make name) (λ place. Unit {0}) (M.view old) status (M.view new) input cut text → AllAreOf shape form (names ++ name ∷ []) table (M.view new).content }
     ensures some { (old : M) (shape : Shape) (form : ℕ) (names : List (List ℕ)) (table : Table) → AllAreOf shape form names table (M.view old).content
         → (new : M) (image : List ℕ) → (M.view new).left_since (M.view old).moment image
-        → (Knows : Place → Type 0) (asked : Words) (status : Status) (input : List ℕ) (cut : Bool) (text : List ℕ) → IsOfRecords asked → OutcomeFor Knows asked (M.view old) status (M.view new) input cut text
+        → (Knows : Place → Type 0) (asked : Words) (status : Status) (input : List ℕ) (cut : Bool) (text : List ℕ) → IsOfRecords asked → OutcomeFor asked Knows (M.view old) status (M.view new) input cut text
         → (left : List (List ℕ)) × MayName asked names left × (records : Table) × IsOf shape form left records image }
 {
     version_two_keeps::<KeyList>();

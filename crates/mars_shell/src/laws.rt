@@ -45,11 +45,11 @@ pub fn what_callers_are_told()
 pub fn runs_compose<M: Media>()
     ensures premises { (media : M) (shape : Shape) (form : ℕ) → IsTrue M.tells → AllSound shape form (M.view media).content → AllOpen shape (M.view media).content × HoldsRecords shape (M.view media) }
     ensures run { (old new : M) (shape : Shape) (form : ℕ) (Knows : Place → Type 0) (asked : Words) (status : Status) (input text : List ℕ) (cut : Bool) → IsTrue M.tells → IsOfRecords asked
-        → AllSound shape form (M.view old).content → OutcomeFor Knows asked (M.view old) status (M.view new) input cut text → AllSound shape form (M.view new).content }
+        → AllSound shape form (M.view old).content → OutcomeFor asked Knows (M.view old) status (M.view new) input cut text → AllSound shape form (M.view new).content }
     ensures raw { (old new : M) (shape : Shape) (given : EawOptions) (status : Status) (input text : List ℕ) (cut : Bool) → IsTrue M.tells
-        → AllOpen shape (M.view old).content → OutcomeFor (λ place. Unit {0}) (Eaw given) (M.view old) status (M.view new) input cut text → AllOpen shape (M.view new).content }
+        → AllOpen shape (M.view old).content → OutcomeFor (Eaw given) (λ place. Unit {0}) (M.view old) status (M.view new) input cut text → AllOpen shape (M.view new).content }
     ensures follow { (old new : M) (shape : Shape) (status : Status) (input text : List ℕ) (cut : Bool) → IsTrue M.tells
-        → AllOpen shape (M.view old).content → OutcomeFor (λ place. Unit {0}) Follow (M.view old) status (M.view new) input cut text → AllOpen shape (M.view new).content }
+        → AllOpen shape (M.view old).content → OutcomeFor Follow (λ place. Unit {0}) (M.view old) status (M.view new) input cut text → AllOpen shape (M.view new).content }
     ensures fresh { (old new : M) (numbers : FormatNumbers) (status : Status) (text : List ℕ) (cut : Bool) → (status ≡ Status.Good) ⊎ (status ≡ Status.WriteFault)
         → FormatOutcome numbers (M.view old) status (M.view new) cut text → LeavesFresh numbers (M.view new).content }
 {
