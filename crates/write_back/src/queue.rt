@@ -1,7 +1,6 @@
 // The queue in memory, and its steps on the medium.
 ghost use Rattle.std.specs.Prelude.{◌≡◌, ◌-◌, ◌^◌, ◌<◌, ℕ, [], true, IfOk, IsTrue, length, vec_capacity};
 ghost use Rattle.array_shape.specs.declared.shape.Shape.{Shape};
-ghost use Rattle.array_shape.specs.Places.{media_len};
 ghost use Rattle.array_shape.specs.NumberSet.{has};
 ghost use Rattle.coordinator.specs.Commits.{AreGood, AreThere};
 ghost use Rattle.write_back.specs.Orders.{shares};
@@ -24,7 +23,7 @@ pub struct LateCommits {
 }
 
 impl LateCommits {
-    ghost use Rattle.write_back.specs.Waiting.{AreWaiting, IsFit};
+    ghost use Rattle.write_back.specs.Waiting.{IsFit, IsQueued};
     ghost use Rattle.write_back.specs.Orders.{IsFree, due_for, due_for_place, last_order};
     ghost use Rattle.write_back.specs.Steps.{CommitsOne, DecidesOne, WritesBack};
 
@@ -44,9 +43,7 @@ impl LateCommits {
 
     // Writes the oldest back, if one waits.
     fn write_back_oldest<M: Media>(&mut self, media: &mut M, shape: &Shape) -> Result<(), Failed>
-        requires fit { IsFit shape.now self.old }
-        requires size { (M.view media.old).size ≡ media_len shape.now }
-        requires waiting { IsTrue M.tells → AreWaiting shape.now self.old (M.view media.old).content }
+        requires { IsQueued M.tells shape.now self.old (M.view media.old) }
         ensures { WritesBack M.tells shape.now 1 self.old (M.view media.old) self.new (M.view media.new) result }
     {
         let Some(&ballot) = self.ballots.first() else {
@@ -64,9 +61,7 @@ impl LateCommits {
         shape: &Shape,
         count: usize,
     ) -> Result<(), Failed>
-        requires fit { IsFit shape.now self.old }
-        requires size { (M.view media.old).size ≡ media_len shape.now }
-        requires waiting { IsTrue M.tells → AreWaiting shape.now self.old (M.view media.old).content }
+        requires { IsQueued M.tells shape.now self.old (M.view media.old) }
         ensures { WritesBack M.tells shape.now count self.old (M.view media.old) self.new (M.view media.new) result }
     {
         for _done in 0..count {
@@ -96,9 +91,7 @@ impl LateCommits {
         shape: &Shape,
         ballot: Ballot,
     ) -> Result<(), Failed>
-        requires fit { IsFit shape.now self.now }
-        requires size { (M.view media.old).size ≡ media_len shape.now }
-        requires waiting { IsTrue M.tells → AreWaiting shape.now self.now (M.view media.old).content }
+        requires queued { IsQueued M.tells shape.now self.now (M.view media.old) }
         requires there { AreThere shape.now ballot self.now.cells }
         requires good { IsTrue M.tells → AreGood shape.now (M.view media.old).content.bytes ballot self.now.cells }
         requires some { 0 < ballot.mask }
@@ -136,9 +129,7 @@ impl LateCommits {
         shape: &Shape,
         ballot: Ballot,
     ) -> Result<(), Failed>
-        requires fit { IsFit shape.now self.old }
-        requires size { (M.view media.old).size ≡ media_len shape.now }
-        requires waiting { IsTrue M.tells → AreWaiting shape.now self.old (M.view media.old).content }
+        requires queued { IsQueued M.tells shape.now self.old (M.view media.old) }
         requires there { AreThere shape.now ballot self.old.cells }
         requires good { IsTrue M.tells → AreGood shape.now (M.view media.old).content.bytes ballot self.old.cells }
         requires some { (0 < ballot.mask) × (0 < ballot.group) }
