@@ -6,7 +6,7 @@ ghost use Rattle.coordinator.specs.Commits.{AreGood, AreThere};
 ghost use Rattle.write_back.specs.Orders.{shares};
 
 use array_shape::Shape;
-use coordinator::{Cells, commit, decide, write_back};
+use coordinator::{CellTable, Cells, commit, decide, write_back};
 use mars_base::Failed;
 use pcm_media::Media;
 use row_bytes::Ballot;
@@ -49,7 +49,11 @@ impl LateCommits {
         let Some(&ballot) = self.ballots.first() else {
             return Ok(());
         };
-        write_back(media, shape, ballot, &self.cells)?;
+        let table = CellTable {
+            shape,
+            cells: &self.cells,
+        };
+        write_back(media, &table, ballot)?;
         self.ballots.remove(0);
         Ok(())
     }
@@ -99,7 +103,11 @@ impl LateCommits {
         ensures { CommitsOne M.tells shape.now ballot self.now (M.view media.old) self.now (M.view media.new) result }
     {
         let ballot = Ballot { order: 0, ..ballot };
-        commit(media, shape, ballot, &self.cells)
+        let table = CellTable {
+            shape,
+            cells: &self.cells,
+        };
+        commit(media, &table, ballot)
     }
 
     /// How many are written back to make place for one more.
@@ -140,7 +148,11 @@ impl LateCommits {
     {
         let order = self.last_order() + 1;
         let ballot = Ballot { order, ..ballot };
-        decide(media, shape, ballot, &self.cells)?;
+        let table = CellTable {
+            shape,
+            cells: &self.cells,
+        };
+        decide(media, &table, ballot)?;
         self.ballots.push_reserved(ballot);
         Ok(())
     }
