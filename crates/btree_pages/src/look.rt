@@ -20,7 +20,9 @@ ghost use Rattle.btree_laws.specs.Descent.{leaf_for};
 use crate::page::{child_in, read_node_head};
 use btree_laws::Root;
 use eaw_face::EawStore;
-use index_pages::{Head, LEVEL_MAX, PAGE_LEN, PAIRS_MAX, SLOTS_IN_PAGE, fetch_page, index_page_count, rest_of};
+use index_pages::{
+    Head, LEVEL_MAX, PAGE_LEN, PAIRS_MAX, SLOTS_IN_PAGE, fetch_page, index_page_count, rest_of,
+};
 use page_store::{NextPairs, PageFault, Pages};
 
 // The most pages on the way from the root to a leaf.
@@ -169,7 +171,11 @@ pub struct Reached {
 }
 
 // Finds the pairs from a key on in the leaf of that key.
-pub fn reach<S: EawStore>(pages: &mut Pages<S>, root: Root, start: Start) -> Result<Reached, PageFault>
+pub fn reach<S: EawStore>(
+    pages: &mut Pages<S>,
+    root: Root,
+    start: Start,
+) -> Result<Reached, PageFault>
     requires inside { start.page < page_count (S.view pages.old.store).shape }
     requires some { 1 ≤ start.most }
     requires most { start.most ≤ 8 }
@@ -213,4 +219,3 @@ pub fn begun(at: Reached) -> Result<NextPairs, PageFault>
     }
     Ok(some)
 }
-

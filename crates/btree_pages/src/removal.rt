@@ -28,7 +28,9 @@ use crate::parents::{place_behind, without_end, without_place};
 use crate::write::NO_LINK;
 use btree_laws::Root;
 use eaw_face::EawStore;
-use index_pages::{LeafPage, Release, give_page, give_slot, index_page_count, place_found, remove_pair};
+use index_pages::{
+    LeafPage, Release, give_page, give_slot, index_page_count, place_found, remove_pair,
+};
 use page_store::{PageFault, Pages};
 use record_slots::Super;
 
