@@ -12,7 +12,7 @@ use Rattle.index_pages.proofs.Courses.{walks_ok, walks_bad, walks_err}
 use Rattle.btree_pages.specs.Downward.{down, slot_at, Descended}
 use Rattle.btree_pages.proofs.Turning.{slot_is, descended_last}
 use Rattle.std.proofs.lemmas.Result.{err_from_is_err_and}
-use Rattle.btree_pages.proofs.look.find.Goals as goal
+use Rattle.btree_pages.proofs.index.BTreePagesKeyIndex.find.Goals as goal
 
 pub returns-then-slot-from-clause-cause : goal.returns-then-slot-from-clause-cause
 returns-then-slot-from-clause-cause g c =
@@ -21,7 +21,7 @@ returns-then-slot-from-clause-cause g c =
       λ told.
           let at = (c.in_ok-leaf.ensures.leaf told).1 in
           let some : found (pairs_said c.descend.new.bytes) c.args.key ≡ Some c.in-Some.slot = sym c.slot_in.ensures ∙ c.in-Some.is in
-          let given = given_found view.state.bytes c.args.root.table c.args.key c.in-Some.slot (pairs_said c.descend.new.bytes) at.given some in
+          let given = given_found view.state.bytes c.args.table c.args.key c.in-Some.slot (pairs_said c.descend.new.bytes) at.given some in
           omega (arith, given, (whole_of view.state.bytes (c.requires.sound told c.in_ok-leaf.ensures.cause)).front.slots, slots_are view.shape view.state.bytes (g.met.S.EawStore.long c.args.pages.now.store told), c.index_page_count-count.ensures.all, c.if-slot-from.true, c.from.ensures),
     )
 
@@ -31,7 +31,7 @@ returns-in_err-leaf g c =
     rw (exit.1, exit.2) (record {
       looks = c.in_err-leaf.ensures.looks;
       cause = c.in_err-leaf.ensures.cause;
-      follows = walks_err g.S.EawStore.tells (g.S.EawStore.calls c.args.pages.now.store) (g.S.EawStore.calls c.descend.new.pages.store) (down c.args.root.page c.args.key) (down c.args.root.page c.args.key) 8 8
+      follows = walks_err g.S.EawStore.tells (g.S.EawStore.calls c.args.pages.now.store) (g.S.EawStore.calls c.descend.new.pages.store) (down c.args.root c.args.key) (down c.args.root c.args.key) 8 8
           (Descended c.args.key c.descend.new.bytes) (λ slot read. slot_at c.args.key read ≡ Some slot) (g.S.EawStore.view c.args.pages.now.store) (g.S.EawStore.view c.descend.new.pages.store) (λ read way. way) (omega arith) c.in_err-leaf.field-0.0 c.in_err-leaf.ensures.walks;
       found = λ told. tt;
       inside = tt;
@@ -42,7 +42,7 @@ pub returns-in_default : goal.returns-in_default
 returns-in_default g c = record {
   looks = c.in_ok-leaf.ensures.looks;
   cause = c.in_ok-leaf.ensures.cause;
-  follows = walks_ok g.S.EawStore.tells (g.S.EawStore.calls c.args.pages.now.store) (g.S.EawStore.calls c.descend.new.pages.store) (down c.args.root.page c.args.key) (down c.args.root.page c.args.key) 8 8
+  follows = walks_ok g.S.EawStore.tells (g.S.EawStore.calls c.args.pages.now.store) (g.S.EawStore.calls c.descend.new.pages.store) (down c.args.root c.args.key) (down c.args.root c.args.key) 8 8
       (Descended c.args.key c.descend.new.bytes) (λ slot read. slot_at c.args.key read ≡ Some slot) (g.S.EawStore.view c.args.pages.now.store) (g.S.EawStore.view c.descend.new.pages.store) (λ read way. way) (omega arith) c.in_ok-leaf.leaf _ c.in_ok-leaf.ensures.walks (λ read way ends. slot_is c.args.key c.descend.new.bytes c.in_ok-leaf.leaf read ends ∙ ap Some (sym c.slot_in.ensures ∙ c.in_default.is));
   found = λ told. sym ((c.in_ok-leaf.ensures.leaf told).1.found_is ∙ sym c.slot_in.ensures ∙ c.in_default.is);
   inside = tt;
@@ -66,10 +66,10 @@ returns-clause-dead g c = λ told. no_error _ _ told
 
 pub returns-then-slot-from-clause-follows : goal.returns-then-slot-from-clause-follows
 returns-then-slot-from-clause-follows g c =
-    walks_bad g.S.EawStore.tells (g.S.EawStore.calls c.args.pages.now.store) (g.S.EawStore.calls c.descend.new.pages.store) (down c.args.root.page c.args.key) (down c.args.root.page c.args.key) 8 8
+    walks_bad g.S.EawStore.tells (g.S.EawStore.calls c.args.pages.now.store) (g.S.EawStore.calls c.descend.new.pages.store) (down c.args.root c.args.key) (down c.args.root c.args.key) 8 8
     (Descended c.args.key c.descend.new.bytes) (λ slot read. slot_at c.args.key read ≡ Some slot) (g.S.EawStore.view c.args.pages.now.store) (g.S.EawStore.view c.descend.new.pages.store) (λ read way. way) (omega arith) c.in_ok-leaf.leaf c.in_ok-leaf.leaf.page c.in_ok-leaf.ensures.walks (descended_last c.args.key c.descend.new.bytes c.in_ok-leaf.leaf)
 
 pub returns-clause-follows : goal.returns-clause-follows
 returns-clause-follows g c =
-    walks_ok g.S.EawStore.tells (g.S.EawStore.calls c.args.pages.now.store) (g.S.EawStore.calls c.descend.new.pages.store) (down c.args.root.page c.args.key) (down c.args.root.page c.args.key) 8 8
+    walks_ok g.S.EawStore.tells (g.S.EawStore.calls c.args.pages.now.store) (g.S.EawStore.calls c.descend.new.pages.store) (down c.args.root c.args.key) (down c.args.root c.args.key) 8 8
     (Descended c.args.key c.descend.new.bytes) (λ slot read. slot_at c.args.key read ≡ Some slot) (g.S.EawStore.view c.args.pages.now.store) (g.S.EawStore.view c.descend.new.pages.store) (λ read way. way) (omega arith) c.in_ok-leaf.leaf _ c.in_ok-leaf.ensures.walks (λ read way ends. slot_is c.args.key c.descend.new.bytes c.in_ok-leaf.leaf read ends ∙ ap Some (sym c.slot_in.ensures ∙ c.in-Some.is))

@@ -33,7 +33,8 @@ use Rattle.index_pages.proofs.Faulting.{test_of_index, dead_fault, dead_test, no
 use Rattle.btree_pages.proofs.Rooted.{slot_there, super_err, slots_full, root_out, alive_yet, bytes_yet, sound_yet, named_yet, absent_yet, says_yet, root_reached, root_read}
 use Rattle.btree_pages.proofs.Whole.{root_err, looked_then, root_then, place_then, place_reached, place_due, room_due}
 use Rattle.std.proofs.lemmas.Result.{err_from_is_err_and}
-use Rattle.btree_pages.proofs.insertion.insert.Goals as goal
+use Rattle.btree_laws.specs.declared.root.Root.{Root}
+use Rattle.btree_pages.proofs.index.BTreePagesKeyIndex.insert.Goals as goal
 
 pub returns-in_err-front-clause-inserts : goal.returns-in_err-front-clause-inserts
 returns-in_err-front-clause-inserts g c =
@@ -43,7 +44,7 @@ returns-in_err-front-clause-inserts g c =
     let V = g.S.EawStore.view in
     let E = g.S.EawStore.opens in
     let t = c.args.tid in
-    let root = c.args.root in
+    let root : Root = record { page = c.args.root; table = c.args.table } in
     let key = c.args.key in
     let v0 = pages_of (V c.args.pages.now.store) c.args.pages.now in
     let n = c.index_page_count-count.ensures in
@@ -62,7 +63,7 @@ returns-then-not-is_slot_left-clause-inserts g c =
     let V = g.S.EawStore.view in
     let E = g.S.EawStore.opens in
     let t = c.args.tid in
-    let root = c.args.root in
+    let root : Root = record { page = c.args.root; table = c.args.table } in
     let key = c.args.key in
     let v0 = pages_of (V c.args.pages.now.store) c.args.pages.now in
     let n = c.index_page_count-count.ensures in
@@ -80,7 +81,7 @@ returns-then-not-is_index_page-clause-inserts g c =
     let V = g.S.EawStore.view in
     let E = g.S.EawStore.opens in
     let t = c.args.tid in
-    let root = c.args.root in
+    let root : Root = record { page = c.args.root; table = c.args.table } in
     let key = c.args.key in
     let v0 = pages_of (V c.args.pages.now.store) c.args.pages.now in
     let n = c.index_page_count-count.ensures in
@@ -99,7 +100,7 @@ fetch_node-requires g c =
     let inside = c.if-not-is_index_page.ensures.0 refl in
     record {
       some = inside.0;
-      inside = subst (λ (k : ℕ). c.args.root.page < k) (c.index_page_count-count.ensures.count ∙ ap index_pages_of (sym c.in_ok-front.ensures.looks.shape)) inside.1;
+      inside = subst (λ (k : ℕ). c.args.root < k) (c.index_page_count-count.ensures.count ∙ ap index_pages_of (sym c.in_ok-front.ensures.looks.shape)) inside.1;
     }
 
 pub returns-in_err-top-clause-inserts : goal.returns-in_err-top-clause-inserts
@@ -110,7 +111,7 @@ returns-in_err-top-clause-inserts g c =
     let V = g.S.EawStore.view in
     let E = g.S.EawStore.opens in
     let t = c.args.tid in
-    let root = c.args.root in
+    let root : Root = record { page = c.args.root; table = c.args.table } in
     let key = c.args.key in
     let v0 = pages_of (V c.args.pages.now.store) c.args.pages.now in
     let n = c.index_page_count-count.ensures in
@@ -129,14 +130,14 @@ returns-in_err-top-clause-dead g c =
     let V = g.S.EawStore.view in
     let E = g.S.EawStore.opens in
     let t = c.args.tid in
-    let root = c.args.root in
+    let root : Root = record { page = c.args.root; table = c.args.table } in
     let key = c.args.key in
     let v0 = pages_of (V c.args.pages.now.store) c.args.pages.now in
     let n = c.index_page_count-count.ensures in
     let vs = pages_of (V c.fetch_super.new.pages.store) c.fetch_super.new.pages in
     let front = c.in_ok-front.front in
     let at = root.page in
-    let good = IsNode (page_bytes vs.store.state.bytes c.args.root.page) in
+    let good = IsNode (page_bytes vs.store.state.bytes c.args.root) in
     λ told. dead_test Node T good at vs.store c.in_err-top.field-0.0 ((c.in_ok-front.ensures.looks.still refl).dead ∙ c.in_ok-front.ensures.cause)
     (dead_fault c.in_err-top.field-0.0 exit.0 (test_of_index Node T good at vs.store c.in_err-top.field-0.0 c.in_err-top.ensures.cause) exit.2 told) c.in_err-top.ensures.cause)
 
@@ -146,7 +147,7 @@ insert_below-requires-then-len-lt-PAIRS_MAX g c =
     let V = g.S.EawStore.view in
     let E = g.S.EawStore.opens in
     let t = c.args.tid in
-    let root = c.args.root in
+    let root : Root = record { page = c.args.root; table = c.args.table } in
     let key = c.args.key in
     let v0 = pages_of (V c.args.pages.now.store) c.args.pages.now in
     let n = c.index_page_count-count.ensures in
@@ -157,9 +158,9 @@ insert_below-requires-then-len-lt-PAIRS_MAX g c =
     let looks = looks_next T E false v0 vs v1 c.in_ok-front.ensures.looks c.in_ok-top.ensures.looks in
     let still = c.in_ok-front.ensures.looks.still refl in
     let top = c.in_ok-top.top in
-    let read = subst (λ (sh : Shape). IsRead sh c.args.root.page c.in_ok-top.top.level c.in_ok-top.top.pairs.items) c.in_ok-front.ensures.looks.shape c.in_ok-top.ensures.read in
-    let level = λ (told : IsTrue g.S.EawStore.tells). c.in_ok-top.ensures.level told ∙ ap (λ (st : State). level_of st.bytes c.args.root.page) (still.state told) in
-    let pairs = λ (told : IsTrue g.S.EawStore.tells). c.in_ok-top.ensures.pairs told ∙ ap (λ (st : State). page_pairs st.bytes c.args.root.page) (still.state told) in
+    let read = subst (λ (sh : Shape). IsRead sh c.args.root c.in_ok-top.top.level c.in_ok-top.top.pairs.items) c.in_ok-front.ensures.looks.shape c.in_ok-top.ensures.read in
+    let level = λ (told : IsTrue g.S.EawStore.tells). c.in_ok-top.ensures.level told ∙ ap (λ (st : State). level_of st.bytes c.args.root) (still.state told) in
+    let pairs = λ (told : IsTrue g.S.EawStore.tells). c.in_ok-top.ensures.pairs told ∙ ap (λ (st : State). page_pairs st.bytes c.args.root) (still.state told) in
     let room : length c.in_ok-top.top.pairs.items < 30 = room_for c.in_ok-top.top.pairs.items c.len.result c.len.ensures.value c.if-len-lt-PAIRS_MAX.true in
     record {
       tid = subst (λ (sh : Shape). c.args.tid < sh.numbers) (sym looks.shape) c.requires.tid;
@@ -184,7 +185,7 @@ returns-then-len-lt-PAIRS_MAX-clause-inserts g c =
     let V = g.S.EawStore.view in
     let E = g.S.EawStore.opens in
     let t = c.args.tid in
-    let root = c.args.root in
+    let root : Root = record { page = c.args.root; table = c.args.table } in
     let key = c.args.key in
     let v0 = pages_of (V c.args.pages.now.store) c.args.pages.now in
     let n = c.index_page_count-count.ensures in
@@ -195,9 +196,9 @@ returns-then-len-lt-PAIRS_MAX-clause-inserts g c =
     let looks = looks_next T E false v0 vs v1 c.in_ok-front.ensures.looks c.in_ok-top.ensures.looks in
     let still = c.in_ok-front.ensures.looks.still refl in
     let top = c.in_ok-top.top in
-    let read = subst (λ (sh : Shape). IsRead sh c.args.root.page c.in_ok-top.top.level c.in_ok-top.top.pairs.items) c.in_ok-front.ensures.looks.shape c.in_ok-top.ensures.read in
-    let level = λ (told : IsTrue g.S.EawStore.tells). c.in_ok-top.ensures.level told ∙ ap (λ (st : State). level_of st.bytes c.args.root.page) (still.state told) in
-    let pairs = λ (told : IsTrue g.S.EawStore.tells). c.in_ok-top.ensures.pairs told ∙ ap (λ (st : State). page_pairs st.bytes c.args.root.page) (still.state told) in
+    let read = subst (λ (sh : Shape). IsRead sh c.args.root c.in_ok-top.top.level c.in_ok-top.top.pairs.items) c.in_ok-front.ensures.looks.shape c.in_ok-top.ensures.read in
+    let level = λ (told : IsTrue g.S.EawStore.tells). c.in_ok-top.ensures.level told ∙ ap (λ (st : State). level_of st.bytes c.args.root) (still.state told) in
+    let pairs = λ (told : IsTrue g.S.EawStore.tells). c.in_ok-top.ensures.pairs told ∙ ap (λ (st : State). page_pairs st.bytes c.args.root) (still.state told) in
     let room : length c.in_ok-top.top.pairs.items < 30 = room_for c.in_ok-top.top.pairs.items c.len.result c.len.ensures.value c.if-len-lt-PAIRS_MAX.true in
     let v2 = pages_of (V c.insert_below-then-len-lt-PAIRS_MAX.new.pages.store) c.insert_below-then-len-lt-PAIRS_MAX.new.pages in
     root_then T E t root key v0 v1 c.requires.sound c.requires.named small looks c.in_ok-front.ensures.cause front top.page top.level top.pairs.items c.in_ok-front.ensures.says c.in_ok-top.ensures.page c.in_ok-top.ensures.read.level_most level pairs room v2 c.insert_below-then-len-lt-PAIRS_MAX.result c.insert_below-then-len-lt-PAIRS_MAX.ensures.inserts
@@ -212,7 +213,7 @@ insert_above-requires g c =
     let V = g.S.EawStore.view in
     let E = g.S.EawStore.opens in
     let t = c.args.tid in
-    let root = c.args.root in
+    let root : Root = record { page = c.args.root; table = c.args.table } in
     let key = c.args.key in
     let v0 = pages_of (V c.args.pages.now.store) c.args.pages.now in
     let n = c.index_page_count-count.ensures in
@@ -223,9 +224,9 @@ insert_above-requires g c =
     let looks = looks_next T E false v0 vs v1 c.in_ok-front.ensures.looks c.in_ok-top.ensures.looks in
     let still = c.in_ok-front.ensures.looks.still refl in
     let top = c.in_ok-top.top in
-    let read = subst (λ (sh : Shape). IsRead sh c.args.root.page c.in_ok-top.top.level c.in_ok-top.top.pairs.items) c.in_ok-front.ensures.looks.shape c.in_ok-top.ensures.read in
-    let level = λ (told : IsTrue g.S.EawStore.tells). c.in_ok-top.ensures.level told ∙ ap (λ (st : State). level_of st.bytes c.args.root.page) (still.state told) in
-    let pairs = λ (told : IsTrue g.S.EawStore.tells). c.in_ok-top.ensures.pairs told ∙ ap (λ (st : State). page_pairs st.bytes c.args.root.page) (still.state told) in
+    let read = subst (λ (sh : Shape). IsRead sh c.args.root c.in_ok-top.top.level c.in_ok-top.top.pairs.items) c.in_ok-front.ensures.looks.shape c.in_ok-top.ensures.read in
+    let level = λ (told : IsTrue g.S.EawStore.tells). c.in_ok-top.ensures.level told ∙ ap (λ (st : State). level_of st.bytes c.args.root) (still.state told) in
+    let pairs = λ (told : IsTrue g.S.EawStore.tells). c.in_ok-top.ensures.pairs told ∙ ap (λ (st : State). page_pairs st.bytes c.args.root) (still.state told) in
     let full : length c.in_ok-top.top.pairs.items ≡ 30 = full_with c.in_ok-top.top.pairs.items c.len.result c.len.ensures.value c.if-len-lt-PAIRS_MAX.false c.in_ok-top.ensures.read.most in
     record {
       tid = subst (λ (sh : Shape). c.args.tid < sh.numbers) (sym looks.shape) c.requires.tid;
@@ -241,8 +242,8 @@ insert_above-requires g c =
       page = c.in_ok-top.ensures.page;
       read = root_read T E t root key v0 c.requires.sound c.requires.named v1 looks c.in_ok-front.ensures.cause top.page top.level top.pairs.items c.in_ok-top.ensures.page read;
       full = full;
-      level = bytes_yet T E t root key v0 c.requires.sound c.requires.named v1 looks c.in_ok-front.ensures.cause (λ (b : List ℕ). c.in_ok-top.top.level ≡ level_of b c.args.root.page) level;
-      pairs = bytes_yet T E t root key v0 c.requires.sound c.requires.named v1 looks c.in_ok-front.ensures.cause (λ (b : List ℕ). c.in_ok-top.top.pairs.items ≡ page_pairs b c.args.root.page) pairs;
+      level = bytes_yet T E t root key v0 c.requires.sound c.requires.named v1 looks c.in_ok-front.ensures.cause (λ (b : List ℕ). c.in_ok-top.top.level ≡ level_of b c.args.root) level;
+      pairs = bytes_yet T E t root key v0 c.requires.sound c.requires.named v1 looks c.in_ok-front.ensures.cause (λ (b : List ℕ). c.in_ok-top.top.pairs.items ≡ page_pairs b c.args.root) pairs;
     }
 
 pub returns-clause-inserts : goal.returns-clause-inserts
@@ -251,7 +252,7 @@ returns-clause-inserts g c =
     let V = g.S.EawStore.view in
     let E = g.S.EawStore.opens in
     let t = c.args.tid in
-    let root = c.args.root in
+    let root : Root = record { page = c.args.root; table = c.args.table } in
     let key = c.args.key in
     let v0 = pages_of (V c.args.pages.now.store) c.args.pages.now in
     let n = c.index_page_count-count.ensures in
@@ -262,9 +263,9 @@ returns-clause-inserts g c =
     let looks = looks_next T E false v0 vs v1 c.in_ok-front.ensures.looks c.in_ok-top.ensures.looks in
     let still = c.in_ok-front.ensures.looks.still refl in
     let top = c.in_ok-top.top in
-    let read = subst (λ (sh : Shape). IsRead sh c.args.root.page c.in_ok-top.top.level c.in_ok-top.top.pairs.items) c.in_ok-front.ensures.looks.shape c.in_ok-top.ensures.read in
-    let level = λ (told : IsTrue g.S.EawStore.tells). c.in_ok-top.ensures.level told ∙ ap (λ (st : State). level_of st.bytes c.args.root.page) (still.state told) in
-    let pairs = λ (told : IsTrue g.S.EawStore.tells). c.in_ok-top.ensures.pairs told ∙ ap (λ (st : State). page_pairs st.bytes c.args.root.page) (still.state told) in
+    let read = subst (λ (sh : Shape). IsRead sh c.args.root c.in_ok-top.top.level c.in_ok-top.top.pairs.items) c.in_ok-front.ensures.looks.shape c.in_ok-top.ensures.read in
+    let level = λ (told : IsTrue g.S.EawStore.tells). c.in_ok-top.ensures.level told ∙ ap (λ (st : State). level_of st.bytes c.args.root) (still.state told) in
+    let pairs = λ (told : IsTrue g.S.EawStore.tells). c.in_ok-top.ensures.pairs told ∙ ap (λ (st : State). page_pairs st.bytes c.args.root) (still.state told) in
     let v2 = pages_of (V c.insert_above.new.pages.store) c.insert_above.new.pages in
     looked_then T E t root key v0 v1 c.requires.sound c.requires.named small looks c.in_ok-front.ensures.cause v2 c.insert_above.result c.insert_above.ensures.inserts
 
@@ -280,7 +281,7 @@ returns-in_err-front-clause-works g c =
     let V = g.S.EawStore.view in
     let E = g.S.EawStore.opens in
     let t = c.args.tid in
-    let root = c.args.root in
+    let root : Root = record { page = c.args.root; table = c.args.table } in
     let key = c.args.key in
     let v0 = pages_of (V c.args.pages.now.store) c.args.pages.now in
     let n = c.index_page_count-count.ensures in
@@ -296,7 +297,7 @@ returns-then-not-is_slot_left-clause-works g c =
     let V = g.S.EawStore.view in
     let E = g.S.EawStore.opens in
     let t = c.args.tid in
-    let root = c.args.root in
+    let root : Root = record { page = c.args.root; table = c.args.table } in
     let key = c.args.key in
     let v0 = pages_of (V c.args.pages.now.store) c.args.pages.now in
     let n = c.index_page_count-count.ensures in
@@ -310,7 +311,7 @@ returns-then-not-is_index_page-clause-works g c =
     let V = g.S.EawStore.view in
     let E = g.S.EawStore.opens in
     let t = c.args.tid in
-    let root = c.args.root in
+    let root : Root = record { page = c.args.root; table = c.args.table } in
     let key = c.args.key in
     let v0 = pages_of (V c.args.pages.now.store) c.args.pages.now in
     let n = c.index_page_count-count.ensures in
@@ -328,14 +329,14 @@ returns-in_err-top-clause-works g c =
     let V = g.S.EawStore.view in
     let E = g.S.EawStore.opens in
     let t = c.args.tid in
-    let root = c.args.root in
+    let root : Root = record { page = c.args.root; table = c.args.table } in
     let key = c.args.key in
     let v0 = pages_of (V c.args.pages.now.store) c.args.pages.now in
     let n = c.index_page_count-count.ensures in
     let vs = pages_of (V c.fetch_super.new.pages.store) c.fetch_super.new.pages in
     let some : 0 < page_count (V c.args.pages.now.store).shape = omega (arith, n.some, n.all) in
     let v1 = pages_of (V c.fetch_node.new.pages.store) c.fetch_node.new.pages in
-    let there : c.args.root.page < page_count (V c.args.pages.now.store).shape = omega (arith, (c.if-not-is_index_page.ensures.0 refl).1, n.all) in
+    let there : c.args.root < page_count (V c.args.pages.now.store).shape = omega (arith, (c.if-not-is_index_page.ensures.0 refl).1, n.all) in
     works_left _ (told_left c.in_err-top.field-0.0 exit.0 exit.2)
     (subst (λ (f : IndexFault). (let r : Result ℕ IndexFault = Err f in WorksFrom [] (IsTrue T) T (is_done r) V g.S.EawStore.calls t (down root.page key) (insertion_limits (is_some c.args.place) (tree_finding root.page key) v0.store.shape) (tree_actions v0.store.state.bytes root.page key) (blamed_index r) v0.store v1.store)) (sym exit.2)
     (let r : Result ℕ IndexFault = Err (as_index c.in_err-top.field-0.0) in
@@ -348,19 +349,19 @@ returns-then-len-lt-PAIRS_MAX-clause-works g c =
     let V = g.S.EawStore.view in
     let E = g.S.EawStore.opens in
     let t = c.args.tid in
-    let root = c.args.root in
+    let root : Root = record { page = c.args.root; table = c.args.table } in
     let key = c.args.key in
     let v0 = pages_of (V c.args.pages.now.store) c.args.pages.now in
     let n = c.index_page_count-count.ensures in
     let vs = pages_of (V c.fetch_super.new.pages.store) c.fetch_super.new.pages in
     let some : 0 < page_count (V c.args.pages.now.store).shape = omega (arith, n.some, n.all) in
     let v1 = pages_of (V c.fetch_node.new.pages.store) c.fetch_node.new.pages in
-    let there : c.args.root.page < page_count (V c.args.pages.now.store).shape = omega (arith, (c.if-not-is_index_page.ensures.0 refl).1, n.all) in
+    let there : c.args.root < page_count (V c.args.pages.now.store).shape = omega (arith, (c.if-not-is_index_page.ensures.0 refl).1, n.all) in
     let top = c.in_ok-top.top in
     let looks = looks_next T E false v0 vs v1 c.in_ok-front.ensures.looks c.in_ok-top.ensures.looks in
     let still = c.in_ok-front.ensures.looks.still refl in
-    let level = λ (told : IsTrue g.S.EawStore.tells). c.in_ok-top.ensures.level told ∙ ap (λ (st : State). level_of st.bytes c.args.root.page) (still.state told) in
-    let pairs = λ (told : IsTrue g.S.EawStore.tells). c.in_ok-top.ensures.pairs told ∙ ap (λ (st : State). page_pairs st.bytes c.args.root.page) (still.state told) in
+    let level = λ (told : IsTrue g.S.EawStore.tells). c.in_ok-top.ensures.level told ∙ ap (λ (st : State). level_of st.bytes c.args.root) (still.state told) in
+    let pairs = λ (told : IsTrue g.S.EawStore.tells). c.in_ok-top.ensures.pairs told ∙ ap (λ (st : State). page_pairs st.bytes c.args.root) (still.state told) in
     let small : c.args.key < 2 ^ 64 = omega arith in
     let room : length c.in_ok-top.top.pairs.items < 30 = room_for c.in_ok-top.top.pairs.items c.len.result c.len.ensures.value c.if-len-lt-PAIRS_MAX.true in
     let v2 = pages_of (V c.insert_below-then-len-lt-PAIRS_MAX.new.pages.store) c.insert_below-then-len-lt-PAIRS_MAX.new.pages in
@@ -377,19 +378,19 @@ returns-clause-works g c =
     let V = g.S.EawStore.view in
     let E = g.S.EawStore.opens in
     let t = c.args.tid in
-    let root = c.args.root in
+    let root : Root = record { page = c.args.root; table = c.args.table } in
     let key = c.args.key in
     let v0 = pages_of (V c.args.pages.now.store) c.args.pages.now in
     let n = c.index_page_count-count.ensures in
     let vs = pages_of (V c.fetch_super.new.pages.store) c.fetch_super.new.pages in
     let some : 0 < page_count (V c.args.pages.now.store).shape = omega (arith, n.some, n.all) in
     let v1 = pages_of (V c.fetch_node.new.pages.store) c.fetch_node.new.pages in
-    let there : c.args.root.page < page_count (V c.args.pages.now.store).shape = omega (arith, (c.if-not-is_index_page.ensures.0 refl).1, n.all) in
+    let there : c.args.root < page_count (V c.args.pages.now.store).shape = omega (arith, (c.if-not-is_index_page.ensures.0 refl).1, n.all) in
     let top = c.in_ok-top.top in
     let looks = looks_next T E false v0 vs v1 c.in_ok-front.ensures.looks c.in_ok-top.ensures.looks in
     let still = c.in_ok-front.ensures.looks.still refl in
-    let level = λ (told : IsTrue g.S.EawStore.tells). c.in_ok-top.ensures.level told ∙ ap (λ (st : State). level_of st.bytes c.args.root.page) (still.state told) in
-    let pairs = λ (told : IsTrue g.S.EawStore.tells). c.in_ok-top.ensures.pairs told ∙ ap (λ (st : State). page_pairs st.bytes c.args.root.page) (still.state told) in
+    let level = λ (told : IsTrue g.S.EawStore.tells). c.in_ok-top.ensures.level told ∙ ap (λ (st : State). level_of st.bytes c.args.root) (still.state told) in
+    let pairs = λ (told : IsTrue g.S.EawStore.tells). c.in_ok-top.ensures.pairs told ∙ ap (λ (st : State). page_pairs st.bytes c.args.root) (still.state told) in
     let small : c.args.key < 2 ^ 64 = omega arith in
     let v2 = pages_of (V c.insert_above.new.pages.store) c.insert_above.new.pages in
     let low : c.in_ok-top.top.level ≤ 7 = c.in_ok-top.ensures.read.level_most in
@@ -405,7 +406,7 @@ insert_below-requires g c =
     let V = g.S.EawStore.view in
     let E = g.S.EawStore.opens in
     let t = c.args.tid in
-    let root = c.args.root in
+    let root : Root = record { page = c.args.root; table = c.args.table } in
     let key = c.args.key in
     let v0 = pages_of (V c.args.pages.now.store) c.args.pages.now in
     let n = c.index_page_count-count.ensures in
@@ -416,9 +417,9 @@ insert_below-requires g c =
     let node = c.node_of.result in
     let made = c.node_of.ensures in
     let place : IsPlaceIn (V c.args.pages.now.store).shape c.in-Some.leaf.page c.in-Some.leaf.pairs.items = subst (λ (o : Option LeafPage). IfSome o (λ l. IsPlaceIn (V c.args.pages.now.store).shape l.page l.pairs.items)) c.in-Some.is c.requires.place in
-    let opens = λ (told : IsTrue g.S.EawStore.tells). subst (λ (p : ℕ). IsOpenLeaf (V c.args.pages.now.store).state.bytes c.args.root.page c.args.key p c.node_of.result.pairs.items) (sym c.node_of.ensures.page)
-    (subst (λ (ps : List Pair). IsOpenLeaf (V c.args.pages.now.store).state.bytes c.args.root.page c.args.key c.in-Some.leaf.page ps) (sym c.node_of.ensures.pairs)
-    (subst (λ (o : Option LeafPage). IfSome o (λ l. IsOpenLeaf (V c.args.pages.now.store).state.bytes c.args.root.page c.args.key l.page l.pairs.items)) c.in-Some.is (c.requires.fits told c.in_ok-front.ensures.cause))) in
+    let opens = λ (told : IsTrue g.S.EawStore.tells). subst (λ (p : ℕ). IsOpenLeaf (V c.args.pages.now.store).state.bytes c.args.root c.args.key p c.node_of.result.pairs.items) (sym c.node_of.ensures.page)
+    (subst (λ (ps : List Pair). IsOpenLeaf (V c.args.pages.now.store).state.bytes c.args.root c.args.key c.in-Some.leaf.page ps) (sym c.node_of.ensures.pairs)
+    (subst (λ (o : Option LeafPage). IfSome o (λ l. IsOpenLeaf (V c.args.pages.now.store).state.bytes c.args.root c.args.key l.page l.pairs.items)) c.in-Some.is (c.requires.fits told c.in_ok-front.ensures.cause))) in
     let read : IsRead (V c.args.pages.now.store).shape c.node_of.result.page c.node_of.result.level c.node_of.result.pairs.items =
     record {
       some = subst (λ (p : ℕ). 1 ≤ p) (sym c.node_of.ensures.page) place.some;
@@ -451,7 +452,7 @@ returns-in-Some-clause-inserts g c =
     let V = g.S.EawStore.view in
     let E = g.S.EawStore.opens in
     let t = c.args.tid in
-    let root = c.args.root in
+    let root : Root = record { page = c.args.root; table = c.args.table } in
     let key = c.args.key in
     let v0 = pages_of (V c.args.pages.now.store) c.args.pages.now in
     let n = c.index_page_count-count.ensures in
@@ -459,9 +460,9 @@ returns-in-Some-clause-inserts g c =
     let some : 0 < page_count (V c.args.pages.now.store).shape = omega (arith, n.some, n.all) in
     let node = c.node_of.result in
     let made = c.node_of.ensures in
-    let opens = λ (told : IsTrue g.S.EawStore.tells). subst (λ (p : ℕ). IsOpenLeaf (V c.args.pages.now.store).state.bytes c.args.root.page c.args.key p c.node_of.result.pairs.items) (sym c.node_of.ensures.page)
-    (subst (λ (ps : List Pair). IsOpenLeaf (V c.args.pages.now.store).state.bytes c.args.root.page c.args.key c.in-Some.leaf.page ps) (sym c.node_of.ensures.pairs)
-    (subst (λ (o : Option LeafPage). IfSome o (λ l. IsOpenLeaf (V c.args.pages.now.store).state.bytes c.args.root.page c.args.key l.page l.pairs.items)) c.in-Some.is (c.requires.fits told c.in_ok-front.ensures.cause))) in
+    let opens = λ (told : IsTrue g.S.EawStore.tells). subst (λ (p : ℕ). IsOpenLeaf (V c.args.pages.now.store).state.bytes c.args.root c.args.key p c.node_of.result.pairs.items) (sym c.node_of.ensures.page)
+    (subst (λ (ps : List Pair). IsOpenLeaf (V c.args.pages.now.store).state.bytes c.args.root c.args.key c.in-Some.leaf.page ps) (sym c.node_of.ensures.pairs)
+    (subst (λ (o : Option LeafPage). IfSome o (λ l. IsOpenLeaf (V c.args.pages.now.store).state.bytes c.args.root c.args.key l.page l.pairs.items)) c.in-Some.is (c.requires.fits told c.in_ok-front.ensures.cause))) in
     let small : c.args.key < 2 ^ 64 = omega arith in
     let v2 = pages_of (V c.insert_below.new.pages.store) c.insert_below.new.pages in
     place_then T E t root key v0 vs c.requires.sound c.requires.named small c.in_ok-front.ensures.looks c.in_ok-front.ensures.cause c.in_ok-front.front node.page node.level node.pairs.items made.level c.in_ok-front.ensures.says opens v2 c.insert_below.result c.insert_below.ensures.inserts
@@ -472,7 +473,7 @@ returns-in-Some-clause-works g c =
     let V = g.S.EawStore.view in
     let E = g.S.EawStore.opens in
     let t = c.args.tid in
-    let root = c.args.root in
+    let root : Root = record { page = c.args.root; table = c.args.table } in
     let key = c.args.key in
     let v0 = pages_of (V c.args.pages.now.store) c.args.pages.now in
     let n = c.index_page_count-count.ensures in
@@ -480,9 +481,9 @@ returns-in-Some-clause-works g c =
     let some : 0 < page_count (V c.args.pages.now.store).shape = omega (arith, n.some, n.all) in
     let node = c.node_of.result in
     let made = c.node_of.ensures in
-    let opens = λ (told : IsTrue g.S.EawStore.tells). subst (λ (p : ℕ). IsOpenLeaf (V c.args.pages.now.store).state.bytes c.args.root.page c.args.key p c.node_of.result.pairs.items) (sym c.node_of.ensures.page)
-    (subst (λ (ps : List Pair). IsOpenLeaf (V c.args.pages.now.store).state.bytes c.args.root.page c.args.key c.in-Some.leaf.page ps) (sym c.node_of.ensures.pairs)
-    (subst (λ (o : Option LeafPage). IfSome o (λ l. IsOpenLeaf (V c.args.pages.now.store).state.bytes c.args.root.page c.args.key l.page l.pairs.items)) c.in-Some.is (c.requires.fits told c.in_ok-front.ensures.cause))) in
+    let opens = λ (told : IsTrue g.S.EawStore.tells). subst (λ (p : ℕ). IsOpenLeaf (V c.args.pages.now.store).state.bytes c.args.root c.args.key p c.node_of.result.pairs.items) (sym c.node_of.ensures.page)
+    (subst (λ (ps : List Pair). IsOpenLeaf (V c.args.pages.now.store).state.bytes c.args.root c.args.key c.in-Some.leaf.page ps) (sym c.node_of.ensures.pairs)
+    (subst (λ (o : Option LeafPage). IfSome o (λ l. IsOpenLeaf (V c.args.pages.now.store).state.bytes c.args.root c.args.key l.page l.pairs.items)) c.in-Some.is (c.requires.fits told c.in_ok-front.ensures.cause))) in
     let small : c.args.key < 2 ^ 64 = omega arith in
     let v2 = pages_of (V c.insert_below.new.pages.store) c.insert_below.new.pages in
     let works = subst (λ (m : ℕ). WorksFrom (known_from m c.node_of.result.page) (IsTrue g.S.EawStore.tells) g.S.EawStore.tells (is_done c.insert_below.result) g.S.EawStore.view g.S.EawStore.calls c.args.tid (below c.args.key m c.node_of.result.pairs.items) (limits_below m)

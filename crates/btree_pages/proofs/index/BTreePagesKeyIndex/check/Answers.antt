@@ -23,7 +23,7 @@ use Rattle.index_pages.proofs.Trying.{SoFar, so_first, so_then, so_fails, so_end
 use Rattle.btree_pages.specs.Testing.{tree_plan, tree_testing}
 use Rattle.btree_pages.proofs.Testing.{owns_tree}
 use Rattle.std.proofs.lemmas.Result.{err_from_is_err_and}
-use Rattle.btree_pages.proofs.checking.check.Goals as goal
+use Rattle.btree_pages.proofs.index.BTreePagesKeyIndex.check.Goals as goal
 
 pub returns-in_err-front-clause-looks : goal.returns-in_err-front-clause-looks
 returns-in_err-front-clause-looks g c =

@@ -24,14 +24,15 @@ use Rattle.record_slots.specs.declared.super_page.Super.{Super}
 use Rattle.btree_pages.specs.Downward.{below, tree_finding}
 use Rattle.btree_pages.proofs.Removing.{blamed_as, ends_none, front_ends, goes_leaf, root_fails, root_then, root_two, super_fails}
 use Rattle.std.proofs.lemmas.Result.{err_from_is_err_and}
-use Rattle.btree_pages.proofs.removal.remove.Goals as goal
+use Rattle.btree_laws.specs.declared.root.Root.{Root}
+use Rattle.btree_pages.proofs.index.BTreePagesKeyIndex.remove.Goals as goal
 
 pub returns-then-not-is_index_page-clause-removes : goal.returns-then-not-is_index_page-clause-removes
 returns-then-not-is_index_page-clause-removes g c =
     let T = g.S.EawStore.tells in
     let V = g.S.EawStore.view in
     let E = g.S.EawStore.opens in
-    let root = c.args.root in
+    let root : Root = record { page = c.args.root; table = c.args.table } in
     let key = c.args.key in
     let v0 = pages_of (V c.args.pages.now.store) c.args.pages.now in
     let v1 = pages_of (V c.fetch_super.new.pages.store) c.fetch_super.new.pages in
@@ -48,7 +49,7 @@ returns-in_err-top-clause-removes g c =
     let T = g.S.EawStore.tells in
     let V = g.S.EawStore.view in
     let E = g.S.EawStore.opens in
-    let root = c.args.root in
+    let root : Root = record { page = c.args.root; table = c.args.table } in
     let key = c.args.key in
     let v0 = pages_of (V c.args.pages.now.store) c.args.pages.now in
     let v1 = pages_of (V c.fetch_super.new.pages.store) c.fetch_super.new.pages in
@@ -59,7 +60,7 @@ returns-in_err-top-clause-removes g c =
     removes_look_err T (E v0.store.shape) tree c.args.tid root.page key Node v0 v2 fault (
       looks_next T E (is_failed r) v0 v1 v2 c.in_ok-front.ensures.looks c.in_err-top.ensures.looks,
       look_cause Node Node T v0.store v1.store (IsNode (page_bytes v1.store.state.bytes root.page)) root.page fault (c.in_ok-front.ensures.looks.still refl)
-          (λ told alive. subst (λ (b : List ℕ). IsNode (page_bytes b c.args.root.page)) (sym (bytes_same T (E v0.store.shape) v0 v1 c.in_ok-front.ensures.looks told)) (root_node root v0.store.state.bytes key fits (c.requires.sound told alive) (c.requires.named told alive)))
+          (λ told alive. subst (λ (b : List ℕ). IsNode (page_bytes b c.args.root)) (sym (bytes_same T (E v0.store.shape) v0 v1 c.in_ok-front.ensures.looks told)) (root_node root v0.store.state.bytes key fits (c.requires.sound told alive) (c.requires.named told alive)))
           c.in_err-top.ensures.cause,
     ))
 
@@ -68,7 +69,7 @@ remove_below-requires-clause-closed g c =
     let T = g.S.EawStore.tells in
     let V = g.S.EawStore.view in
     let E = g.S.EawStore.opens in
-    let root = c.args.root in
+    let root : Root = record { page = c.args.root; table = c.args.table } in
     let key = c.args.key in
     let v0 = pages_of (V c.args.pages.now.store) c.args.pages.now in
     let v1 = pages_of (V c.fetch_super.new.pages.store) c.fetch_super.new.pages in
@@ -82,7 +83,7 @@ returns-then-top-gt0-clause-removes g c =
     let T = g.S.EawStore.tells in
     let V = g.S.EawStore.view in
     let E = g.S.EawStore.opens in
-    let root = c.args.root in
+    let root : Root = record { page = c.args.root; table = c.args.table } in
     let key = c.args.key in
     let v0 = pages_of (V c.args.pages.now.store) c.args.pages.now in
     let v1 = pages_of (V c.fetch_super.new.pages.store) c.fetch_super.new.pages in
@@ -97,7 +98,7 @@ returns-in_default-clause-removes g c =
     let T = g.S.EawStore.tells in
     let V = g.S.EawStore.view in
     let E = g.S.EawStore.opens in
-    let root = c.args.root in
+    let root : Root = record { page = c.args.root; table = c.args.table } in
     let key = c.args.key in
     let v0 = pages_of (V c.args.pages.now.store) c.args.pages.now in
     let v1 = pages_of (V c.fetch_super.new.pages.store) c.fetch_super.new.pages in
@@ -110,8 +111,8 @@ returns-in_default-clause-removes g c =
     removes_damaged T (E v0.store.shape) tree c.args.tid root.page key v0 v2 top.page looks alive (λ told.
     gives_back root v0.store.state.bytes key fits (c.requires.sound told c.in_ok-front.ensures.cause) (c.requires.named told c.in_ok-front.ensures.cause) top.page top.level top.pairs.items bottom
     (root_reached root v0.store.state.bytes key top.page top.level top.pairs.items c.in_ok-top.ensures.page
-    (c.in_ok-top.ensures.level told ∙ ap (λ (b : List ℕ). level_of b c.args.root.page) (bytes_same T (E v0.store.shape) v0 v1 c.in_ok-front.ensures.looks told))
-    (c.in_ok-top.ensures.pairs told ∙ ap (λ (b : List ℕ). page_pairs b c.args.root.page) (bytes_same T (E v0.store.shape) v0 v1 c.in_ok-front.ensures.looks told)))
+    (c.in_ok-top.ensures.level told ∙ ap (λ (b : List ℕ). level_of b c.args.root) (bytes_same T (E v0.store.shape) v0 v1 c.in_ok-front.ensures.looks told))
+    (c.in_ok-top.ensures.pairs told ∙ ap (λ (b : List ℕ). page_pairs b c.args.root) (bytes_same T (E v0.store.shape) v0 v1 c.in_ok-front.ensures.looks told)))
     (root_some tree v0.store.state.bytes root.page root.table key (c.requires.absent told c.in_ok-front.ensures.cause)) (c.requires.lists told c.in_ok-front.ensures.cause) c.in_ok-front.front (c.in_ok-front.ensures.says told) c.in_default.ensures.none)
 
 pub lose_pair-requires-clause-closed : goal.lose_pair-requires-clause-closed
@@ -119,7 +120,7 @@ lose_pair-requires-clause-closed g c =
     let T = g.S.EawStore.tells in
     let V = g.S.EawStore.view in
     let E = g.S.EawStore.opens in
-    let root = c.args.root in
+    let root : Root = record { page = c.args.root; table = c.args.table } in
     let key = c.args.key in
     let v0 = pages_of (V c.args.pages.now.store) c.args.pages.now in
     let v1 = pages_of (V c.fetch_super.new.pages.store) c.fetch_super.new.pages in
@@ -133,7 +134,7 @@ returns-clause-removes g c =
     let T = g.S.EawStore.tells in
     let V = g.S.EawStore.view in
     let E = g.S.EawStore.opens in
-    let root = c.args.root in
+    let root : Root = record { page = c.args.root; table = c.args.table } in
     let key = c.args.key in
     let v0 = pages_of (V c.args.pages.now.store) c.args.pages.now in
     let v1 = pages_of (V c.fetch_super.new.pages.store) c.fetch_super.new.pages in
@@ -150,7 +151,7 @@ returns-in_err-front-clause-works g c =
     let V = g.S.EawStore.view in
     let T = g.S.EawStore.tells in
     let E = g.S.EawStore.opens in
-    let root = c.args.root in
+    let root : Root = record { page = c.args.root; table = c.args.table } in
     let key = c.args.key in
     let old = c.args.pages.now.store in
     let one = c.fetch_super.new.pages.store in
@@ -167,7 +168,7 @@ returns-then-not-is_index_page-clause-works g c =
     let V = g.S.EawStore.view in
     let T = g.S.EawStore.tells in
     let E = g.S.EawStore.opens in
-    let root = c.args.root in
+    let root : Root = record { page = c.args.root; table = c.args.table } in
     let key = c.args.key in
     let old = c.args.pages.now.store in
     let one = c.fetch_super.new.pages.store in
@@ -185,7 +186,7 @@ returns-in_err-top-clause-works g c =
     let V = g.S.EawStore.view in
     let T = g.S.EawStore.tells in
     let E = g.S.EawStore.opens in
-    let root = c.args.root in
+    let root : Root = record { page = c.args.root; table = c.args.table } in
     let key = c.args.key in
     let old = c.args.pages.now.store in
     let one = c.fetch_super.new.pages.store in
@@ -196,7 +197,7 @@ returns-in_err-top-clause-works g c =
     let some : 0 < page_count v0.store.shape = omega (arith, c.index_page_count-count.ensures.some, c.index_page_count-count.ensures.all) in
     let s : Result Bool PageFault = Err c.in_err-top.field-0.0 in
     let good = c.if-not-is_index_page.ensures.0 refl in
-    let there : c.args.root.page < page_count v0.store.shape = omega (arith, good.1, c.index_page_count-count.ensures.all) in
+    let there : c.args.root < page_count v0.store.shape = omega (arith, good.1, c.index_page_count-count.ensures.all) in
     root_fails g.S.EawStore.tells V g.S.EawStore.calls c.args.tid key root.page due (blamed s) limits (omega arith) old one c.in_ok-front.ensures.reads.0 c.in_ok-front.ensures.looks.shape c.in_ok-front.ensures.reads.1 (IsNode (page_bytes v1.store.state.bytes root.page)) (g.S.EawStore.calls c.fetch_node.new.pages.store) (V c.fetch_node.new.pages.store) c.in_err-top.ensures.reads.0 (page_bytes v1.store.state.bytes root.page) c.in_err-top.field-0.0
     there (omega arith) (blamed_as Bool Node c.in_err-top.field-0.0) c.in_err-top.ensures.cause c.in_err-top.ensures.reads.1)
 
@@ -205,7 +206,7 @@ returns-then-top-gt0-clause-works g c =
     let V = g.S.EawStore.view in
     let T = g.S.EawStore.tells in
     let E = g.S.EawStore.opens in
-    let root = c.args.root in
+    let root : Root = record { page = c.args.root; table = c.args.table } in
     let key = c.args.key in
     let old = c.args.pages.now.store in
     let one = c.fetch_super.new.pages.store in
@@ -217,7 +218,7 @@ returns-then-top-gt0-clause-works g c =
     let v2 = pages_of (V c.fetch_node.new.pages.store) c.fetch_node.new.pages in
     let top = c.in_ok-top.top in
     let looks = looks_next T E false v0 v1 v2 c.in_ok-front.ensures.looks c.in_ok-top.ensures.looks in
-    let same = λ (told : IsTrue g.S.EawStore.tells). ap (λ (b : List ℕ). removal_actions (tree_removal b c.args.root.page c.args.key)) (bytes_same g.S.EawStore.tells (g.S.EawStore.opens v0.store.shape) v0 v2 looks told) in
+    let same = λ (told : IsTrue g.S.EawStore.tells). ap (λ (b : List ℕ). removal_actions (tree_removal b c.args.root c.args.key)) (bytes_same g.S.EawStore.tells (g.S.EawStore.opens v0.store.shape) v0 v2 looks told) in
     let due2 = removal_actions (tree_removal v2.store.state.bytes root.page key) in
     root_then g.S.EawStore.tells V g.S.EawStore.calls c.args.tid key root.page due (blamed c.remove_below.result) limits (omega arith) old one c.in_ok-front.ensures.reads.0 c.in_ok-front.ensures.looks.shape c.in_ok-front.ensures.reads.1 c.fetch_node.new.pages.store (V c.remove_below.new.pages.store) c.in_ok-top.ensures.reads.0 c.in_ok-top.ensures.looks.shape c.in_ok-top.ensures.reads.1 top.level top.pairs.items (c.in_ok-top.ensures.reads.2.level) c.in_ok-top.ensures.reads.2.pairs
     (is_done c.remove_below.result) (below key top.level top.pairs.items) refl (omega (arith, c.in_ok-top.ensures.read.level_most)) (omega arith) (omega arith) due2 same (0 ∷ top.page ∷ []) (λ p among. root_two p top.page root.page c.in_ok-top.ensures.page among) (c.remove_below.ensures.works)
@@ -227,7 +228,7 @@ returns-in_default-clause-works g c =
     let V = g.S.EawStore.view in
     let T = g.S.EawStore.tells in
     let E = g.S.EawStore.opens in
-    let root = c.args.root in
+    let root : Root = record { page = c.args.root; table = c.args.table } in
     let key = c.args.key in
     let old = c.args.pages.now.store in
     let one = c.fetch_super.new.pages.store in
@@ -239,7 +240,7 @@ returns-in_default-clause-works g c =
     let v2 = pages_of (V c.fetch_node.new.pages.store) c.fetch_node.new.pages in
     let top = c.in_ok-top.top in
     let looks = looks_next T E false v0 v1 v2 c.in_ok-front.ensures.looks c.in_ok-top.ensures.looks in
-    let same = λ (told : IsTrue g.S.EawStore.tells). ap (λ (b : List ℕ). removal_actions (tree_removal b c.args.root.page c.args.key)) (bytes_same g.S.EawStore.tells (g.S.EawStore.opens v0.store.shape) v0 v2 looks told) in
+    let same = λ (told : IsTrue g.S.EawStore.tells). ap (λ (b : List ℕ). removal_actions (tree_removal b c.args.root c.args.key)) (bytes_same g.S.EawStore.tells (g.S.EawStore.opens v0.store.shape) v0 v2 looks told) in
     let due2 = removal_actions (tree_removal v2.store.state.bytes root.page key) in
     let bottom : c.in_ok-top.top.level ≡ 0 = omega (arith, c.if-top-gt0.false) in
     let good = c.if-not-is_index_page.ensures.0 refl in
@@ -252,7 +253,7 @@ returns-clause-works g c =
     let V = g.S.EawStore.view in
     let T = g.S.EawStore.tells in
     let E = g.S.EawStore.opens in
-    let root = c.args.root in
+    let root : Root = record { page = c.args.root; table = c.args.table } in
     let key = c.args.key in
     let old = c.args.pages.now.store in
     let one = c.fetch_super.new.pages.store in
@@ -264,7 +265,7 @@ returns-clause-works g c =
     let v2 = pages_of (V c.fetch_node.new.pages.store) c.fetch_node.new.pages in
     let top = c.in_ok-top.top in
     let looks = looks_next T E false v0 v1 v2 c.in_ok-front.ensures.looks c.in_ok-top.ensures.looks in
-    let same = λ (told : IsTrue g.S.EawStore.tells). ap (λ (b : List ℕ). removal_actions (tree_removal b c.args.root.page c.args.key)) (bytes_same g.S.EawStore.tells (g.S.EawStore.opens v0.store.shape) v0 v2 looks told) in
+    let same = λ (told : IsTrue g.S.EawStore.tells). ap (λ (b : List ℕ). removal_actions (tree_removal b c.args.root c.args.key)) (bytes_same g.S.EawStore.tells (g.S.EawStore.opens v0.store.shape) v0 v2 looks told) in
     let due2 = removal_actions (tree_removal v2.store.state.bytes root.page key) in
     let bottom : c.in_ok-top.top.level ≡ 0 = omega (arith, c.if-top-gt0.false) in
     root_then g.S.EawStore.tells V g.S.EawStore.calls c.args.tid key root.page due (blamed c.lose_pair.result) limits (omega arith) old one c.in_ok-front.ensures.reads.0 c.in_ok-front.ensures.looks.shape c.in_ok-front.ensures.reads.1 c.fetch_node.new.pages.store (V c.lose_pair.new.pages.store) c.in_ok-top.ensures.reads.0 c.in_ok-top.ensures.looks.shape c.in_ok-top.ensures.reads.1 0 top.pairs.items (sym bottom ∙ c.in_ok-top.ensures.reads.2.level) c.in_ok-top.ensures.reads.2.pairs
