@@ -1,6 +1,6 @@
 -- The prefix law along steps.
-use Rattle.std.proofs.Common.{◌≡◌, ℕ, ◌≤◌, Bool, true, false, ⊎_elim, List, [], ◌++◌, length, take, refl, sym, ap, subst, ◌∙◌, arith, length-append}
-use Rattle.std.specs.Prelude.{IsTrue, if◌then◌else◌}
+use Rattle.std.proofs.Common.{◌≡◌, ℕ, ◌≤◌, Bool, true, false, inl, ⊎_elim, List, [], ◌++◌, length, take, refl, sym, ap, subst, ◌∙◌, arith, length-append}
+use Rattle.std.specs.Prelude.{IsTrue, ◌↔◌, if◌then◌else◌}
 use Rattle.std.proofs.lemmas.List.{take-append-le, append_assoc, append-nil}
 use Rattle.mars_base.proofs.Going as going
 use Rattle.history.specs.Writes.{Table}
@@ -54,9 +54,10 @@ prefix_of mid new least fewer image on le has =
     prefix_on mid.opens new.opens mid.state.base new.state.base (mid.state.history ++ mid.state.doubt) (new.state.history ++ new.state.doubt)
     least fewer image (on.opens image) on.base on.doubtful le has
 
--- A core continues itself,
-pub continues_none : (core : CoreView) → IsSound core.state → IsSafe core core.moment (length core.state.history) → Continues core core
-continues_none core sound safe = record {
+-- A core continues itself, in whatever words what might have been left is told,
+pub continues_as : (core : CoreView) (left : ℕ → List ℕ → Type 0) → ((t : ℕ) (image : List ℕ) → left t image ↔ core.left_since t image) → IsSound core.state → IsSafe core core.moment (length core.state.history)
+    → Continues core (record core { left_since = left })
+continues_as core left same sound safe = record {
   limits = refl;
   names = refl;
   base = refl;
@@ -64,9 +65,16 @@ continues_none core sound safe = record {
   grows = grows_none core.state.history;
   doubtful = grows_none (core.state.history ++ core.state.doubt);
   sound = sound;
-  time = going.stays core.moment core.left_since (HasPrefixOf core.opens core.state (length core.state.history));
-  now = safe;
+  time = record {
+    later = (going.stays core.moment core.left_since (HasPrefixOf core.opens core.state (length core.state.history))).later;
+    keeps = λ t image le was. (same t image).1 was;
+    only = λ t image le was. inl ((same t image).0 was);
+  };
+  now = λ image was. safe image ((same core.moment image).0 was);
 }
+
+pub continues_none : (core : CoreView) → IsSound core.state → IsSafe core core.moment (length core.state.history) → Continues core core
+continues_none core sound safe = continues_as core core.left_since (λ t image. (λ was. was, λ was. was)) sound safe
 
 -- and continuing is transitive.
 pub continues_on : (old mid new : CoreView) → Continues old mid → Continues mid new → Continues old new

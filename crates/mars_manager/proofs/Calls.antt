@@ -22,7 +22,9 @@ use Rattle.caller_steps.proofs.Able.{able_takes}
 use Rattle.caller_steps.proofs.Continuing.{grows_on, after_grows}
 use Rattle.caller_steps.proofs.Running.{last_here, turn_told, turn_grows}
 use Rattle.atomic_table.specs.Table.{rest}
+use Rattle.stripe_words.specs.declared.hold.Hold.{Hold}
 use Rattle.mars_manager.specs.declared.view.Known.{Known}
+use Rattle.mars_manager.specs.declared.view.Met.{Met}
 use Rattle.mars_manager.specs.declared.setup.Setup.{Setup}
 use Rattle.mars_manager.specs.Pass.{Fits, AllFit, names_of, own_by, waits_of, takes_of, finds, tried, told_of, times}
 use Rattle.mars_manager.specs.Locks.{with_locks, IsAgain, HasAfter}
@@ -189,29 +191,34 @@ module _ {C : Type 0} (f : Face C) where
               };
             }
 
+-- A call is the same whatever its pass had of the stripes before it, and has after it, and whatever it found and however often it tried.
+pub called_as : {C : Type 0} (tells : Bool) (show : C → CoreView) (was now later : Known C) (call : Call) (reply : Reply) (tries n : ℕ) (holds : List Hold) (met : List Met)
+    → later ≡ tried later.tries (with_locks later.holds later.met now) → Called tells show (tried tries (finds n (with_locks holds met was))) call reply now → Called tells show was call reply later
+called_as {C = C} tells show was now later call reply tries n holds met same c = record {
+  setup = c.setup;
+  turns = c.turns;
+  old = c.old;
+  new = c.new;
+  setup_is = c.setup_is;
+  since = c.since;
+  comes = c.comes;
+  whose = c.whose;
+  ready = c.ready;
+  last = c.last;
+  steps = c.steps;
+  dead = c.dead;
+  purge = c.purge;
+  after = same ∙ ap (λ (k : Known C). tried later.tries (with_locks later.holds later.met k)) c.after;
+}
+
 -- what a pass found, and what it has of the stripes, does not matter to its next call
 module _ {C : Type 0} (tells : Bool) (show : C → CoreView) (was last now : Known C) (call : Call) (reply : Reply) (n : ℕ) (a : IsAgain n was last) where
   abbrev found : Known C
   found = tried (was.tries + a.tries) (finds n (with_locks was.holds (was.met ++ a.more) was))
 
   pub called_since : Called tells show last call reply now → Called tells show was call reply now
-  called_since made =
-      let c : Called tells show found call reply now = subst (λ (j : Known C). Called tells show j call reply now) a.is made in record {
-        setup = c.setup;
-        turns = c.turns;
-        old = c.old;
-        new = c.new;
-        setup_is = c.setup_is;
-        since = c.since;
-        comes = c.comes;
-        whose = c.whose;
-        ready = c.ready;
-        last = c.last;
-        steps = c.steps;
-        dead = c.dead;
-        purge = c.purge;
-        after = c.after;
-      }
+  called_since made = called_as tells show was now now call reply (was.tries + a.tries) n was.holds (was.met ++ a.more) refl
+      (subst (λ (j : Known C). Called tells show j call reply now) a.is made)
 
   commits_if : (b waits : Bool) → MatchBool b (MatchBool waits (HasSettled tells found reply now) (call ≢ Control Settle → HasCommitted tells found reply now)) (SeesOwn found now)
       → MatchBool b (MatchBool waits (HasSettled tells was reply now) (call ≢ Control Settle → HasCommitted tells was reply now)) (SeesOwn was now)

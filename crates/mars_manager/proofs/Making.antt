@@ -20,10 +20,11 @@ use Rattle.stripe_words.specs.declared.hold.Hold.{Hold}
 use Rattle.stripe_words.specs.declared.hold.Hold.TheVariants.{Free, Trying, Shared, Exclusive}
 use Rattle.stripe_words.specs.Words.{granted, locked, raised}
 use Rattle.mars_manager.specs.declared.view.Known.{Known}
-use Rattle.mars_manager.specs.Pass.{told_of, own_by, live_of, waits_of, takes_of, names_in, names_of, known_after, tried}
+use Rattle.mars_manager.specs.Pass.{told_of, own_by, live_of, waits_of, takes_of, names_in, names_of, tried}
 use Rattle.mars_manager.specs.Locks.{locks, IsCovered, IsBelow, raised_for, is_end, is_last, takes_after, touched_by, hold_of, with_holds, with_locks, HasLockedFor, HasReadied, HasAfter}
 use Rattle.mars_manager.specs.Sharing.{Called, Commits, HasCommitted, HasSettled, SeesOwn}
 use Rattle.mars_manager.specs.Seat.{HasMade}
+use Rattle.mars_manager.proofs.Calls.{called_as}
 use Rattle.mars_manager.proofs.Knowns.{below_raised, below_same}
 use Rattle.mars_manager.proofs.Waiting.{fold-push}
 use Rattle.mars_manager.proofs.Locked.{touching, covered_with, covered_none}
@@ -146,25 +147,11 @@ module _ {C : Type 0} where
     -- a call is a step, whatever is locked before it and given back after it
     pub called_locks : (k3 : Known C) (hs : List Hold) → k3 ≡ with_holds hs k2 → Called tells show k call reply k3
     called_locks k3 hs e =
-        let c : Called tells show (with_locks k1.holds (k.met ++ r.more) k) call reply k2 = subst (λ (j : Known C). Called tells show j call reply k2) r.same m.called in
         let holds : k3.holds ≡ hs = ap (λ (j : Known C). j.holds) e in
         let met : k3.met ≡ k2.met = ap (λ (j : Known C). j.met) e in
-        let tries : k3.tries ≡ k2.tries = ap (λ (j : Known C). j.tries) e in record {
-          setup = c.setup;
-          turns = c.turns;
-          old = c.old;
-          new = c.new;
-          setup_is = c.setup_is;
-          since = c.since;
-          comes = c.comes;
-          whose = c.whose;
-          ready = c.ready;
-          last = c.last;
-          steps = c.steps;
-          dead = c.dead;
-          purge = c.purge;
-          after = e ∙ ap (with_holds hs) c.after ∙ (λ i. tried (sym tries i) (with_locks (sym holds i) (sym met i) (known_after k c.turns (show c.new).state call reply)));
-        }
+        let tries : k3.tries ≡ k2.tries = ap (λ (j : Known C). j.tries) e in
+        called_as tells show k k2 k3 call reply k.tries k.found k1.holds (k.met ++ r.more) (e ∙ (λ i. tried (sym tries i) (with_locks (sym holds i) (sym met i) k2)))
+        (subst (λ (j : Known C). Called tells show j call reply k2) r.same m.called)
 
     -- what it says of its caller's own transactions asks for no stripes
     pub called_commits : (k3 : Known C) (hs : List Hold) → k3 ≡ with_holds hs k2 → Commits tells k call reply k3

@@ -29,12 +29,12 @@ use Rattle.mars_manager.specs.declared.setup.Setup.{Setup}
 use Rattle.mars_manager.specs.Pass.{Fits, AllFit, names_in, own_by, live_of, times}
 use Rattle.mars_manager.specs.Locks.{IsCovered, IsPass, touched_by, hold_of, with_hold, noted, marked_by, excluded_by, IsUnwritten, IsUntouched}
 use Rattle.mars_manager.specs.Seat.{TableOf, SeatOf, IsSeat, IsIdle, first_of, seat_of, shared_view}
-use Rattle.mars_manager.specs.Rule.{Face, AllHave, IsFree, IsHeld, IsKept, Rule, marks, excludes, releases, backs}
+use Rattle.mars_manager.specs.Rule.{AreLocked, Face, AllHave, IsFree, IsHeld, IsKept, Rule, marks, excludes, releases, backs}
 use Rattle.mars_manager.proofs.Seats.{times_first, each_set}
 use Rattle.mars_manager.proofs.Knowns.{Covered, Moves, number_moves, moves_mark, moves_exclude, moves_note, moves_release, moves_undo, moves_back}
 use Rattle.mars_manager.proofs.Asking.{bit_is, asked_left, asked_right, Notes, notes_one, notes_none, mark_asks, exclude_asks, free_asks, back_asks}
 use Rattle.mars_manager.proofs.Locked.{covered_own}
-use Rattle.mars_manager.proofs.Turns.{some≢none, is_open, same_at, same_count, number_below, one_seat, live_at}
+use Rattle.mars_manager.proofs.Turns.{some≢none, is_open, relocked, same_at, same_count, number_below, one_seat, live_at}
 
 -- what is so of all passes where that of one has changed
 now_of : {A : Type 0} → (ℕ → A) → ℕ → A → ℕ → A
@@ -170,50 +170,35 @@ module _ {C : Type 0} (f : Face C) (setup : Setup C) where
       let fit = moved_fit s h t x k k' m (h.fit id v at).0 in
       let small : k.number < setup.callers = number_below f setup s h k.number id v at (times_first k []) in
       let same_times : (n : ℕ) → times n (k' ∷ []) ≡ times n (k ∷ []) = (λ n. ap (λ i. (if eqb i n then 1 else 0) + 0) number) in
-      let counts = (λ (n : ℕ). same_count f setup n s.views id v u at (same_times n)) in record {
-        core = h.core;
-        turns = h.turns;
-        holds = hs;
-        met = now_of h.met k.number k'.met;
-        wide = length-set s.words t w ∙ h.wide;
-        one = h.one;
-        told = get_or-set_other s.words t 65 w 0 (λ e. omega arith) ∙ h.told;
-        place = place_kept s h.core id t w v u l at refl refl h.place;
-        staged = each_set (λ i z. z.stage ≡ stage.Shared) s.views id u refl (λ j z _ e. h.staged j z e);
-        fit = each_set (λ i z. AllFit f.tells f.show setup h.turns (f.show h.core).state z.passes) s.views id u (fit, tt) (λ j z _ e. h.fit j z e);
-        once = λ n. (let t = counts n in let o = h.once n in omega arith);
-        below = λ n b. counts n ∙ h.below n b;
-        few = h.few;
-        named = h.named;
-        ready = h.ready;
-        since = h.since;
-        run = h.run;
-        whose = h.whose;
-        locks = record {
-          have = each_set (λ i z. AllHave (now_of h.holds k.number k'.holds) (now_of h.met k.number k'.met) z.passes) s.views id u
-              ((sym (ap (now_of h.holds k.number k'.holds) number ∙ now_own h.holds k.number k'.holds), sym (ap (now_of h.met k.number k'.met) number ∙ now_own h.met k.number k'.met)), tt)
-              (λ j z ne e. others_have h.holds h.met k.number k'.holds k'.met z.passes
-              (dite (ℕ_discrete (times k.number z.passes) 0) (λ (o : times k.number z.passes ≡ 0). o) (λ (nz : times k.number z.passes ≢ 0). absurd (ne (one_seat f setup s h k.number j id z v e at (omega arith) (times_first k [])))))
-              (h.locks.have j z e));
-          strangers = λ n le. (now_other h.holds k.number k'.holds n (λ e. omega arith) ∙ (h.locks.strangers n le).0, now_other h.met k.number k'.met n (λ e. omega arith) ∙ (h.locks.strangers n le).1);
-          asked = asked_now s h t (get_or s.words t 0) x k k' own mine m notes;
-          caused = caused_now s h t x k k' l mine notes;
-          long = each_now (λ n hs. length hs ≡ 64) h.holds k.number k'.holds m.long h.locks.long;
-          stripes = λ r lr. dite (ℕ_discrete r t)
-              (λ (e : r ≡ t). subst (λ i. Stands (get_or (set s.words t w) i 0) (λ n. get_or (now_of h.holds k.number k'.holds n) i Free)) (sym e)
-              (subst (λ i. Stands i (λ n. get_or (now_of h.holds k.number k'.holds n) t Free)) (sym (get_or-set_same s.words t w 0 (let z = h.wide in omega arith)))
-              (word (λ n. get_or (now_of h.holds k.number k'.holds n) t Free) (ap (λ hs. get_or hs t Free) (now_own h.holds k.number k'.holds) ∙ m.here) (λ n ne. ap (λ hs. get_or hs t Free) (now_other h.holds k.number k'.holds n ne)))))
-              (λ (ne : r ≢ t). subst (λ i. Stands i (λ n. get_or (now_of h.holds k.number k'.holds n) r Free)) (sym (get_or-set_other s.words t r w 0 ne))
-              (stands_same (get_or s.words r 0) (λ n. get_or (h.holds n) r Free) (λ n. get_or (now_of h.holds k.number k'.holds n) r Free)
-              (each_now (λ n hs. get_or hs r Free ≡ get_or (h.holds n) r Free) h.holds k.number k'.holds (m.there r ne ∙ ap (λ hs. get_or hs r Free) own) (λ n. refl))
-              (h.locks.stripes r lr)));
-          covered = λ alive. each_now (λ n hs. IsCovered (touched setup.names (unwrap_or ((f.show h.core).state.live n) [])) hs) h.holds k.number k'.holds
-              (subst (λ (i : ℕ). IsCovered (touched setup.names (calls_of (f.show h.core).state i)) k'.holds) number
-              (covered_own setup.names k'.number (own_by k') (f.show h.core).state k'.holds (live_at f setup h.turns h.core k' h.ready fit alive)
-              (subst (λ (given : Option (Setup C)). IsCovered (touched (names_in given) (unwrap_or (live_of k') [])) k'.holds) fit.setup_is m.covered)))
-              (h.locks.covered alive);
-        };
-      }
+      let locks : AreLocked setup.callers setup.names (f.show h.core).state hs (now_of h.met k.number k'.met) (set s.words t w) (set s.views id u) = record {
+        have = each_set (λ i z. AllHave (now_of h.holds k.number k'.holds) (now_of h.met k.number k'.met) z.passes) s.views id u
+            ((sym (ap (now_of h.holds k.number k'.holds) number ∙ now_own h.holds k.number k'.holds), sym (ap (now_of h.met k.number k'.met) number ∙ now_own h.met k.number k'.met)), tt)
+            (λ j z ne e. others_have h.holds h.met k.number k'.holds k'.met z.passes
+            (dite (ℕ_discrete (times k.number z.passes) 0) (λ (o : times k.number z.passes ≡ 0). o) (λ (nz : times k.number z.passes ≢ 0). absurd (ne (one_seat f setup s h k.number j id z v e at (omega arith) (times_first k [])))))
+            (h.locks.have j z e));
+        strangers = λ n le. (now_other h.holds k.number k'.holds n (λ e. omega arith) ∙ (h.locks.strangers n le).0, now_other h.met k.number k'.met n (λ e. omega arith) ∙ (h.locks.strangers n le).1);
+        asked = asked_now s h t (get_or s.words t 0) x k k' own mine m notes;
+        caused = caused_now s h t x k k' l mine notes;
+        long = each_now (λ n hs. length hs ≡ 64) h.holds k.number k'.holds m.long h.locks.long;
+        stripes = λ r lr. dite (ℕ_discrete r t)
+            (λ (e : r ≡ t). subst (λ i. Stands (get_or (set s.words t w) i 0) (λ n. get_or (now_of h.holds k.number k'.holds n) i Free)) (sym e)
+            (subst (λ i. Stands i (λ n. get_or (now_of h.holds k.number k'.holds n) t Free)) (sym (get_or-set_same s.words t w 0 (let z = h.wide in omega arith)))
+            (word (λ n. get_or (now_of h.holds k.number k'.holds n) t Free) (ap (λ hs. get_or hs t Free) (now_own h.holds k.number k'.holds) ∙ m.here) (λ n ne. ap (λ hs. get_or hs t Free) (now_other h.holds k.number k'.holds n ne)))))
+            (λ (ne : r ≢ t). subst (λ i. Stands i (λ n. get_or (now_of h.holds k.number k'.holds n) r Free)) (sym (get_or-set_other s.words t r w 0 ne))
+            (stands_same (get_or s.words r 0) (λ n. get_or (h.holds n) r Free) (λ n. get_or (now_of h.holds k.number k'.holds n) r Free)
+            (each_now (λ n hs. get_or hs r Free ≡ get_or (h.holds n) r Free) h.holds k.number k'.holds (m.there r ne ∙ ap (λ hs. get_or hs r Free) own) (λ n. refl))
+            (h.locks.stripes r lr)));
+        covered = λ alive. each_now (λ n hs. IsCovered (touched setup.names (unwrap_or ((f.show h.core).state.live n) [])) hs) h.holds k.number k'.holds
+            (subst (λ (i : ℕ). IsCovered (touched setup.names (calls_of (f.show h.core).state i)) k'.holds) number
+            (covered_own setup.names k'.number (own_by k') (f.show h.core).state k'.holds (live_at f setup h.turns h.core k' h.ready fit alive)
+            (subst (λ (given : Option (Setup C)). IsCovered (touched (names_in given) (unwrap_or (live_of k') [])) k'.holds) fit.setup_is m.covered)))
+            (h.locks.covered alive);
+      } in
+      relocked f setup s h (set s.words t w) s.homes (set s.views id u) hs (now_of h.met k.number k'.met) (length-set s.words t w ∙ h.wide) h.one
+      (get_or-set_other s.words t 65 w 0 (λ e. omega arith) ∙ h.told) (place_kept s h.core id t w v u l at refl refl h.place)
+      (each_set (λ i z. z.stage ≡ stage.Shared) s.views id u refl (λ j z _ e. h.staged j z e))
+      (each_set (λ i z. AllFit f.tells f.show setup h.turns (f.show h.core).state z.passes) s.views id u (fit, tt) (λ j z _ e. h.fit j z e))
+      (λ n. same_count f setup n s.views id v u at (same_times n)) locks
 
   has_own : (s : TableOf C) (h : IsKept f setup s) (id t : ℕ) (k : Known C) (x : Hold) → get_elem? s.views id ≡ some (shared_view (k ∷ []) None) → hold_of t k ≡ x → get_or (h.holds k.number) t Free ≡ x
   has_own s h id t k x at e = ap (λ hs. get_or hs t Free) (sym (h.locks.have id (shared_view (k ∷ []) None) at).0.0) ∙ e

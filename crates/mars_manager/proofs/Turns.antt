@@ -15,13 +15,14 @@ use Rattle.caller_steps.proofs.Running.{turns_names, all_of_append, turns_one, t
 use Rattle.atomic_table.specs.Table.{step, Act, keeps, takes, gives, stepped, Valid, carried_after, Allows}
 use Rattle.atomic_table.proofs.Lists.{set_here, set_else, exchanged}
 use Rattle.mars_manager.specs.declared.view.Known.{Known}
+use Rattle.mars_manager.specs.declared.view.Met.{Met}
 use Rattle.mars_manager.specs.declared.view.Stage.TheVariants.{Vacant, Opening, Shared}
 use Rattle.mars_manager.specs.declared.view.View.{View}
 use Rattle.mars_manager.specs.declared.setup.Setup.{Setup}
 use Rattle.mars_manager.specs.Pass.{Fits, AllFit, known_at, names_in, names_of, own_by, times, finds, hears}
 use Rattle.mars_manager.specs.Sharing.{CanShare, Since}
 use Rattle.mars_manager.specs.Seat.{TableOf, SeatOf, shared_view, opener}
-use Rattle.mars_manager.specs.Rule.{Face, AllHave, HasAlone, count, IsFree, IsHeld, IsKept, IsFresh, IsOpening, Rule, takes_turn, shown, tells_length, gives_turn, gives_read, looks}
+use Rattle.mars_manager.specs.Rule.{Face, AllHave, AreLocked, HasAlone, count, IsFree, IsHeld, IsKept, IsFresh, IsOpening, Rule, takes_turn, shown, tells_length, gives_turn, gives_read, looks}
 use Rattle.mars_manager.specs.Locks.{locks, IsCovered, hold_of}
 use Rattle.mars_manager.proofs.Locked.{locked_same, locked_step, locked_granted}
 use Rattle.stripe_words.specs.declared.hold.Hold.{Hold}
@@ -121,19 +122,19 @@ module _ {C : Type 0} (f : Face C) (setup : Setup C) where
   pub fit_before : (turns : List Turn) (core : C) (n : ℕ) (k : Known C) → Fits f.tells f.show setup turns (f.show core).state (finds n k) → Fits f.tells f.show setup turns (f.show core).state k
   fit_before turns core n k h = record { setup_is = h.setup_is; last = h.last; heard = h.heard }
 
-  -- The rule holds again if the core and its run stay as they were, and as many passes of each number are there.
-  pub same_run : (s : TableOf C) (h : IsKept f setup s) (words : List ℕ) (homes : List (Home (Option C))) (views : List (View C)) → length words ≡ 66 → length homes ≡ 1
+  -- The rule holds again if the core and its run stay as they were, as many passes of each number are there, and what they have is locked.
+  pub relocked : (s : TableOf C) (h : IsKept f setup s) (words : List ℕ) (homes : List (Home (Option C))) (views : List (View C)) (holds : ℕ → List Hold) (met : ℕ → List Met) → length words ≡ 66 → length homes ≡ 1
       → get_or words 65 0 ≡ length (f.show h.core).state.history
       → (let new : TableOf C = record { words = words; homes = homes; views = views } in IsFree h.core new ⊎ IsHeld h.core new
       → ((i : ℕ) (v : View C) → get_elem? views i ≡ some v → v.stage ≡ Shared)
       → ((i : ℕ) (v : View C) → get_elem? views i ≡ some v → AllFit f.tells f.show setup h.turns (f.show h.core).state v.passes)
-      → ((n : ℕ) → count n views ≡ count n s.views) → ((t : ℕ) → t < 64 → get_or words t 0 ≡ get_or s.words t 0) → ((i : ℕ) (v : View C) → get_elem? views i ≡ some v → AllHave h.holds h.met v.passes) → IsKept f setup new)
-  same_run s h words homes views wide one told place staged fit counts stripes have = record {
+      → ((n : ℕ) → count n views ≡ count n s.views) → AreLocked setup.callers setup.names (f.show h.core).state holds met words views → IsKept f setup new)
+  relocked s h words homes views holds met wide one told place staged fit counts locks = record {
     core = h.core;
     turns = h.turns;
-    holds = h.holds;
-    met = h.met;
-    locks = locked_same setup.callers setup.names (f.show h.core).state h.holds h.met s.words words s.views views h.locks stripes have;
+    holds = holds;
+    met = met;
+    locks = locks;
     wide = wide;
     one = one;
     told = told;
@@ -149,6 +150,16 @@ module _ {C : Type 0} (f : Face C) (setup : Setup C) where
     run = h.run;
     whose = h.whose;
   }
+
+  -- so it does where the words of the stripes stay too
+  pub same_run : (s : TableOf C) (h : IsKept f setup s) (words : List ℕ) (homes : List (Home (Option C))) (views : List (View C)) → length words ≡ 66 → length homes ≡ 1
+      → get_or words 65 0 ≡ length (f.show h.core).state.history
+      → (let new : TableOf C = record { words = words; homes = homes; views = views } in IsFree h.core new ⊎ IsHeld h.core new
+      → ((i : ℕ) (v : View C) → get_elem? views i ≡ some v → v.stage ≡ Shared)
+      → ((i : ℕ) (v : View C) → get_elem? views i ≡ some v → AllFit f.tells f.show setup h.turns (f.show h.core).state v.passes)
+      → ((n : ℕ) → count n views ≡ count n s.views) → ((t : ℕ) → t < 64 → get_or words t 0 ≡ get_or s.words t 0) → ((i : ℕ) (v : View C) → get_elem? views i ≡ some v → AllHave h.holds h.met v.passes) → IsKept f setup new)
+  same_run s h words homes views wide one told place staged fit counts stripes have = relocked s h words homes views h.holds h.met wide one told place staged fit counts
+      (locked_same setup.callers setup.names (f.show h.core).state h.holds h.met s.words words s.views views h.locks stripes have)
 
   -- A step of one seat keeps the rule if it leaves the core, the seat's passes and the number of words and homes, and what it changes is right.
   same_core : (s : TableOf C) (h : IsKept f setup s) (id : ℕ) (v w : View C) (words : List ℕ) (homes : List (Home (Option C))) → get_elem? s.views id ≡ some v

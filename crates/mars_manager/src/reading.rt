@@ -9,7 +9,7 @@ ghost use Rattle.mars_manager.specs.Seat.{first_of, seat_of, IsSeat};
 
 use crate::mars::{Again, CORE, Mars, TURN};
 use crate::pass::Pass;
-use crate::rule::{GiveRead, Take};
+use crate::rule::GiveRead;
 use crate::view::View;
 use atomic_table::Seat;
 use caller_steps::Core;
@@ -49,13 +49,7 @@ impl<C: Core + Drop> Mars<C> {
         ensures again { IfErr result (λ a. IsOther (first_of seat.old.me.0.passes) a.holder × (seat.new.me ≡ seat_of (finds (a.holder + 1) (first_of seat.old.me.0.passes)))) }
     {
         let shared = &self.table.shared;
-        let turn = u64::from(number) + 1;
-        let found = shared.compare_exchange::<Take>(seat, TURN, 0, turn);
-        if found != 0 {
-            return Err(Again {
-                holder: (found - 1) as u8,
-            });
-        }
+        self.take_turn(seat, number)?;
         let mut core = shared.exchange(seat, CORE, None).unwrap();
         let copied = kept_since(alloc, core.history(), from);
         core.forget(forgotten);

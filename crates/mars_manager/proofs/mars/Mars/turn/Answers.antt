@@ -1,4 +1,4 @@
-use Rattle.std.proofs.Common.{◌≡◌, ℕ, ◌+◌, ◌-◌, ◌<◌, List, [], ◌∷◌, Option, Some, None, refl, sym, ap, ◌∙◌, subst, arith, map}
+use Rattle.std.proofs.Common.{◌≡◌, ℕ, ◌<◌, List, [], ◌∷◌, Option, Some, refl, sym, ap, ◌∙◌, subst, arith}
 use Rattle.std.specs.Prelude.{IsTrue, IsFalse}
 use mathlib.Core.Option.{none}
 use Rattle.caller_steps.specs.Offers.{takes_calls}
@@ -8,54 +8,20 @@ use Rattle.mars_manager.specs.declared.view.Known.{Known}
 use Rattle.mars_manager.specs.Pass.{own_by, takes_of, names_of, times, finds}
 use Rattle.mars_manager.specs.Locks.{locks, IsCovered}
 use Rattle.mars_manager.specs.Sharing.{MarsView}
-use Rattle.mars_manager.specs.Seat.{SeatOf, first_of, seat_of, shared_view, Makes}
-use Rattle.mars_manager.specs.Rule.{face, Rule, HasAlone, tells_length, AreAbove}
+use Rattle.mars_manager.specs.Seat.{SeatOf, first_of, Makes}
+use Rattle.mars_manager.specs.Rule.{face, Rule, HasAlone, tells_length}
 use Rattle.mars_manager.proofs.Seats.{times_first}
 use Rattle.mars_manager.proofs.Waiting.{takes_own}
 use Rattle.mars_manager.proofs.Locked.{locked_by}
-use Rattle.mars_manager.proofs.Turns.{takes_turn_as, tells_as, gives_as}
+use Rattle.mars_manager.proofs.Turns.{tells_as, gives_as}
 use Rattle.mars_manager.proofs.Calls.{core_is, homed, moves, told_seat, made}
 use Rattle.mars_manager.proofs.mars.Mars.turn.Goals as goal
 
-pub compare_exchange-found-requires : goal.compare_exchange-found-requires
-compare_exchange-found-requires g c =
-    let f = face g.C.Core.tells g.C.Core.view in
-    let i = c.requires.seat in (
-      c.requires.table ∙ sym (ap (λ (m : MarsView g.row.C.Denot). m.table) c.self.view_is),
-      (let w = c.self.invariant.0 in omega arith),
-      takes_turn_as f c.self.inside.table.shared.key _ _ _ i.known _ i.is (ap (λ n. n + 1) (c.from-turn.ensures ∙ sym i.number)),
-    )
-
-pub returns-then-found-ne0-clause-again : goal.returns-then-found-ne0-clause-again
-returns-then-found-ne0-clause-again g c =
-    let i = c.requires.seat in
-    let e = c.compare_exchange-found.ensures in
-    let missed = e.2.1 c.if-found-ne0.true in
-    let known : i.known ≡ first_of c.args.seat.now.me.0.passes = sym (ap (λ (m : SeatOf g.row.C.Denot). first_of m.0.passes) i.is) in (
-      (
-        (λ same.
-            let ne = c.if-found-ne0.true in
-            let number = ap (λ (k : Known g.row.C.Denot). k.number) known in
-            let none = missed.2 i.known.number (omega arith) in
-            let first = times_first i.known [] in
-            let same_times = ap (λ (m : SeatOf g.row.C.Denot). times i.known.number m.0.passes) i.is in
-            omega arith),
-        (λ setup is.
-            let ne = c.if-found-ne0.true in
-            let above = (subst (λ (ks : List (Known g.row.C.Denot)). AreAbove c.compare_exchange-found.result ks) (ap (λ (m : SeatOf g.row.C.Denot). m.0.passes) i.is) missed.3).0 setup (ap (λ (k : Known g.row.C.Denot). k.setup) known ∙ is) in
-            omega arith),
-      ),
-      (let one : c.compare_exchange-found.result - 1 + 1 ≡ c.compare_exchange-found.result = (let ne = c.if-found-ne0.true in omega arith) in
-          let now : List (Known g.row.C.Denot) → SeatOf g.row.C.Denot = λ ks. (shared_view (map (finds c.compare_exchange-found.result) ks) None, []) in
-          missed.0 ∙ ap (λ (m : SeatOf g.row.C.Denot). now m.0.passes) i.is ∙ (λ j. seat_of (finds (sym one j) (known j)))),
-    )
-
 pub exchange-requires : goal.exchange-requires
 exchange-requires g c =
-    let e = c.compare_exchange-found.ensures in
-    let took = e.2.0 c.if-found-ne0.false in
+    let took = c.in_ok-take_turn.ensures.took in
     let carried = ap (λ (m : SeatOf g.row.C.Denot). m.1) took.now in (
-      e.0 ∙ c.requires.table ∙ sym (ap (λ (m : MarsView g.row.C.Denot). m.table) c.self.view_is),
+      c.take_turn.ensures.table.0 ∙ c.requires.table ∙ sym (ap (λ (m : MarsView g.row.C.Denot). m.table) c.self.view_is),
       (Some took.core, carried ∙ ap (λ (l : List (ℕ × Option g.row.C.Denot)). (0, Some took.core) ∷ rest l) (sym carried)),
     )
 
@@ -63,7 +29,7 @@ pub step_locked-reply-requires : goal.step_locked-reply-requires
 step_locked-reply-requires g c =
     let f = face g.C.Core.tells g.C.Core.view in
     let i = c.requires.seat in
-    let took = c.compare_exchange-found.ensures.2.0 c.if-found-ne0.false in
+    let took = c.in_ok-take_turn.ensures.took in
     let core = core_is f _ _ c.unwrap-core.result _ took c.exchange.ensures.2 c.unwrap-core.ensures in
     let has = times_first i.known [] in
     let same_times = ap (λ (m : SeatOf g.row.C.Denot). times i.known.number m.0.passes) i.is in
@@ -80,8 +46,7 @@ pub tell-requires : goal.tell-requires
 tell-requires g c =
     let f = face g.C.Core.tells g.C.Core.view in
     let i = c.requires.seat in
-    let e = c.compare_exchange-found.ensures in
-    let took = e.2.0 c.if-found-ne0.false in
+    let took = c.in_ok-take_turn.ensures.took in
     let new = c.step_locked-reply.new.self in
     let call = c.args.call.now in
     let reply = c.step_locked-reply.result in
@@ -99,7 +64,7 @@ tell-requires g c =
     ((λ j. takes_calls (g.C.Core.view (core j)).state (sym (ap (λ (k : Known g.row.C.Denot). k.number) known) j)) ∙ takes)))) in
     let key = c.self.inside.table.shared.key in
     let rule = tells_as f key c.self.inside.table.shared.table_id.slots seat.id c.told-told.result (finds 0 i.known) call reply c.unwrap-core.result new seat.me home (does key) has c.told-told.ensures in record {
-      table = c.exchange-2.ensures.0 ∙ c.exchange.ensures.0 ∙ e.0 ∙ c.requires.table;
+      table = c.exchange-2.ensures.0 ∙ c.exchange.ensures.0 ∙ c.take_turn.ensures.table.0 ∙ c.requires.table;
       picked = (refl, refl);
       rule = subst (λ (m : MarsView g.row.C.Denot). Allows (Rule f m.setup) m.table.slots seat.id seat.me 65 (λ _. c.told-told.result) (λ _. tells_length f call reply (step m.table.slots 65 c.told-told.result 0 none) seat.me c.told-told.result)) c.self.view_is rule;
     }
@@ -108,12 +73,11 @@ pub store-requires : goal.store-requires
 store-requires g c =
     let f = face g.C.Core.tells g.C.Core.view in
     let i = c.requires.seat in
-    let e = c.compare_exchange-found.ensures in
-    let took = e.2.0 c.if-found-ne0.false in
+    let took = c.in_ok-take_turn.ensures.took in
     let s = c.step_locked-reply.ensures in
     let told = told_seat f _ _ _ _ i.known c.unwrap-core.result c.step_locked-reply.new.self _ i.is took c.exchange.ensures.2 c.unwrap-core.ensures c.exchange.ensures.3 c.exchange-2.ensures.3
     _ c.args.call.now c.step_locked-reply.result i.number s.steps s.dead s.tabled s.not_busy _ c.tell.ensures.told in (
-      c.tell.ensures.same.0 ∙ c.exchange-2.ensures.0 ∙ c.exchange.ensures.0 ∙ e.0 ∙ c.requires.table ∙ sym (ap (λ (m : MarsView g.row.C.Denot). m.table) c.self.view_is),
+      c.tell.ensures.same.0 ∙ c.exchange-2.ensures.0 ∙ c.exchange.ensures.0 ∙ c.take_turn.ensures.table.0 ∙ c.requires.table ∙ sym (ap (λ (m : MarsView g.row.C.Denot). m.table) c.self.view_is),
       (let w = c.self.invariant.0 in omega arith),
       gives_as f c.self.inside.table.shared.key _ _ _ c.step_locked-reply.new.self _ told,
     )
@@ -122,7 +86,7 @@ pub returns-clause-made : goal.returns-clause-made
 returns-clause-made g c =
     let f = face g.C.Core.tells g.C.Core.view in
     let i = c.requires.seat in
-    let took = c.compare_exchange-found.ensures.2.0 c.if-found-ne0.false in
+    let took = c.in_ok-take_turn.ensures.took in
     let s = c.step_locked-reply.ensures in
     let m = made f _ _ _ _ i.known c.unwrap-core.result c.step_locked-reply.new.self _ i.is took c.exchange.ensures.2 c.unwrap-core.ensures c.exchange.ensures.3 c.exchange-2.ensures.3
     _ c.args.call.now c.step_locked-reply.result i.number s.steps s.dead s.tabled s.not_busy _ c.tell.ensures.told s.purge _ c.store.ensures.2 in
