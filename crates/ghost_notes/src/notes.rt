@@ -17,7 +17,7 @@ impl<T> Model for Notes<T> {
 }
 
 // They own nothing, so they may go to another thread.
-unsafe impl<T: Send> Send for Notes<T> {}
+unsafe impl<T> Send for Notes<T> {}
 
 impl<T> Notes<T> {
     pub fn new() -> Notes<T>

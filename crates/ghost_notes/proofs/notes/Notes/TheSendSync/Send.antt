@@ -1,7 +1,7 @@
--- A list that exists only in proofs owns nothing, so it may go to another thread.
+-- A list that exists only in proofs owns nothing, so it may go to another thread, whatever it is a list of.
 use denote.RattleType.{RattleType}
-use denote.Param.Send.{IsSend, owning_send, sendable}
-use Rattle.ghost_notes.specs.contracts.notes.Notes.{the_row, the_type}
+use denote.Param.Send.{IsSend}
+use Rattle.ghost_notes.specs.contracts.notes.Notes.{the_row}
 
-pub send : (T : RattleType) → IsSend T → IsSend (the_row T)
-send T t = owning_send (the_type T) (search sendable, tt) (λ d. tt) (λ k x w. tt)
+pub send : (T : RattleType) → IsSend (the_row T)
+send T = record { owned = λ n vs. ((λ vss. (tt, ((λ uss. (tt, tt)), tt))), tt); leaving = λ k d w. tt }
