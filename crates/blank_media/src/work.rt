@@ -25,7 +25,7 @@ impl Model for Work {
 
     ghost Value = { Tape };
 
-    ghost view = { λ w. tape_of w.len w.moment w.faults w.notes.entries };
+    ghost view = { λ w. tape_of w.len w.moment w.faults w.notes.said };
 }
 
 impl Work {

@@ -4,12 +4,12 @@ ghost use base.Fml.{ftrue};
 
 use std::marker::{Model, PhantomData};
 
-/// A list that exists only in proofs: at run time it has no bytes, and a step of it is no instruction. What stands in it a caller picks, in its
+/// A list that exists only in proofs: at run time it has no bytes, and a step of it is no instruction. What is said in it a caller picks, in its
 /// proof, from what it passes.
 #[derive(Drop)]
 pub struct Notes<T> {
     of: PhantomData<T>,
-    pub ghost entries: { List T },
+    pub ghost said: { List T },
 }
 
 impl<T> Model for Notes<T> {
@@ -21,25 +21,25 @@ unsafe impl<T> Send for Notes<T> {}
 
 impl<T> Notes<T> {
     pub fn new() -> Notes<T>
-        ensures { result.entries ≡ [] }
+        ensures { result.said ≡ [] }
     {
         Notes::of(&())
     }
 
-    /// The entries that its caller picks.
+    /// All that its caller picks.
     #[inline(always)]
     pub fn of<A>(_from: &A) -> Notes<T>
-        ghost entries: { List T }
-        ensures { result.entries ≡ entries }
+        ghost all: { List T }
+        ensures { result.said ≡ all }
     {
         Notes { of: PhantomData }
     }
 
-    /// The same with one more entry behind them, which its caller picks.
+    /// The same, and behind it one more that its caller picks.
     #[inline(always)]
     pub fn then<A>(&self, _from: &A) -> Notes<T>
-        ghost entry: { T }
-        ensures { result.entries ≡ self.now.entries ++ entry ∷ [] }
+        ghost more: { T }
+        ensures { result.said ≡ self.now.said ++ more ∷ [] }
     {
         Notes::of(self)
     }

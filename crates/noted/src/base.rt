@@ -24,9 +24,9 @@ impl<H: Keeper> Model for Base<H> {
 
     ghost Value = { List NamedRows };
 
-    ghost view = { λ b. b.notes.entries };
+    ghost view = { λ b. b.notes.said };
 
-    ghost invariant = { λ b. IfSome b.kept (λ tables. tables ≡ b.notes.entries) × (IsTrue H.keeps → IsSome b.kept) };
+    ghost invariant = { λ b. IfSome b.kept (λ tables. tables ≡ b.notes.said) × (IsTrue H.keeps → IsSome b.kept) };
 }
 
 impl<H: Keeper> Base<H> {

@@ -23,9 +23,9 @@ impl<H: Keeper> Model for LiveCalls<H> {
 
     ghost Value = { List (TableCall × Reply) };
 
-    ghost view = { λ c. c.notes.entries };
+    ghost view = { λ c. c.notes.said };
 
-    ghost invariant = { λ c. IfSome c.kept (λ calls. calls ≡ c.notes.entries) × (IsTrue H.keeps → IsSome c.kept) };
+    ghost invariant = { λ c. IfSome c.kept (λ calls. calls ≡ c.notes.said) × (IsTrue H.keeps → IsSome c.kept) };
 }
 
 impl<H: Keeper> LiveCalls<H> {
@@ -79,7 +79,7 @@ impl<H: Keeper> LiveCalls<H> {
     pub(crate) fn into_parts(self) -> (Option<Calls>, Notes<(TableCall, Reply)>)
         ensures calls { IfSome result.0 (λ calls. calls ≡ self) }
         ensures kept { IsTrue H.keeps → IsSome result.0 }
-        ensures notes { result.1.entries ≡ self }
+        ensures notes { result.1.said ≡ self }
     {
         let LiveCalls {
             kept,
@@ -105,9 +105,9 @@ impl<H: Keeper> Model for LiveCallsWithRoom<H> {
 
     ghost Value = { List (TableCall × Reply) };
 
-    ghost view = { λ c. c.notes.entries };
+    ghost view = { λ c. c.notes.said };
 
-    ghost invariant = { λ c. IfSome c.kept (λ calls. calls ≡ c.notes.entries) × (IsTrue H.keeps → IsSome c.kept) };
+    ghost invariant = { λ c. IfSome c.kept (λ calls. calls ≡ c.notes.said) × (IsTrue H.keeps → IsSome c.kept) };
 }
 
 impl<H: Keeper> LiveCallsWithRoom<H> {

@@ -29,10 +29,10 @@ impl<H: Keeper> Model for Dones<H> {
 
     ghost Value = { Roomy };
 
-    ghost view = { λ d. record { items = d.notes.entries; first = d.first; capacity = d.room } };
+    ghost view = { λ d. record { items = d.notes.said; first = d.first; capacity = d.room } };
 
-    ghost invariant = { λ d. (d.count ≡ length d.notes.entries) × (d.count ≤ d.room) × (d.room ≤ 2 ^ 63) × (d.first ≤ d.count) × (IsFalse H.forgets → d.first ≡ 0)
-        × IfSome d.kept (λ dones. (dones.items ≡ drop d.first d.notes.entries) × (d.room ≤ d.first + vec_capacity dones)) × (IsTrue H.keeps → IsSome d.kept) };
+    ghost invariant = { λ d. (d.count ≡ length d.notes.said) × (d.count ≤ d.room) × (d.room ≤ 2 ^ 63) × (d.first ≤ d.count) × (IsFalse H.forgets → d.first ≡ 0)
+        × IfSome d.kept (λ dones. (dones.items ≡ drop d.first d.notes.said) × (d.room ≤ d.first + vec_capacity dones)) × (IsTrue H.keeps → IsSome d.kept) };
 }
 
 impl<H: Keeper> Dones<H> {
@@ -132,7 +132,7 @@ impl<H: Keeper> Dones<H> {
         requires { self.first ≡ 0 }
         ensures dones { IfSome result.0 (λ dones. dones.items ≡ self.items) }
         ensures kept { IsTrue H.keeps → IsSome result.0 }
-        ensures notes { result.1.entries ≡ self.items }
+        ensures notes { result.1.said ≡ self.items }
     {
         let Dones {
             kept,

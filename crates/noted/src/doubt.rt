@@ -29,9 +29,9 @@ impl<H: Keeper> Model for Doubt<H> {
 
     ghost Value = { List Done };
 
-    ghost view = { λ d. d.notes.entries };
+    ghost view = { λ d. d.notes.said };
 
-    ghost invariant = { λ d. IfSome d.kept (λ dones. all_of dones ≡ d.notes.entries) × (IsTrue H.keeps → IsSome d.kept) };
+    ghost invariant = { λ d. IfSome d.kept (λ dones. all_of dones ≡ d.notes.said) × (IsTrue H.keeps → IsSome d.kept) };
 }
 
 impl<H: Keeper> Doubt<H> {

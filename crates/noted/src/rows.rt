@@ -22,9 +22,9 @@ impl<H: Keeper> Model for NotedRows<H> {
 
     ghost Value = { List (ℕ × List ℕ) };
 
-    ghost view = { λ r. r.notes.entries };
+    ghost view = { λ r. r.notes.said };
 
-    ghost invariant = { λ r. IfSome r.kept (λ rows. rows ≡ r.notes.entries) × (IsTrue H.keeps → IsSome r.kept) };
+    ghost invariant = { λ r. IfSome r.kept (λ rows. rows ≡ r.notes.said) × (IsTrue H.keeps → IsSome r.kept) };
 }
 
 impl<H: Keeper> NotedRows<H> {
@@ -81,7 +81,7 @@ impl<H: Keeper> NotedRows<H> {
     pub(crate) fn into_parts(self) -> (Option<Rows>, Notes<(u64, Value)>)
         ensures rows { IfSome result.0 (λ rows. rows ≡ self) }
         ensures kept { IsTrue H.keeps → IsSome result.0 }
-        ensures notes { result.1.entries ≡ self }
+        ensures notes { result.1.said ≡ self }
     {
         let NotedRows {
             kept,

@@ -1,4 +1,4 @@
--- `of` makes the empty struct, with the entries that its caller picks. Assumes `Logic`.
+-- `of` makes the empty struct, with the list that its caller picks. Assumes `Logic`.
 use Rattle.std.proofs.Common.{List, [], ◌∷◌, ◌++◌, refl}
 use seplogic.Ra.Ura.{Ura}
 use mir.Syntax.{Fn, Args, a_type}
@@ -67,7 +67,7 @@ module _ (T A : RattleType) where
       walks =
           let a = z.0.3 in
           let vss = z.0.4 in
-          let made : (Notes.the_row (param 0 T)).Denot = record { of = record {}; entries = z.1 } in
+          let made : (Notes.the_row (param 0 T)).Denot = record { of = record {}; said = z.1 } in
           qed 𝓛 ((raw toks ⊛ ‵ (owns (types_at ended.signature.params z.0.0) a vss)) ∷ raw ((held z.0.0 a).requires z.1) ∷ []) ∵
           keep ! (0 ∷ []) $ split ! $ move ! (1 ∷ []) $
           fsplit ! $ fsplit ! $ feq_l ! (λ is₀. drop ! $ drop ! $
