@@ -45,7 +45,7 @@ fn all_worked<R: Threads + Wait + Sync, C: Core + Drop + Send, G: Gate + Sync>(
     requires ready { (i : ℕ) (w : Worker C) → i < length workers.items → CanWork mars.now (slice_index_or workers.items i w) }
     ensures many { length result.items ≡ length workers.items }
     ensures worked { (i : ℕ) (w : Worker C) → i < length workers.items → HasWorked (slice_index_or workers.items i w) (slice_index_or result.items i w) }
-    ensures told { (i : ℕ) (w : Worker C) → i < length workers.items → AllMore (G.told gate.now) (slice_index_or workers.items i w).told.places (slice_index_or result.items i w).told.places }
+    ensures told { (i : ℕ) (w : Worker C) → i < length workers.items → AllMore (G.told gate.now) (slice_index_or workers.items i w).told.said (slice_index_or result.items i w).told.said }
 {
     work_all(rt, mars, &mut workers, gate);
     workers
@@ -134,7 +134,7 @@ fn all_work<
     requires open { (names : List (List ℕ)) × (base : Table) × All (IsReady names B.book base) crew.1.items }
     ensures many { length result.0.items ≡ length crew.0.items }
     ensures worked { (i : ℕ) (w : Worker C) → i < length crew.0.items → HasWorked (slice_index_or crew.0.items i w) (slice_index_or result.0.items i w) }
-    ensures told { (i : ℕ) (w : Worker C) → i < length crew.0.items → AllMore (G.told gate.now) (slice_index_or crew.0.items i w).told.places (slice_index_or result.0.items i w).told.places }
+    ensures told { (i : ℕ) (w : Worker C) → i < length crew.0.items → AllMore (G.told gate.now) (slice_index_or crew.0.items i w).told.said (slice_index_or result.0.items i w).told.said }
     ensures pass { (result.1.table ≡ B.table) × IsOnlooker B.number result.1.known }
     ensures answered { IfOk result.2 (λ told. (names : List (List ℕ)) (base : Table) → All (IsReady names B.book base) crew.1.items → AllAnswer names base result.1.known.seen (keys_of crew.1.items) told.items) }
 {
@@ -160,7 +160,7 @@ fn all_work<
         move || -> Vec<Worker<C>>
             requires { (0 < length workers.items) × ((i : ℕ) (w : Worker C) → i < length workers.items → CanWork mars.now (slice_index_or workers.items i w)) }
             ensures { (length result.items ≡ length workers.items) × ((i : ℕ) (w : Worker C) → i < length workers.items → HasWorked (slice_index_or workers.items i w) (slice_index_or result.items i w))
-                × ((i : ℕ) (w : Worker C) → i < length workers.items → AllMore (G.told at_ends.entry.now.gate.now) (slice_index_or workers.items i w).told.places (slice_index_or result.items i w).told.places) }
+                × ((i : ℕ) (w : Worker C) → i < length workers.items → AllMore (G.told at_ends.entry.now.gate.now) (slice_index_or workers.items i w).told.said (slice_index_or result.items i w).told.said) }
         { all_worked(rt, mars, workers, at_ends) },
         move || -> Vec<ReadWorker>
             requires { (0 < length readers.items) × ((i : ℕ) (w : ReadWorker) → i < length readers.items → CanRead (slice_index_or readers.items i w)) }
