@@ -1,5 +1,5 @@
 // Callers and readers beside each other.
-ghost use Rattle.std.specs.Prelude.{◌≡◌, ◌<◌, ◌≤◌, ◌+◌, ℕ, List, [], All, length, slice_index_or, vec_capacity, IfOk, IfErr, OnOk};
+ghost use Rattle.std.specs.Prelude.{◌≡◌, ◌<◌, ◌≤◌, ◌+◌, ℕ, List, [], All, length, slice_index_or, vec_capacity, IfOk, IfErr};
 ghost use mathlib.Core.List.{IsPrefix};
 ghost use Rattle.history.specs.Writes.{Table};
 ghost use Rattle.mars_manager.specs.Sharing.{CanShare};
@@ -9,7 +9,6 @@ ghost use Rattle.caller_work.specs.Crew.{IsBlank, KnowsFirst};
 ghost use Rattle.caller_work.specs.Standing.{CanWork, HasWorked};
 ghost use Rattle.caller_work.specs.Telling.{AllMore};
 ghost use Rattle.caller_work.specs.Worked.{Worked};
-ghost use Rattle.snapshot_readers.specs.Batches.{joined};
 ghost use Rattle.snapshot_readers.specs.Feeds.{fed, fed_book, read, read_book};
 ghost use Rattle.reader_work.specs.declared.reading.ReadWorker.{ReadWorker};
 ghost use Rattle.reader_work.specs.News.{IsBehind, IsOnlooker};

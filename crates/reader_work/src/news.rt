@@ -1,6 +1,6 @@
 // The feed of what callers commit.
 ghost use Rattle.std.specs.Prelude.{◌≡◌, ◌+◌, ℕ, IfOk, IfErr, IfSome};
-ghost use Rattle.mars_manager.specs.Pass.{told_of, finds};
+ghost use Rattle.mars_manager.specs.Pass.{finds};
 ghost use Rattle.mars_manager.specs.Sharing.{Reads};
 ghost use Rattle.snapshot_readers.specs.Batches.{joined};
 ghost use Rattle.snapshot_readers.specs.Feeds.{fed_book, told};

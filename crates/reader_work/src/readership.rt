@@ -1,5 +1,5 @@
 // The readers of a script before their work.
-ghost use Rattle.std.specs.Prelude.{◌≡◌, ◌<◌, ◌≤◌, [], All, length, vec_capacity, IfOk, IfSome};
+ghost use Rattle.std.specs.Prelude.{◌≡◌, ◌<◌, ◌≤◌, All, length, IfOk};
 ghost use Rattle.logbook.specs.Pages.{Book};
 ghost use Rattle.history.specs.Writes.{Table};
 ghost use Rattle.history.specs.Rows.{table_of};
