@@ -42,7 +42,7 @@ use Rattle.record_table.specs.State.{TableState, Keys}
 use Rattle.record_table.specs.declared.fault.TableFault.{TableFault}
 use Rattle.record_table.specs.declared.fault.TableFault.TheVariants.{SavesFull}
 use Rattle.record_table.specs.declared.fault.TableFault.TheVariants as refusal
-use Rattle.record_table.proofs.Doing.{does_dead, holds_dead, holds_same, indexed_same}
+use Rattle.record_table.proofs.Doing.{does_broken, does_dead, holds_dead, holds_same, indexed_same}
 use Rattle.record_table.proofs.Moving.{opens_with}
 use Rattle.record_table.proofs.Sharing.{Laws}
 use Rattle.record_table.proofs.SlotParts.{applied_parts}
@@ -144,26 +144,9 @@ module _ (tells : Bool) (Opens : List ℕ → List ℕ → Type 0) (index : Inde
   ends (Err fault.Media) does same right =
       let alive = does.cause.0 in
       let is = call alive in (
-        record {
-          shape = does.shape;
-          depth = does.depth;
-          mirrors = does.mirrors;
-          cause = alive;
-          faults = λ well. absurd (false≢true (sym well));
-          dies = λ _. (does.dies refl, does.cause.2);
-          replies = λ told. tt;
-          done = λ told. tt;
-          refused = λ told well. absurd (false≢true (sym well));
-          indexed = λ told _ well. absurd (false≢true (sym well));
-          quiet = λ told well. absurd (false≢true (sym well));
-          version = λ told well. absurd (false≢true (sym well));
-          tables = λ told well. absurd (false≢true (sym well));
-          saves = tt;
-          same_saves = does.marks.0;
-          others = λ u ne. (does.others u (λ e. ne (is.named u e)), ap (λ (f : ℕ → List ℕ). f u) does.marks.0);
-          time = λ told _. with_of (let r : Result T PageFault = Err fault.Media in r) alive does told;
-          named = λ told _. time_of (let r : Result T PageFault = Err fault.Media in r) alive does told;
-        },
+        does_broken tells Opens index table t c old new alive
+            (record { shape = does.shape; depth = does.depth; mirrors = does.mirrors; dies = (does.dies refl, does.cause.2); counts = does.marks.0; others = λ u ne. does.others u (λ e. ne (is.named u e)) })
+            (with_of (let r : Result T PageFault = Err fault.Media in r) alive does) (time_of (let r : Result T PageFault = Err fault.Media in r) alive does),
         holds_dead tells Opens index table t c old new (does.dies refl),
       )
   ends (Err fault.Dead) does same right = let e = same fault.Dead refl (λ x. cc) in (does_dead tells Opens index table t c old new e does.cause, holds_same tells Opens index table t c old new holds e)

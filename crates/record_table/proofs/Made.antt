@@ -148,32 +148,6 @@ module _ (tells : Bool) (Opens : List ℕ → List ℕ → Type 0) (index : Inde
     time = λ told _. time told;
   }
 
-  -- the store was dead
-  was_dead : (old : PagesView) → old.store.is_dead ≡ true → Makes tells Opens index name old old (Err unmade.Dead)
-  was_dead old dead = record {
-    shape = refl;
-    depth = refl;
-    mirrors = none_sent tells old.store old.store refl refl refl refl (λ fine. fine) (λ told mirrors fine. refl);
-    cause = dead;
-    faults = λ _. (refl, refl);
-    dies = λ failed. absurd (false≢true failed);
-    version = λ told. tt;
-    tables = λ told. tt;
-    empty = λ told. tt;
-    indexes = λ told. tt;
-    keys = λ told. tt;
-    state = λ told. tt;
-    free = tt;
-    same_tables = λ told _. refl;
-    same_keys = λ told _. refl;
-    same_state = λ told _. refl;
-    same_numbers = λ _. (refl, refl);
-    upgrades = λ told. tt;
-    quiet = λ told _ two. refl;
-    others = λ u ne. (refl, refl);
-    time = λ told alive. absurd (false≢true (sym alive ∙ dead));
-  }
-
   -- at most the version has changed
   refused_by : (old now : PagesView) (f : MakeFault) → (let r : Result ℕ MakeFault = Err f in IsFalse (is_make_failed r) × MakeCause tells name old.store r) → now.store.shape ≡ old.store.shape → Mirrors tells old.store now.store → now.store.is_dead ≡ old.store.is_dead
       → now.store.faults ≡ old.store.faults → now.counts ≡ old.counts → now.store.ranges 0 ≡ old.store.ranges 0 → ((u : ℕ) → u ≢ 0 → now.store.ranges u ≡ old.store.ranges u)
@@ -203,6 +177,12 @@ module _ (tells : Bool) (Opens : List ℕ → List ℕ → Type 0) (index : Inde
     others = λ u ne. (others u ne, ap (λ (f : ℕ → List ℕ). f u) counts);
     time = λ told alive. either old now (time told alive);
   }
+
+  -- the store was dead
+  was_dead : (old : PagesView) → old.store.is_dead ≡ true → Makes tells Opens index name old old (Err unmade.Dead)
+  was_dead old dead =
+      refused_by old old unmade.Dead (refl, dead) refl (none_sent tells old.store old.store refl refl refl refl (λ fine. fine) (λ told mirrors fine. refl)) refl refl refl refl (λ u ne. refl) (λ told. refl) (λ told. refl) (λ told. refl)
+      (λ told two. refl) (λ told alive. absurd (false≢true (sym alive ∙ dead))) (λ told. tt)
 
   refused_ready : (old now : PagesView) (f : MakeFault) → Ready old now → (let r : Result ℕ MakeFault = Err f in IsFalse (is_make_failed r) × MakeCause tells name old.store r) → Makes tells Opens index name old now (Err f)
   refused_ready old now f ready well =
