@@ -4,7 +4,7 @@ use Rattle.std.specs.Prelude.{Option, Some, None, is_some, IsFalse, IsErrOf, IfO
 use Rattle.std.specs.FinMap.{get}
 use Rattle.std.proofs.lemmas.Bool.{false≢true}
 use Rattle.mars_base.specs.Causes.{Rose}
-use Rattle.mars_base.proofs.Going.{then, weaker}
+use Rattle.mars_base.proofs.Going.{stays, then, weaker}
 use Rattle.array_shape.specs.declared.shape.Shape.{Shape}
 use Rattle.eaw_face.specs.State.{State, count_on}
 use Rattle.eaw_face.specs.Causes.{IsAlive}
@@ -68,7 +68,6 @@ pub record Stays (index : Index) (t : ℕ) (c : Call) (old : PagesView) (reply :
 -- what is left of pages when the medium failed in a call for this number
 pub record Broken (tells : Bool) (t : ℕ) (old new : PagesView) : Type 0 where
   pub shape : new.store.shape ≡ old.store.shape
-  pub depth : new.store.depth ≡ old.store.depth
   pub mirrors : Mirrors tells old.store new.store
   pub dies : (new.store.is_dead ≡ true) × Rose old.store.faults new.store.faults
   pub counts : new.counts ≡ old.counts
@@ -106,7 +105,7 @@ module _ (tells : Bool) (Opens : List ℕ → List ℕ → Type 0) (index : Inde
       → Does tells Opens index table t c old new (Err Media)
   does_broken alive broken time named = record {
     shape = broken.shape;
-    depth = broken.depth;
+    depth = broken.mirrors.depth;
     mirrors = broken.mirrors;
     cause = alive;
     faults = λ well. absurd (false≢true (sym well));
@@ -127,34 +126,36 @@ module _ (tells : Bool) (Opens : List ℕ → List ℕ → Type 0) (index : Inde
 
   pub does_failed : IsAlive old.store → Failed tells Opens index t old new → Does tells Opens index table t c old new (Err Media)
   does_failed alive failed =
-      does_broken alive (record { shape = failed.shape; depth = failed.depth; mirrors = failed.mirrors; dies = failed.dies; counts = failed.counts; others = failed.others })
+      does_broken alive (record { shape = failed.shape; mirrors = failed.mirrors; dies = failed.dies; counts = failed.counts; others = failed.others })
       (λ told. weaker (λ image opens. inl (opens_with Opens index image _ _ opens)) (failed.time told)) (λ told. weaker (λ image opens. inl opens) (failed.time told))
 
-  -- the store was dead
-  does_dead_same : old.store.is_dead ≡ true → Does tells Opens index table t c old old (Err Dead)
-  does_dead_same dead = record {
+  -- it was refused, and nothing has changed
+  pub does_nothing : (f : TableFault) → (let r : Result Reply TableFault = Err f in IsFalse (answers.is_failed r) × Cause tells index table t c old r)
+      → (IsTrue tells → IsAlive old.store → (let r : Result Reply TableFault = Err f in Indexed table c (keys_of index old.store.state.bytes) (keys_of index old.store.state.bytes) r)) → Does tells Opens index table t c old old (Err f)
+  does_nothing f well indexed = record {
     shape = refl;
     depth = refl;
     mirrors = none_sent tells old.store old.store refl refl refl refl (λ fine. fine) (λ told mirrors fine. refl);
-    cause = dead;
+    cause = well.1;
     faults = λ _. (refl, refl);
-    dies = λ failed. absurd (false≢true failed);
+    dies = λ failed. absurd (false≢true (sym well.0 ∙ failed));
     replies = λ told. tt;
     done = λ told. tt;
     refused = λ told _. refl;
-    indexed = λ told alive _. absurd (false≢true (sym alive ∙ dead));
+    indexed = λ told alive _. indexed told alive;
     quiet = λ told _ _. refl;
     version = λ told _ two. two;
     tables = λ told _. refl;
     saves = tt;
     same_saves = refl;
     others = λ u ne. (refl, refl);
-    time = λ told alive. absurd (false≢true (sym alive ∙ dead));
-    named = λ told alive. absurd (false≢true (sym alive ∙ dead));
+    time = λ told _. stays old.store.moment old.store.left_since _;
+    named = λ told _. stays old.store.moment old.store.left_since _;
   }
 
+  -- the store was dead
   pub does_dead : new ≡ old → old.store.is_dead ≡ true → Does tells Opens index table t c old new (Err Dead)
-  does_dead same dead = subst (λ (v : PagesView). Does tells Opens index table t c old v (Err Dead)) (sym same) (does_dead_same dead)
+  does_dead same dead = subst (λ (v : PagesView). Does tells Opens index table t c old v (Err Dead)) (sym same) (does_nothing Dead (refl, dead) (λ told alive. absurd (false≢true (sym alive ∙ dead))))
 
   pub holds_dead : new.store.is_dead ≡ true → Holds tells index new
   holds_dead dead alive = absurd (false≢true (sym alive ∙ dead))
