@@ -70,7 +70,7 @@ returns g c =
     let V = g.S.EawStore.view in
     let i = c.self.inside in
     record {
-      sends = subst (λ (h : Held g.row.S.Denot). Mirrors g.S.EawStore.tells (V h.records.store) (V c.clear.new.records.store)) c.self.view_is c.clear.ensures.clears.mirrors;
+      sends = subst (λ (h : Held g.row.S.Denot). Mirrors g.S.EawStore.tells (V h.records.store) (V c.clear.new.records.store)) c.self.view_is c.clear.ensures.clears.spares.mirrors;
       cause = subst (λ (h : Held g.row.S.Denot). PurgeCause (core_of g.S.EawStore.opens g.K.KeyIndex.index (V h.records.store) h).state c.args.caller c.match-clear.result) c.self.view_is
           (rw (answer_is g c) (purge_cause g.S.EawStore.tells g.S.EawStore.opens g.K.KeyIndex.index (index_laws g) g.met.S.EawStore.one_data (pages_of (V i.records.store) i.records) (laws_at g i.records.store) i.base (table_of i.base) i.history.items i.seats i.doubt (length i.seats.places) c.self.invariant
           (subst (λ (h : Held g.row.S.Denot). IsAlive (V h.records.store)) (sym c.self.view_is) c.requires.alive) c.args.caller (none_of (live_in i.seats c.args.caller) (sym c.is_live.ensures ∙ c.if-is_live.false))
