@@ -17,7 +17,7 @@ pub struct Name {
 
 impl Model for Name {
     ghost use Rattle.std.specs.Prelude.{List, ℕ, ◌++◌, ◌-◌, length, take, replicate};
-    ghost use Rattle.record_slots.specs.Text.{IsStored, stored_len, stored_bytes};
+    ghost use Rattle.record_slots.specs.Text.{IsName, IsStored, stored_len, stored_bytes};
 
     ghost Value = { List ℕ };
 
