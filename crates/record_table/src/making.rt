@@ -52,22 +52,6 @@ pub enum MakeFault {
     Damaged { page: u32 },
 }
 
-// A table is made by a number that is not live, which has room.
-impl From<PageFault> for MakeFault {
-    ghost use Rattle.std.specs.Prelude.{◌≡◌};
-    ghost use Rattle.record_table.specs.Making.{as_make};
-
-    ghost from_gives = { λ below fault. fault ≡ as_make below };
-
-    fn from(below: PageFault) -> Self {
-        match below {
-            PageFault::Media => MakeFault::Media,
-            PageFault::Damaged { page } => MakeFault::Damaged { page },
-            PageFault::Dead | PageFault::LogFull { .. } | PageFault::SavesFull => MakeFault::Dead,
-        }
-    }
-}
-
 // The number of a new table of this name, in an array with so many pages for indexes.
 fn place_for(front: &Super, name: &Name, half: u32) -> Result<u8, MakeFault>
     requires half { 2 ≤ half }
