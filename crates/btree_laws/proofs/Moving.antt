@@ -1,46 +1,18 @@
 -- A tree on data of which all but its own pages, and the slots of its own pairs, may have changed.
 use Rattle.std.proofs.Common.{◌≡◌, ℕ, zero, suc, ◌≤◌, inl, inr, List, [], ◌∷◌, refl, sym, ◌∙◌, ap, subst, arith}
-use Rattle.btree_laws.specs.Sound.{AreBelow, AreSound, IsSoundTree, IsTree, IsUpper}
+use Rattle.btree_laws.specs.Frames.{children_moved, leaf_moved}
+use Rattle.btree_laws.specs.Sound.{AreBelow, AreSound, IsSoundTree, IsTree, inner_same}
 use Rattle.btree_laws.specs.declared.root.Root.{Root}
 use Rattle.btree_laws.specs.Tree.{IsPageOfTree, IsUnder, IsUnderSome, next_low, pairs_of_tree, pairs_under, pieces_with}
 use Rattle.btree_laws.specs.TreeFacts.{tree_level}
 use Rattle.index_pages.specs.Keys.{key_end}
-use Rattle.index_pages.specs.Page.{page_pairs, pairs_said, kind_said, level_said, link_said, count_said, level_of}
+use Rattle.index_pages.specs.Page.{page_pairs, pairs_said, kind_said, level_of}
 use Rattle.index_pages.specs.Pieces.{joined}
-use Rattle.page_store.specs.Pairs.{Pair, Rise}
+use Rattle.page_store.specs.Pairs.{Pair}
 use Rattle.index_pages.proofs.Removing.{given_left}
 use Rattle.record_slots.specs.Places.{page_bytes, next_page, AreGiven}
 
 module _ (root : Root) (old new : List ℕ) (pages : next_page old ≤ next_page new) where
-  children_moved : (es : List Pair) → AreBelow root.page (next_page old) es → AreBelow root.page (next_page new) es
-  children_moved [] are = tt
-  children_moved (e ∷ es) are = (are.0, omega (arith, are.1, pages), children_moved es are.2)
-
-  leaf_moved : (page low high : ℕ) → page_bytes new page ≡ page_bytes old page → AreGiven new root.table (page_pairs old page) → IsTree root 0 old page low high → IsTree root 0 new page low high
-  leaf_moved page low high e given t = (
-    record {
-      kind = ap kind_said e ∙ t.0.kind;
-      level = ap level_said e ∙ t.0.level;
-      link = ap link_said e ∙ t.0.link;
-      most = subst (λ (b : List ℕ). count_said b ≤ 30) (sym e) t.0.most;
-      some = λ other. subst (λ (b : List ℕ). 1 ≤ count_said b) (sym e) (t.0.some other);
-      rises = subst (λ (b : List ℕ). Rise low high (pairs_said b)) (sym e) t.0.rises;
-    },
-    subst (λ (b : List ℕ). AreGiven new root.table (pairs_said b)) (sym e) given,
-  )
-
-  inner_moved : (level page low : ℕ) → page_bytes new page ≡ page_bytes old page → IsUpper root.page old level page low → IsUpper root.page new level page low
-  inner_moved level page low e t = record {
-    kind = ap kind_said e ∙ t.kind;
-    level_is = ap level_said e ∙ t.level_is;
-    link = ap link_said e ∙ t.link;
-    some = subst (λ (b : List ℕ). 1 ≤ count_said b) (sym e) t.some;
-    most = subst (λ (b : List ℕ). count_said b ≤ 30) (sym e) t.most;
-    first = ap (λ (b : List ℕ). next_low (pairs_said b) low) e ∙ t.first;
-    rises = subst (λ (b : List ℕ). Rise low key_end (pairs_said b)) (sym e) t.rises;
-    children = subst (λ (b : List ℕ). AreBelow root.page (next_page new) (pairs_said b)) (sym e) (children_moved (page_pairs old page) t.children);
-  }
-
   below_moved : (l : ℕ) → ((page low high : ℕ) → IsTree root l old page low high → ((q : ℕ) → IsUnder l old q page → page_bytes new q ≡ page_bytes old q) → AreGiven new root.table (pairs_under l old page)
       → IsTree root l new page low high × (pairs_under l new page ≡ pairs_under l old page))
       → (es : List Pair) (high : ℕ) → AreSound (IsTree root l old) es high → ((q : ℕ) → IsUnderSome (IsUnder l old q) es → page_bytes new q ≡ page_bytes old q)
@@ -57,11 +29,11 @@ module _ (root : Root) (old new : List ℕ) (pages : next_page old ≤ next_page
 
   pub tree_moved : (l page low high : ℕ) → IsTree root l old page low high → ((q : ℕ) → IsUnder l old q page → page_bytes new q ≡ page_bytes old q) → AreGiven new root.table (pairs_under l old page)
       → IsTree root l new page low high × (pairs_under l new page ≡ pairs_under l old page)
-  tree_moved zero page low high t same given = (leaf_moved page low high (same page refl) given t, ap pairs_said (same page refl))
+  tree_moved zero page low high t same given = (leaf_moved root old new page low high (same page refl) given t, ap pairs_said (same page refl))
   tree_moved (suc l) page low high t same given =
       let here = same page (inl refl) in
       let below = below_moved l (tree_moved l) (page_pairs old page) high t.1 (λ q u. same q (inr u)) given in (
-        (inner_moved (suc l) page low here t.0, subst (λ (b : List ℕ). AreSound (IsTree root l new) (pairs_said b) high) (sym here) below.0),
+        (inner_same (AreBelow root.page) (AreBelow root.page) old new (suc l) page low here (children_moved root old new pages (page_pairs old page)) t.0, subst (λ (b : List ℕ). AreSound (IsTree root l new) (pairs_said b) high) (sym here) below.0),
         ap (λ (b : List ℕ). joined (pieces_with (pairs_under l new) (pairs_said b))) here ∙ below.1,
       )
 

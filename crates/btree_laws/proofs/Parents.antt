@@ -110,39 +110,47 @@ sound_tree_under root old new d key slot sound keeps lt e is changed kept =
       same,
     )
 
+module _ (root : Root) (old : List ℕ) (d key : ℕ) (sound : IsSoundTree root old) (lt : key < key_end) (e : level_of old root.page ≡ above d 1) where
+  abbrev at : ℕ
+  at = page_for d old root.page key
+
+  tree_above : IsTree root (above d 1) old root.page 0 key_end
+  tree_above = subst (λ (n : ℕ). IsTree root n old root.page 0 key_end) e sound.2
+
+  parent_some : 1 ≤ length (page_pairs old at)
+  parent_some = let w = way_of root d 1 old key root.page 0 key_end tree_above (omega arith) lt in omega (arith, w.tree.0.some, length-page_pairs old at)
+
+  -- the pages under the parent of the key's child are pages of the tree; that parent itself, the child of the key and the page to its right are under it
+  of_tree : (x : ℕ) → IsUnder 1 old x at → IsPageOfTree old root.page x
+  of_tree x u = subst (λ (n : ℕ). IsUnder n old x root.page) (sym e) (way_under root d 1 old key root.page 0 key_end x tree_above (omega arith) lt u)
+
+  is_parent : (x : ℕ) → x ≡ at → IsUnder 1 old x at
+  is_parent x same = subst (λ (y : ℕ). IsUnder 1 old y at) (sym same) (under_self 1 old at)
+
+  is_child : (x : ℕ) → x ≡ child_for (page_pairs old at) key → IsUnder 1 old x at
+  is_child x same = inr (subst (λ (y : ℕ). IsUnderSome (IsUnder 0 old y) (page_pairs old at)) (sym same) (child_under 0 old (page_pairs old at) key parent_some))
+
+  is_right : (x : ℕ) → right_of (page_pairs old at) key ≢ 0 → x ≡ right_of (page_pairs old at) key → IsUnder 1 old x at
+  is_right x right same = inr (subst (λ (y : ℕ). IsUnderSome (IsUnder 0 old y) (page_pairs old at)) (sym same) (right_under 0 old (page_pairs old at) key right))
+
 pub sound_tree_joins_right : (root : Root) (old new : List ℕ) (d key slot : ℕ) → IsSoundTree root old → Keeps old new → key < key_end → level_of old root.page ≡ above d 1
     → found (pairs_of_tree old root.page) key ≡ Some slot → JoinsRight old new (page_for d old root.page key) key
     → ((x : ℕ) → IsPageOfTree old root.page x → x ≢ page_for d old root.page key → x ≢ child_for (page_pairs old (page_for d old root.page key)) key
     → x ≢ right_of (page_pairs old (page_for d old root.page key)) key → page_bytes new x ≡ page_bytes old x)
     → IsSoundTree root new × (pairs_of_tree new root.page ≡ removed (pairs_of_tree old root.page) key) × (level_of new root.page ≡ level_of old root.page)
 sound_tree_joins_right root old new d key slot sound keeps lt e is joins kept =
-    let own : IsOwn old root.page = sound.0 in
-    let t : IsTree root (above d 1) old root.page 0 key_end = subst (λ (n : ℕ). IsTree root n old root.page 0 key_end) e sound.2 in
-    let w = way_of root d 1 old key root.page 0 key_end t (omega arith) lt in
-    let some : 1 ≤ length (page_pairs old (page_for d old root.page key)) = omega (arith, w.tree.0.some, length-page_pairs old (page_for d old root.page key)) in
     sound_tree_under root old new d key slot sound keeps lt e is
     (λ from to sub le' lt' small there. parent_joins_right root old new keeps (page_for d old root.page key) key slot from to sub le' lt' small there joins
-    (λ x u a b c. kept x (subst (λ (n : ℕ). IsUnder n old x root.page) (sym e) (way_under root d 1 old key root.page 0 key_end x t (omega arith) lt u)) a b c))
-    (λ x u out. kept x u
-    (λ same. out (subst (λ (y : ℕ). IsUnder 1 old y (page_for d old root.page key)) (sym same) (under_self 1 old (page_for d old root.page key))))
-    (λ same. out (inr (subst (λ (y : ℕ). IsUnderSome (IsUnder 0 old y) (page_pairs old (page_for d old root.page key))) (sym same)
-    (child_under 0 old (page_pairs old (page_for d old root.page key)) key some))))
-    (λ same. out (inr (subst (λ (y : ℕ). IsUnderSome (IsUnder 0 old y) (page_pairs old (page_for d old root.page key))) (sym same)
-    (right_under 0 old (page_pairs old (page_for d old root.page key)) key joins.right)))))
+    (λ x u a b c. kept x (of_tree root old d key sound lt e x u) a b c))
+    (λ x u out. kept x u (λ same. out (is_parent root old d key sound lt e x same)) (λ same. out (is_child root old d key sound lt e x same))
+    (λ same. out (is_right root old d key sound lt e x joins.right same)))
 
 pub sound_tree_joins_left : (root : Root) (old new : List ℕ) (d key slot : ℕ) → IsSoundTree root old → Keeps old new → key < key_end → level_of old root.page ≡ above d 1
     → found (pairs_of_tree old root.page) key ≡ Some slot → JoinsLeft old new (page_for d old root.page key) key
     → ((x : ℕ) → IsPageOfTree old root.page x → x ≢ page_for d old root.page key → x ≢ child_for (page_pairs old (page_for d old root.page key)) key → page_bytes new x ≡ page_bytes old x)
     → IsSoundTree root new × (pairs_of_tree new root.page ≡ removed (pairs_of_tree old root.page) key) × (level_of new root.page ≡ level_of old root.page)
 sound_tree_joins_left root old new d key slot sound keeps lt e is joins kept =
-    let own : IsOwn old root.page = sound.0 in
-    let t : IsTree root (above d 1) old root.page 0 key_end = subst (λ (n : ℕ). IsTree root n old root.page 0 key_end) e sound.2 in
-    let w = way_of root d 1 old key root.page 0 key_end t (omega arith) lt in
-    let some : 1 ≤ length (page_pairs old (page_for d old root.page key)) = omega (arith, w.tree.0.some, length-page_pairs old (page_for d old root.page key)) in
     sound_tree_under root old new d key slot sound keeps lt e is
     (λ from to sub le' lt' small there. parent_joins_left root old new keeps (page_for d old root.page key) key slot from to sub le' lt' small there joins
-    (λ x u a b. kept x (subst (λ (n : ℕ). IsUnder n old x root.page) (sym e) (way_under root d 1 old key root.page 0 key_end x t (omega arith) lt u)) a b))
-    (λ x u out. kept x u
-    (λ same. out (subst (λ (y : ℕ). IsUnder 1 old y (page_for d old root.page key)) (sym same) (under_self 1 old (page_for d old root.page key))))
-    (λ same. out (inr (subst (λ (y : ℕ). IsUnderSome (IsUnder 0 old y) (page_pairs old (page_for d old root.page key))) (sym same)
-    (child_under 0 old (page_pairs old (page_for d old root.page key)) key some)))))
+    (λ x u a b. kept x (of_tree root old d key sound lt e x u) a b))
+    (λ x u out. kept x u (λ same. out (is_parent root old d key sound lt e x same)) (λ same. out (is_child root old d key sound lt e x same)))

@@ -1,9 +1,8 @@
 -- Trees on data of which some pages have changed.
 use Rattle.std.proofs.Common.{◌≡◌, ℕ, zero, suc, ◌≤◌, inl, inr, List, [], ◌∷◌, refl, sym, ◌∙◌, ap, subst, arith}
-use Rattle.btree_laws.specs.Sound.{AreBelow, AreSound, IsTree, IsUpper}
+use Rattle.btree_laws.specs.Sound.{AreBelow, AreSound, IsTree, IsUpper, inner_same}
 use Rattle.btree_laws.specs.declared.root.Root.{Root}
 use Rattle.btree_laws.specs.Tree.{IsUnder, IsUnderSome, next_low, pairs_under, pieces_with}
-use Rattle.index_pages.specs.Keys.{key_end}
 use Rattle.index_pages.specs.Page.{page_pairs, pairs_said, kind_said, level_said, link_said, count_said}
 use Rattle.index_pages.specs.Pieces.{joined}
 use Rattle.index_pages.proofs.Kept.{given_kept}
@@ -11,36 +10,34 @@ use Rattle.index_pages.specs.Ways.{Keeps}
 use Rattle.page_store.specs.Pairs.{Pair, Rise}
 use Rattle.record_slots.specs.Places.{page_bytes, AreGiven, next_page}
 
+-- the children of a page, on data where no fewer pages are given out
+pub children_moved : (root : Root) (old new : List ℕ) → next_page old ≤ next_page new → (es : List Pair) → AreBelow root.page (next_page old) es → AreBelow root.page (next_page new) es
+children_moved root old new pages [] are = tt
+children_moved root old new pages (e ∷ es) are = (are.0, omega (arith, are.1, pages), children_moved root old new pages es are.2)
+
+-- a leaf on data where the slots of its pairs are given
+pub leaf_moved : (root : Root) (old new : List ℕ) (page low high : ℕ) → page_bytes new page ≡ page_bytes old page → AreGiven new root.table (page_pairs old page) → IsTree root 0 old page low high → IsTree root 0 new page low high
+leaf_moved root old new page low high e given t = (
+  record {
+    kind = ap kind_said e ∙ t.0.kind;
+    level = ap level_said e ∙ t.0.level;
+    link = ap link_said e ∙ t.0.link;
+    most = subst (λ (b : List ℕ). count_said b ≤ 30) (sym e) t.0.most;
+    some = λ other. subst (λ (b : List ℕ). 1 ≤ count_said b) (sym e) (t.0.some other);
+    rises = subst (λ (b : List ℕ). Rise low high (pairs_said b)) (sym e) t.0.rises;
+  },
+  subst (λ (b : List ℕ). AreGiven new root.table (pairs_said b)) (sym e) given,
+)
+
 module _ (root : Root) (old new : List ℕ) (keeps : Keeps old new) where
   pub children_kept : (es : List Pair) → AreBelow root.page (next_page old) es → AreBelow root.page (next_page new) es
-  children_kept [] are = tt
-  children_kept (e ∷ es) are = (are.0, omega (arith, are.1, keeps.pages), children_kept es are.2)
+  children_kept es are = children_moved root old new keeps.pages es are
 
   pub leaf_kept : (page low high : ℕ) → page_bytes new page ≡ page_bytes old page → IsTree root 0 old page low high → IsTree root 0 new page low high
-  leaf_kept page low high e t =
-      let given = given_kept old new keeps root.table (page_pairs old page) (t.1) in (
-        record {
-          kind = ap kind_said e ∙ t.0.kind;
-          level = ap level_said e ∙ t.0.level;
-          link = ap link_said e ∙ t.0.link;
-          most = subst (λ (b : List ℕ). count_said b ≤ 30) (sym e) t.0.most;
-          some = λ other. subst (λ (b : List ℕ). 1 ≤ count_said b) (sym e) (t.0.some other);
-          rises = subst (λ (b : List ℕ). Rise low high (pairs_said b)) (sym e) t.0.rises;
-        },
-        (subst (λ (b : List ℕ). AreGiven new root.table (pairs_said b)) (sym e) given),
-      )
+  leaf_kept page low high e t = leaf_moved root old new page low high e (given_kept old new keeps root.table (page_pairs old page) t.1) t
 
   pub inner_kept : (level page low : ℕ) → page_bytes new page ≡ page_bytes old page → IsUpper root.page old level page low → IsUpper root.page new level page low
-  inner_kept level page low e t = record {
-    kind = ap kind_said e ∙ t.kind;
-    level_is = ap level_said e ∙ t.level_is;
-    link = ap link_said e ∙ t.link;
-    some = subst (λ (b : List ℕ). 1 ≤ count_said b) (sym e) t.some;
-    most = subst (λ (b : List ℕ). count_said b ≤ 30) (sym e) t.most;
-    first = ap (λ (b : List ℕ). next_low (pairs_said b) low) e ∙ t.first;
-    rises = subst (λ (b : List ℕ). Rise low key_end (pairs_said b)) (sym e) t.rises;
-    children = subst (λ (b : List ℕ). AreBelow root.page (next_page new) (pairs_said b)) (sym e) (children_kept (page_pairs old page) t.children);
-  }
+  inner_kept level page low e t = inner_same (AreBelow root.page) (AreBelow root.page) old new level page low e (children_kept (page_pairs old page)) t
 
   IsSame : ℕ → Type 0
   IsSame q = page_bytes new q ≡ page_bytes old q

@@ -1,11 +1,11 @@
 -- What it is that a tree passes its check.
-use Rattle.std.proofs.Common.{◌≡◌, ◌≢◌, ◌<◌, ℕ, zero, suc, ◌≤◌, List, [], ◌∷◌, None, arith, subst}
+use Rattle.std.proofs.Common.{◌≡◌, ◌≢◌, ◌<◌, ℕ, zero, suc, ◌≤◌, List, [], ◌∷◌, None, refl, sym, ◌∙◌, ap, arith, subst}
 use Rattle.mars_base.specs.Check.{Check, test, each, IsSingle}
 use Rattle.mars_base.proofs.Checks.{pass_single, test_single, both_single, each_single}
-use Rattle.record_slots.specs.Places.{AreGiven, next_page}
+use Rattle.record_slots.specs.Places.{page_bytes, AreGiven, next_page}
 use Rattle.page_store.specs.Pairs.{Pair, Rise}
 use Rattle.index_pages.specs.Keys.{key_end}
-use Rattle.index_pages.specs.Page.{kind_of, level_of, link_of, count_of, page_pairs}
+use Rattle.index_pages.specs.Page.{level_of, page_pairs, pairs_said, kind_said, level_said, link_said, count_said}
 use Rattle.index_pages.specs.Slots.{slot_check}
 use Rattle.index_pages.specs.Ways.{IsOwn}
 use Rattle.index_pages.proofs.Slotted.{slot_single}
@@ -18,15 +18,8 @@ AreBelow root pages [] = Unit {0}
 AreBelow root pages (e ∷ es) = ((2 ≤ e.1) × (e.1 ≢ root)) × (e.1 < pages) × AreBelow root pages es
 
 -- an inner page none of whose children is the root
-pub record IsUpper (root : ℕ) (bytes : List ℕ) (level page low : ℕ) : Type 0 where
-  pub kind : kind_of bytes page ≡ 2
-  pub level_is : level_of bytes page ≡ level
-  pub link : link_of bytes page ≡ 0
-  pub some : 1 ≤ count_of bytes page
-  pub most : count_of bytes page ≤ 30
-  pub first : next_low (page_pairs bytes page) low ≡ low
-  pub rises : Rise low key_end (page_pairs bytes page)
-  pub children : AreBelow root (next_page bytes) (page_pairs bytes page)
+abbrev pub IsUpper : ℕ → List ℕ → ℕ → ℕ → ℕ → Type 0
+IsUpper root bytes level page low = IsInner (AreBelow root) bytes level page low
 
 -- the children of these entries are such, each from its own low key up to the next one
 abbrev pub AreSound : (ℕ → ℕ → ℕ → Type 0) → List Pair → ℕ → Type 0
@@ -41,6 +34,20 @@ IsTree root (suc l) bytes page low high = IsUpper root.page bytes (suc l) page l
 -- the whole tree, whose root is a given page
 abbrev pub IsSoundTree : Root → List ℕ → Type 0
 IsSoundTree root bytes = IsOwn bytes root.page × (level_of bytes root.page ≤ 7) × IsTree root (level_of bytes root.page) bytes root.page 0 key_end
+
+-- an inner page is one on other data too, where its bytes are the same and its children are such
+pub inner_same : (Are Other : ℕ → List Pair → Type 0) (old new : List ℕ) (level page low : ℕ) → page_bytes new page ≡ page_bytes old page
+    → (Are (next_page old) (page_pairs old page) → Other (next_page new) (page_pairs old page)) → IsInner Are old level page low → IsInner Other new level page low
+inner_same Are Other old new level page low e children t = record {
+  kind = ap kind_said e ∙ t.kind;
+  level_is = ap level_said e ∙ t.level_is;
+  link = ap link_said e ∙ t.link;
+  some = subst (λ (b : List ℕ). 1 ≤ count_said b) (sym e) t.some;
+  most = subst (λ (b : List ℕ). count_said b ≤ 30) (sym e) t.most;
+  first = ap (λ (b : List ℕ). next_low (pairs_said b) low) e ∙ t.first;
+  rises = subst (λ (b : List ℕ). Rise low key_end (pairs_said b)) (sym e) t.rises;
+  children = subst (λ (b : List ℕ). Other (next_page new) (pairs_said b)) (sym e) (children t.children);
+}
 
 -- the slots of these pairs are given, and carry their keys
 module _ (bytes : List ℕ) (table page : ℕ) where
@@ -74,16 +81,7 @@ seen_children root l bytes seen (e ∷ es) high c = (seen e.1 e.0 (next_low es h
 pub tree_seen : (root : Root) (l : ℕ) (bytes : List ℕ) → l ≤ level_of bytes root.page → (page low high : ℕ) → tree_from root l bytes page low high None → IsTree root l bytes page low high
 tree_seen root zero bytes most page low high t = (t.0, slots_seen bytes root.table page (page_pairs bytes page) t.1)
 tree_seen root (suc l) bytes most page low high t = (
-  record {
-    kind = t.0.kind;
-    level_is = t.0.level_is;
-    link = t.0.link;
-    some = t.0.some;
-    most = t.0.most;
-    first = t.0.first;
-    rises = t.0.rises;
-    children = seen_below root l bytes most (next_page bytes) (page_pairs bytes page) high t.0.children t.1;
-  },
+  inner_same AreChildren (AreBelow root.page) bytes bytes (suc l) page low refl (λ are. seen_below root l bytes most (next_page bytes) (page_pairs bytes page) high are t.1) t.0,
   seen_children root l bytes (tree_seen root l bytes (omega (arith, most))) (page_pairs bytes page) high t.1,
 )
 
@@ -99,16 +97,7 @@ pass_children root l bytes passes (e ∷ es) high s = (passes e.1 e.0 (next_low 
 pub tree_passes : (root : Root) (l : ℕ) (bytes : List ℕ) (page low high : ℕ) → IsTree root l bytes page low high → tree_from root l bytes page low high None
 tree_passes root zero bytes page low high t = (t.0, slots_pass bytes root.table page (page_pairs bytes page) t.1)
 tree_passes root (suc l) bytes page low high t = (
-  record {
-    kind = t.0.kind;
-    level_is = t.0.level_is;
-    link = t.0.link;
-    some = t.0.some;
-    most = t.0.most;
-    first = t.0.first;
-    rises = t.0.rises;
-    children = pass_below root.page (next_page bytes) (page_pairs bytes page) t.0.children;
-  },
+  inner_same (AreBelow root.page) AreChildren bytes bytes (suc l) page low refl (pass_below root.page (next_page bytes) (page_pairs bytes page)) t.0,
   pass_children root l bytes (tree_passes root l bytes) (page_pairs bytes page) high t.1,
 )
 
@@ -131,7 +120,7 @@ from_single root zero bytes page low high =
     both_single (test (IsLeafPage root.page bytes page low high) page) (each (slot_check bytes root.table page) (page_pairs bytes page)) (test_single (IsLeafPage root.page bytes page low high) page)
     (each_single (slot_check bytes root.table page) (page_pairs bytes page) (slot_single bytes root.table page))
 from_single root (suc l) bytes page low high =
-    both_single (test (IsInner bytes (suc l) page low) page) (children_check (tree_from root l bytes) (page_pairs bytes page) high) (test_single (IsInner bytes (suc l) page low) page)
+    both_single (test (IsInner AreChildren bytes (suc l) page low) page) (children_check (tree_from root l bytes) (page_pairs bytes page) high) (test_single (IsInner AreChildren bytes (suc l) page low) page)
     (children_single (tree_from root l bytes) (from_single root l bytes) (page_pairs bytes page) high)
 
 pub tree_single : (root : Root) (bytes : List ℕ) → IsSingle (tree_check root bytes)

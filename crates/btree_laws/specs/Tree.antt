@@ -28,8 +28,8 @@ abbrev pub next_low : List Pair → ℕ → ℕ
 next_low [] high = high
 next_low (e ∷ es) high = e.0
 
--- an inner page of this level, whose first low key is the lower bound
-pub record IsInner (bytes : List ℕ) (level page low : ℕ) : Type 0 where
+-- an inner page of this level, whose first low key is the lower bound, and whose children are such, among the pages that are given out
+pub record IsInner (Are : ℕ → List Pair → Type 0) (bytes : List ℕ) (level page low : ℕ) : Type 0 where
   pub kind : kind_of bytes page ≡ 2
   pub level_is : level_of bytes page ≡ level
   pub link : link_of bytes page ≡ 0
@@ -37,7 +37,7 @@ pub record IsInner (bytes : List ℕ) (level page low : ℕ) : Type 0 where
   pub most : count_of bytes page ≤ 30
   pub first : next_low (page_pairs bytes page) low ≡ low
   pub rises : Rise low key_end (page_pairs bytes page)
-  pub children : AreChildren (next_page bytes) (page_pairs bytes page)
+  pub children : Are (next_page bytes) (page_pairs bytes page)
 
 -- the children of a page from left to right, each from its own low key up to the next one
 abbrev pub children_check : (ℕ → ℕ → ℕ → Check ℕ) → List Pair → ℕ → Check ℕ
@@ -47,7 +47,7 @@ children_check check (e ∷ es) high = both (check e.1 e.0 (next_low es high)) (
 -- a tree of this level under a page, with the keys between these bounds: the page itself, and then its slots or its children
 abbrev pub tree_from : Root → ℕ → List ℕ → ℕ → ℕ → ℕ → Check ℕ
 tree_from root zero bytes page low high = both (test (IsLeafPage root.page bytes page low high) page) (each (slot_check bytes root.table page) (page_pairs bytes page))
-tree_from root (suc l) bytes page low high = both (test (IsInner bytes (suc l) page low) page) (children_check (tree_from root l bytes) (page_pairs bytes page) high)
+tree_from root (suc l) bytes page low high = both (test (IsInner AreChildren bytes (suc l) page low) page) (children_check (tree_from root l bytes) (page_pairs bytes page) high)
 
 -- the whole tree, from its root down
 abbrev pub tree_check : Root → List ℕ → Check ℕ

@@ -102,7 +102,7 @@ module _ (root : Root) (bytes buf : List ℕ) (page low high : ℕ) (is : buf �
   leaf_node : IsLeafPage root.page bytes page low high → IsNode buf
   leaf_node t = subst (λ (b : List ℕ). IsNode b) (sym is) (record { form = inl (t.kind, t.level); link = t.link; most = t.most })
 
-  inner_node : (l : ℕ) → suc l ≤ 7 → IsInner bytes (suc l) page low → IsNode buf
+  inner_node : (l : ℕ) → suc l ≤ 7 → IsInner AreChildren bytes (suc l) page low → IsNode buf
   inner_node l most t = subst (λ (b : List ℕ). IsNode b) (sym is) (record {
     form = inr (t.kind, omega (arith, t.level_is), omega (arith, t.level_is), t.some);
     link = t.link;
@@ -147,7 +147,7 @@ module _ (root : Root) (bytes buf : List ℕ) (page low high : ℕ) (is : buf �
     leaf_slots zero none level tests (Err NoMemory) cause = tt
 
     module _ (pages : ℕ) (pages_is : pages ≡ next_page bytes) where
-      inner_tests : (l : ℕ) → level_said buf ≡ suc l → (next_low (pairs_said buf) low ≡ low) × Rise low key_end (pairs_said buf) × AreChildren pages (pairs_said buf) → IsInner bytes (suc l) page low
+      inner_tests : (l : ℕ) → level_said buf ≡ suc l → (next_low (pairs_said buf) low ≡ low) × Rise low key_end (pairs_said buf) × AreChildren pages (pairs_said buf) → IsInner AreChildren bytes (suc l) page low
       inner_tests l level tests =
           let form : (kind_said buf ≡ 2) × (1 ≤ count_said buf) = elim node.form [ inl f ↦ absurd (omega (arith, f.1, level)) | inr f ↦ (f.0, f.3) ] in
           record {

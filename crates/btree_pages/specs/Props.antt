@@ -24,7 +24,7 @@ slots-prop bytes table page (p ∷ ps) = ×_prop (slot-prop bytes table page p) 
 IsLeafPage-prop : (root : ℕ) (bytes : List ℕ) (page low high : ℕ) → IsProp (IsLeafPage root bytes page low high)
 IsLeafPage-prop root bytes page low high = Prim.hlevel (props, Rise-prop low high (page_pairs bytes page))
 
-IsInner-prop : (bytes : List ℕ) (level page low : ℕ) → IsProp (IsInner bytes level page low)
+IsInner-prop : (bytes : List ℕ) (level page low : ℕ) → IsProp (IsInner AreChildren bytes level page low)
 IsInner-prop bytes level page low = Prim.hlevel (props, Rise-prop low key_end (page_pairs bytes page), AreChildren-prop (next_page bytes) (page_pairs bytes page))
 
 children-prop : (check : ℕ → ℕ → ℕ → Check ℕ) → ((page low high : ℕ) → IsProp (check page low high None)) → (es : List Pair) (high : ℕ) → IsProp (children_check check es high None)

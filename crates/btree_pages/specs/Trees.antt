@@ -46,11 +46,9 @@ module _ (old new : List ℕ) (sound : AreSoundTrees old) (keeps : KeepsIndex ol
   table_rests : (table root : ℕ) → IsTable old table root
       → IsSoundTree (record { page = root; table = table }) new × (pairs_of_tree new root ≡ pairs_of_tree old root) × (level_of new root ≡ level_of old root)
   table_rests table root named =
-      let r : Root = record { page = root; table = table } in
       let w = whole_of old sound in
-      let f = front_rests 1 tree_of old new w keeps in
       let t = table_sound old (record { page = root; table = table }) sound named in
-      sound_tree_rests (record { page = root; table = table }) old new t f.keeps
+      sound_tree_rests (record { page = root; table = table }) old new t (front_rests 1 tree_of old new w keeps).keeps
       (λ x u. keeps.pages x (omega (arith, page_given old (record { page = root; table = table }) x t u, w.front.pages)))
 
   pub trees_rest : AreSoundTrees new × ((table root : ℕ) → IsTable old table root → (pairs_of_tree new root ≡ pairs_of_tree old root) × (level_of new root ≡ level_of old root))
@@ -71,14 +69,9 @@ module _ (old new : List ℕ) (sound : AreSoundTrees old) (x : Extends old new) 
   tree_extends : (table root : ℕ) → IsTable old table root
       → IsSoundTree (record { page = root; table = table }) new × (pairs_of_tree new root ≡ pairs_of_tree old root) × (level_of new root ≡ level_of old root)
   tree_extends table root named =
-      let r : Root = record { page = root; table = table } in
-      let w = whole_of old sound in
-      let f = front_extends 1 tree_of old new w x in
       let t = table_sound old (record { page = root; table = table }) sound named in
-      sound_tree_rests (record { page = root; table = table }) old new t f.keeps
-      (λ q u.
-      let own = under_own (record { page = root; table = table }) (level_of old root) old q root 0 key_end t.0 t.2 u in
-      x.pages q own.0 own.1)
+      sound_tree_rests (record { page = root; table = table }) old new t (front_extends 1 tree_of old new (whole_of old sound) x).keeps
+      (λ q u. let own = under_own (record { page = root; table = table }) (level_of old root) old q root 0 key_end t.0 t.2 u in x.pages q own.0 own.1)
 
   -- and that of a table with an empty root
   tree_empty : (table root : ℕ) → IsTable new table root → IsEmptyRoot (page_bytes new root) → IsSoundTree (record { page = root; table = table }) new × (pairs_of_tree new root ≡ []) × (level_of new root ≡ 0)

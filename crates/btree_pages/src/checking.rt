@@ -5,11 +5,10 @@ ghost use Rattle.eaw_face.specs.Causes.{IsAlive};
 ghost use Rattle.record_slots.specs.Places.{next_slot, page_bytes, tables_of, IsSuper};
 ghost use Rattle.record_slots.specs.Super.{SaysSuper, tables_in};
 ghost use Rattle.page_store.specs.Index.{slots_of, index_pages_of};
-ghost use Rattle.page_store.specs.Looks.{Looks, CheckCause, is_check_failed};
+ghost use Rattle.page_store.specs.Looks.{Looks, is_check_failed};
 ghost use Rattle.page_store.specs.Shown.{pages_of};
 ghost use Rattle.page_store.specs.Pairs.{Rise};
 ghost use Rattle.page_store.specs.Records.{rows_of, records_of};
-ghost use Rattle.page_store.specs.Tested.{Tests};
 ghost use Rattle.index_pages.specs.Fetched.{IsFront};
 ghost use Rattle.index_pages.specs.Page.{count_said, level_said, pairs_said, pairs_from};
 ghost use Rattle.btree_pages.specs.Checked.{high_of, least_of, IsFrontOf};
@@ -18,15 +17,13 @@ ghost use Rattle.index_pages.specs.Pieces.{joined};
 ghost use Rattle.index_pages.specs.Plans.{Tries, slots_plan, tables_plan};
 ghost use Rattle.index_pages.specs.Slots.{slot_check, tables_check, IsVerdict};
 ghost use Rattle.btree_pages.specs.Index.{tree, tree_of};
-ghost use Rattle.btree_pages.specs.Testing.{children_plan, page_plan, tree_plan, tree_testing, under_plan};
+ghost use Rattle.btree_pages.specs.Testing.{children_plan, page_plan, tree_plan, under_plan};
 ghost use Rattle.btree_laws.specs.Tree.{AreChildren, next_low, children_check, tree_from, tree_check, pieces_with, pairs_under, pairs_of_tree};
 
 use crate::page::read_node_head;
 use btree_laws::Root;
 use eaw_face::EawStore;
-use index_pages::{
-    HeldPage, LEVEL_MAX, PAGE_LEN, check_lists, check_slot, check_super, fetch_page, read_pair,
-};
+use index_pages::{HeldPage, LEVEL_MAX, PAGE_LEN, check_slot, fetch_page, read_pair};
 use noted::{Keeper, NotedRows};
 use page_store::{CheckFault, Pages, TableRows};
 use record_slots::{Super, TABLES_MAX, table_root};
@@ -46,27 +43,8 @@ struct Spot {
     high: Option<u64>,
 }
 
-// Tests the super page, the lists of what is free, and then the tree of each table by its number, and gathers the records.
-pub fn check<S: EawStore, H: Keeper>(
-    alloc: Global,
-    pages: &mut Pages<S>,
-    tables: &mut TableRows<H>,
-) -> Result<(), CheckFault>
-    ensures looks { Looks S.tells (S.opens (S.view pages.old.store).shape) (is_check_failed result)
-        (pages_of (S.view pages.old.store) pages.old) (pages_of (S.view pages.new.store) pages.new) }
-    ensures cause { CheckCause S.tells tree (S.view pages.old.store) result }
-    ensures records { IsTrue S.tells → OnOk result (tables.new ≡ tables.old ++ records_of tree (S.view pages.old.store).state.bytes) }
-    ensures tests { Tests S.tells (S.calls pages.old.store) (S.calls pages.new.store) (tree_testing (S.view pages.old.store).shape)
-        (S.view pages.old.store) (S.view pages.new.store) result }
-    ensures dead { IsErrOf result CheckFault.Dead → pages.new ≡ pages.old }
-{
-    let front = check_super(pages, FORM)?;
-    check_lists(pages, &front)?;
-    check_tables(alloc, pages, tables, &front)
-}
-
 // Tests the tree of each table by its number.
-fn check_tables<S: EawStore, H: Keeper>(
+pub fn check_tables<S: EawStore, H: Keeper>(
     alloc: Global,
     pages: &mut Pages<S>,
     tables: &mut TableRows<H>,

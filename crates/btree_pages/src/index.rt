@@ -2,9 +2,19 @@ ghost use Rattle.btree_pages.specs.Props.{AreSoundTrees-prop};
 ghost use Rattle.btree_pages.specs.Trees.{trees_rise, trees_given, trees_count, trees_rest, trees_extend, trees_excluded, trees_first};
 ghost use Rattle.btree_pages.specs.Index.{tree};
 
-use crate::{checking, insertion, look, removal};
+use crate::checking::{FORM, check_tables};
+use crate::insertion::{insert_above, insert_below, is_index_page, is_slot_left, node_of};
+use crate::look::{Leaf, Reached, Start, WAY_MAX, begun, descend, reach};
+use crate::node::fetch_node;
+use crate::page::slot_in;
+use crate::removal::{lose_pair, release_slot, remove_below};
+use crate::write::NO_LINK;
 use btree_laws::Root;
 use eaw_face::EawStore;
+use index_pages::{
+    PAGE_LEN, PAIRS_MAX, SLOTS_IN_PAGE, check_lists, check_super, fetch_super, index_page_count,
+    read_pairs,
+};
 use noted::Keeper;
 use page_store::{
     CheckFault, IndexFault, KeyIndex, LeafPage, NextPairs, PageFault, Pages, Sought, TableRows,
@@ -33,7 +43,9 @@ impl KeyIndex for BTreePages {
         pages: &mut Pages<S>,
         tables: &mut TableRows<H>,
     ) -> Result<(), CheckFault> {
-        checking::check(alloc, pages, tables)
+        let front = check_super(pages, FORM)?;
+        check_lists(pages, &front)?;
+        check_tables(alloc, pages, tables, &front)
     }
 
     fn find<S: EawStore>(
@@ -42,7 +54,21 @@ impl KeyIndex for BTreePages {
         table: u8,
         key: u64,
     ) -> Result<Option<u32>, PageFault> {
-        look::find(pages, Root { page: root, table }, key)
+        let count = index_page_count(pages);
+        let start = Start {
+            page: root,
+            key,
+            most: WAY_MAX,
+        };
+        let mut bytes = [0; PAGE_LEN];
+        let leaf = descend(pages, Root { page: root, table }, start, &mut bytes)?;
+        let Some(slot) = slot_in(&bytes, leaf.count, key) else {
+            return Ok(None);
+        };
+        if slot >= u64::from(SLOTS_IN_PAGE * count) {
+            return Err(PageFault::Damaged { page: leaf.page });
+        }
+        Ok(Some(slot as u32))
     }
 
     fn find_place<S: EawStore>(
@@ -51,7 +77,32 @@ impl KeyIndex for BTreePages {
         table: u8,
         key: u64,
     ) -> Result<Sought, PageFault> {
-        look::find_place(pages, Root { page: root, table }, key)
+        let count = index_page_count(pages);
+        let start = Start {
+            page: root,
+            key,
+            most: WAY_MAX,
+        };
+        let mut bytes = [0; PAGE_LEN];
+        let leaf = descend(pages, Root { page: root, table }, start, &mut bytes)?;
+        let Leaf { page, full, .. } = leaf;
+        if let Some(slot) = slot_in(&bytes, leaf.count, key) {
+            if slot >= u64::from(SLOTS_IN_PAGE * count) {
+                return Err(PageFault::Damaged { page });
+            }
+            return Ok(Sought::Slot(slot as u32));
+        }
+        if full {
+            return Ok(Sought::Split);
+        }
+        if !is_index_page(page, count) {
+            return Err(PageFault::Damaged { page });
+        }
+        Ok(Sought::Place(LeafPage {
+            page,
+            link: NO_LINK,
+            pairs: read_pairs(&bytes, leaf.count),
+        }))
     }
 
     fn next_pairs<S: EawStore>(
@@ -60,7 +111,22 @@ impl KeyIndex for BTreePages {
         table: u8,
         from: u64,
     ) -> Result<NextPairs, PageFault> {
-        look::next(pages, Root { page: root, table }, from)
+        let root = Root { page: root, table };
+        let start = Start {
+            page: root.page,
+            key: from,
+            most: WAY_MAX,
+        };
+        let at = reach(pages, root, start)?;
+        let Reached { some, behind, .. } = at;
+        if !some.is_empty() {
+            return Ok(some);
+        }
+        let Some(next_start) = behind else {
+            return Ok(some);
+        };
+        let later = reach(pages, root, next_start)?;
+        begun(later)
     }
 
     fn insert<S: EawStore>(
@@ -71,7 +137,25 @@ impl KeyIndex for BTreePages {
         key: u64,
         place: Option<LeafPage>,
     ) -> Result<u32, IndexFault> {
-        insertion::insert(pages, tid, Root { page: root, table }, key, place)
+        let root = Root { page: root, table };
+        let count = index_page_count(pages);
+        let front = fetch_super(pages, FORM)?;
+        if !is_slot_left(&front, count) {
+            return Err(IndexFault::SlotsFull {
+                slots: front.next_slot,
+            });
+        }
+        if let Some(leaf) = place {
+            return insert_below(pages, tid, root, key, front, node_of(leaf));
+        }
+        if !is_index_page(root.page, count) {
+            return Err(IndexFault::Damaged { page: 0 });
+        }
+        let top = fetch_node(pages, root.page)?;
+        if top.pairs.len() < PAIRS_MAX {
+            return insert_below(pages, tid, root, key, front, top);
+        }
+        insert_above(pages, tid, root, key, front, top)
     }
 
     fn remove<S: EawStore>(
@@ -81,7 +165,20 @@ impl KeyIndex for BTreePages {
         table: u8,
         key: u64,
     ) -> Result<bool, PageFault> {
-        removal::remove(pages, tid, Root { page: root, table }, key)
+        let root = Root { page: root, table };
+        let count = index_page_count(pages);
+        let front = fetch_super(pages, FORM)?;
+        if !is_index_page(root.page, count) {
+            return Err(PageFault::Damaged { page: 0 });
+        }
+        let top = fetch_node(pages, root.page)?;
+        if top.level > 0 {
+            return remove_below(pages, tid, root, key, &front, top);
+        }
+        let Some(slot) = release_slot(&front, &top, key) else {
+            return Err(PageFault::Damaged { page: top.page });
+        };
+        lose_pair(pages, tid, root, key, &slot, top)
     }
 
     ghost rises = { trees_rise };

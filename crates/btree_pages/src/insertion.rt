@@ -1,84 +1,32 @@
 // Insertions into the tree of a table: each full page on the way down is split, and then the pair goes to its leaf.
-ghost use Rattle.std.specs.Prelude.{false, ◌≡◌, ◌≢◌, ◌↔◌, ◌+◌, ◌-◌, ◌*◌, ◌<◌, ◌≤◌, [], ◌∷◌, None, is_some, IfSome, IsErrOf, IsTrue, length};
+ghost use Rattle.std.specs.Prelude.{false, ◌≡◌, ◌≢◌, ◌↔◌, ◌+◌, ◌-◌, ◌*◌, ◌<◌, ◌≤◌, [], ◌∷◌, None, IsErrOf, IsTrue, length};
 ghost use Rattle.eaw_face.specs.Causes.{IsAlive};
 ghost use Rattle.record_slots.specs.Places.{page_bytes};
 ghost use Rattle.record_slots.specs.Super.{SaysSuper};
-ghost use Rattle.page_store.specs.Index.{IsTable, index_pages_of, slots_of};
+ghost use Rattle.page_store.specs.Index.{IsTable, slots_of};
 ghost use Rattle.page_store.specs.Inserts.{Inserts, are_slots_full};
-ghost use Rattle.page_store.specs.Looks.{Looks};
 ghost use Rattle.page_store.specs.Pairs.{found};
-ghost use Rattle.page_store.specs.Placed.{IsPlaceIn};
 ghost use Rattle.page_store.specs.Shown.{pages_of, top_in};
-ghost use Rattle.page_store.specs.Works.{Works, WorksFrom, blamed_index, insertion_limits, is_done, unless_full};
+ghost use Rattle.page_store.specs.Works.{WorksFrom, blamed_index, is_done};
 ghost use Rattle.index_pages.specs.Fetched.{IsFront};
 ghost use Rattle.index_pages.specs.Page.{level_of, page_pairs};
 ghost use Rattle.btree_laws.specs.Tree.{pairs_of_tree};
-ghost use Rattle.btree_pages.specs.Downward.{below, down, tree_finding};
-ghost use Rattle.btree_pages.specs.Index.{tree, tree_below, tree_actions, actions_below, AreSoundTrees, IsOpenLeaf};
+ghost use Rattle.btree_pages.specs.Downward.{below};
+ghost use Rattle.btree_pages.specs.Index.{tree, tree_below, tree_actions, actions_below, AreSoundTrees};
 ghost use Rattle.btree_pages.specs.OnWay.{IsReached};
 ghost use Rattle.btree_pages.specs.Steps.{known_from, limits_above, limits_below};
 ghost use Rattle.btree_pages.specs.Writes.{IsRead};
 
-use crate::checking::FORM;
-use crate::node::{Node, fetch_child, fetch_node};
+use crate::node::{Node, fetch_child};
 use crate::write::{add_pair, cut_page, grow_root, half_of};
 use btree_laws::Root;
 use eaw_face::EawStore;
-use index_pages::{
-    LEVEL_MAX, PAIRS_MAX, SLOTS_IN_PAGE, fetch_super, index_page_count, take_page, take_slot,
-};
+use index_pages::{LEVEL_MAX, PAIRS_MAX, SLOTS_IN_PAGE, index_page_count, take_page, take_slot};
 use page_store::{IndexFault, LeafPage, Pages};
 use record_slots::Super;
 
-// Inserts a key that is absent. A full root is split first. With a place the way is not gone again.
-pub fn insert<S: EawStore>(
-    pages: &mut Pages<S>,
-    tid: u8,
-    root: Root,
-    key: u64,
-    place: Option<LeafPage>,
-) -> Result<u32, IndexFault>
-    requires tid { tid < (S.view pages.old.store).shape.numbers }
-    requires table { root.table < 8 }
-    requires closed { IsAlive (S.view pages.old.store) → top_in pages.old.marks tid ≡ None }
-    requires sound { IsTrue S.tells → IsAlive (S.view pages.old.store) → AreSoundTrees (S.view pages.old.store).state.bytes }
-    requires named { IsTrue S.tells → IsAlive (S.view pages.old.store) → IsTable (S.view pages.old.store).state.bytes root.table root.page }
-    requires absent { IsTrue S.tells → IsAlive (S.view pages.old.store) → found (pairs_of_tree (S.view pages.old.store).state.bytes root.page) key ≡ None }
-    requires place { IfSome place (λ leaf. IsPlaceIn (S.view pages.old.store).shape leaf.page leaf.pairs.items) }
-    requires fits { IsTrue S.tells → IsAlive (S.view pages.old.store)
-        → IfSome place (λ leaf. IsOpenLeaf (S.view pages.old.store).state.bytes root.page key leaf.page leaf.pairs.items) }
-    ensures inserts { Inserts S.tells (S.opens (S.view pages.old.store).shape) tree tid root.page root.table key
-        (pages_of (S.view pages.old.store) pages.old) (pages_of (S.view pages.new.store) pages.new) result }
-    ensures works { Works (IsTrue S.tells) S.tells (is_done result) S.view S.calls tid (down root.page key)
-        (unless_full (are_slots_full result) (insertion_limits (is_some place) (tree_finding root.page key) (S.view pages.old.store).shape))
-        (tree_actions (S.view pages.old.store).state.bytes root.page key)
-        (blamed_index result) (S.view pages.old.store) (S.view pages.new.store) }
-    ensures full { IsTrue (are_slots_full result) → Looks S.tells (S.opens (S.view pages.old.store).shape) false
-        (pages_of (S.view pages.old.store) pages.old) (pages_of (S.view pages.new.store) pages.new) }
-    ensures dead { IsErrOf result IndexFault.Dead → pages.new ≡ pages.old }
-{
-    let count = index_page_count(pages);
-    let front = fetch_super(pages, FORM)?;
-    if !is_slot_left(&front, count) {
-        return Err(IndexFault::SlotsFull {
-            slots: front.next_slot,
-        });
-    }
-    if let Some(leaf) = place {
-        return insert_below(pages, tid, root, key, front, node_of(leaf));
-    }
-    if !is_index_page(root.page, count) {
-        return Err(IndexFault::Damaged { page: 0 });
-    }
-    let top = fetch_node(pages, root.page)?;
-    if top.pairs.len() < PAIRS_MAX {
-        return insert_below(pages, tid, root, key, front, top);
-    }
-    insert_above(pages, tid, root, key, front, top)
-}
-
 // Splits the full root, and goes on from the half that has the key.
-fn insert_above<S: EawStore>(
+pub fn insert_above<S: EawStore>(
     pages: &mut Pages<S>,
     tid: u8,
     root: Root,
@@ -123,7 +71,7 @@ fn insert_above<S: EawStore>(
 }
 
 // A place as a page that was read.
-fn node_of(leaf: LeafPage) -> Node
+pub fn node_of(leaf: LeafPage) -> Node
     ensures page { result.page ≡ leaf.page }
     ensures level { result.level ≡ 0 }
     ensures pairs { result.pairs.items ≡ leaf.pairs.items }
@@ -148,7 +96,7 @@ pub fn is_index_page(page: u32, count: u32) -> bool
 }
 
 // Whether a slot is free, or one is left to give out.
-fn is_slot_left(front: &Super, count: u32) -> bool
+pub fn is_slot_left(front: &Super, count: u32) -> bool
     requires { count ≤ 16384 }
     ensures { IsTrue result ↔ (front.now.free_slots ≡ 0 → front.now.next_slot ≢ 8 * count) }
 {
@@ -164,7 +112,7 @@ fn are_pages_left(front: &Super, count: u32, pages: u64) -> bool
 }
 
 // Inserts a key, going on from a page on its way that has room.
-fn insert_below<S: EawStore>(
+pub fn insert_below<S: EawStore>(
     pages: &mut Pages<S>,
     tid: u8,
     root: Root,

@@ -3,32 +3,27 @@ ghost use Rattle.std.specs.Prelude.{◌≡◌, ◌<◌, ◌≤◌, ◌^◌, ◌�
 ghost use Rattle.array_shape.specs.Places.{page_count};
 ghost use Rattle.eaw_face.specs.Causes.{IsAlive};
 ghost use Rattle.record_slots.specs.Places.{page_bytes};
-ghost use Rattle.page_store.specs.Follows.{Follows, HasRead, Walks, one_reading};
+ghost use Rattle.page_store.specs.Follows.{HasRead, Walks, one_reading};
 ghost use Rattle.page_store.specs.Index.{IsTable, slots_of};
 ghost use Rattle.page_store.specs.Looks.{Looks, LookCause, is_failed};
-ghost use Rattle.page_store.specs.Pairs.{AreInside, AreNext, found};
-ghost use Rattle.page_store.specs.Placed.{FollowsToPlace, IsSoughtFor, IsSoughtIn, slot_sought};
+ghost use Rattle.page_store.specs.Pairs.{AreInside};
 ghost use Rattle.page_store.specs.Shown.{pages_of};
 ghost use Rattle.index_pages.specs.Fetched.{TestCause};
 ghost use Rattle.index_pages.specs.Page.{count_said};
-ghost use Rattle.btree_pages.specs.Downward.{Descended, Gathered, down, tree_finding, tree_nexting};
+ghost use Rattle.btree_pages.specs.Downward.{Descended, Gathered, down};
 ghost use Rattle.btree_pages.specs.Start.{Arrives, Gives, IsLater, IsStart, start_behind};
 ghost use Rattle.btree_pages.specs.Crowded.{is_crowded};
-ghost use Rattle.btree_pages.specs.Index.{tree, AreSoundTrees};
+ghost use Rattle.btree_pages.specs.Index.{AreSoundTrees};
 ghost use Rattle.btree_pages.specs.Node.{IsNode, SaysNode};
 ghost use Rattle.btree_laws.specs.Descent.{leaf_for};
-ghost use Rattle.btree_laws.specs.Tree.{pairs_of_tree};
 
-use crate::insertion::is_index_page;
-use crate::page::{child_in, read_node_head, slot_in};
-use crate::write::NO_LINK;
+use crate::page::{child_in, read_node_head};
 use btree_laws::Root;
 use eaw_face::EawStore;
 use index_pages::{
-    Head, LEVEL_MAX, PAGE_LEN, PAIRS_MAX, SLOTS_IN_PAGE, fetch_page, index_page_count, read_pairs,
-    rest_of,
+    Head, LEVEL_MAX, PAGE_LEN, PAIRS_MAX, SLOTS_IN_PAGE, fetch_page, index_page_count, rest_of,
 };
-use page_store::{LeafPage, NextPairs, PageFault, Pages, Sought};
+use page_store::{NextPairs, PageFault, Pages};
 
 // The most pages on the way from the root to a leaf.
 pub const WAY_MAX: u32 = LEVEL_MAX as u32 + 1;
@@ -106,7 +101,7 @@ pub fn read_node<S: EawStore>(
 
 // Goes down to the leaf of a key.
 #[inline(always)]
-fn descend<S: EawStore>(
+pub fn descend<S: EawStore>(
     pages: &mut Pages<S>,
     root: Root,
     start: Start,
@@ -167,98 +162,20 @@ fn or_full(full: bool, count: u16) -> bool
     full || usize::from(count) >= PAIRS_MAX
 }
 
-// The slot of a key.
-pub fn find<S: EawStore>(
-    pages: &mut Pages<S>,
-    root: Root,
-    key: u64,
-) -> Result<Option<u32>, PageFault>
-    requires root { root.page < page_count (S.view pages.old.store).shape }
-    requires sound { IsTrue S.tells → IsAlive (S.view pages.old.store) → AreSoundTrees (S.view pages.old.store).state.bytes }
-    requires named { IsTrue S.tells → IsAlive (S.view pages.old.store) → IsTable (S.view pages.old.store).state.bytes root.table root.page }
-    ensures looks { Looks S.tells (S.opens (S.view pages.old.store).shape) (is_failed result)
-        (pages_of (S.view pages.old.store) pages.old) (pages_of (S.view pages.new.store) pages.new) }
-    ensures cause { LookCause S.tells (S.view pages.old.store) result }
-    ensures follows { Follows S.tells (S.calls pages.old.store) (S.calls pages.new.store) (tree_finding root.page key) (λ slot. slot)
-        (S.view pages.old.store) (S.view pages.new.store) result }
-    ensures found { IsTrue S.tells → IfOk result (λ slot. slot ≡ found (pairs_of_tree (S.view pages.old.store).state.bytes root.page) key) }
-    ensures inside { IfOk result (λ slot. IfSome slot (λ slot. slot < slots_of (S.view pages.old.store).shape)) }
-    ensures dead { IsErrOf result PageFault.Dead → pages.new ≡ pages.old }
-{
-    let count = index_page_count(pages);
-    let start = Start {
-        page: root.page,
-        key,
-        most: WAY_MAX,
-    };
-    let mut bytes = [0; PAGE_LEN];
-    let leaf = descend(pages, root, start, &mut bytes)?;
-    let Some(slot) = slot_in(&bytes, leaf.count, key) else {
-        return Ok(None);
-    };
-    if slot >= u64::from(SLOTS_IN_PAGE * count) {
-        return Err(PageFault::Damaged { page: leaf.page });
-    }
-    Ok(Some(slot as u32))
-}
-
-// The slot of a key, or the leaf that its pair goes into, if no page on the way is full.
-pub fn find_place<S: EawStore>(
-    pages: &mut Pages<S>,
-    root: Root,
-    key: u64,
-) -> Result<Sought, PageFault>
-    requires root { root.page < page_count (S.view pages.old.store).shape }
-    requires sound { IsTrue S.tells → IsAlive (S.view pages.old.store) → AreSoundTrees (S.view pages.old.store).state.bytes }
-    requires named { IsTrue S.tells → IsAlive (S.view pages.old.store) → IsTable (S.view pages.old.store).state.bytes root.table root.page }
-    ensures looks { Looks S.tells (S.opens (S.view pages.old.store).shape) (is_failed result)
-        (pages_of (S.view pages.old.store) pages.old) (pages_of (S.view pages.new.store) pages.new) }
-    ensures cause { LookCause S.tells (S.view pages.old.store) result }
-    ensures follows { FollowsToPlace S.tells (S.calls pages.old.store) (S.calls pages.new.store) tree root.page key
-        (S.view pages.old.store) (S.view pages.new.store) result }
-    ensures found { IsTrue S.tells → IfOk result (λ sought. slot_sought sought ≡ found (pairs_of_tree (S.view pages.old.store).state.bytes root.page) key) }
-    ensures place { IsTrue S.tells → IfOk result (IsSoughtFor tree (S.view pages.old.store).state.bytes root.page key) }
-    ensures inside { IfOk result (IsSoughtIn (S.view pages.old.store).shape) }
-    ensures dead { IsErrOf result PageFault.Dead → pages.new ≡ pages.old }
-{
-    let count = index_page_count(pages);
-    let start = Start {
-        page: root.page,
-        key,
-        most: WAY_MAX,
-    };
-    let mut bytes = [0; PAGE_LEN];
-    let leaf = descend(pages, root, start, &mut bytes)?;
-    let Leaf { page, full, .. } = leaf;
-    if let Some(slot) = slot_in(&bytes, leaf.count, key) {
-        if slot >= u64::from(SLOTS_IN_PAGE * count) {
-            return Err(PageFault::Damaged { page });
-        }
-        return Ok(Sought::Slot(slot as u32));
-    }
-    if full {
-        return Ok(Sought::Split);
-    }
-    if !is_index_page(page, count) {
-        return Err(PageFault::Damaged { page });
-    }
-    Ok(Sought::Place(LeafPage {
-        page,
-        link: NO_LINK,
-        pairs: read_pairs(&bytes, leaf.count),
-    }))
-}
-
 // The pairs of the leaf of a key from that key on, and where the way to the next leaf begins.
 #[derive(Drop)]
-struct Reached {
-    page: u32,
-    some: NextPairs,
-    behind: Option<Start>,
+pub struct Reached {
+    pub page: u32,
+    pub some: NextPairs,
+    pub behind: Option<Start>,
 }
 
 // Finds the pairs from a key on in the leaf of that key.
-fn reach<S: EawStore>(pages: &mut Pages<S>, root: Root, start: Start) -> Result<Reached, PageFault>
+pub fn reach<S: EawStore>(
+    pages: &mut Pages<S>,
+    root: Root,
+    start: Start,
+) -> Result<Reached, PageFault>
     requires inside { start.page < page_count (S.view pages.old.store).shape }
     requires some { 1 ≤ start.most }
     requires most { start.most ≤ 8 }
@@ -292,7 +209,7 @@ fn reach<S: EawStore>(pages: &mut Pages<S>, root: Root, start: Start) -> Result<
 }
 
 // The pairs of a leaf from its beginning on. It is damaged if it has none.
-fn begun(at: Reached) -> Result<NextPairs, PageFault>
+pub fn begun(at: Reached) -> Result<NextPairs, PageFault>
     ensures some { IfOk result (λ some. (some ≡ at.some) × (1 ≤ length some.items)) }
     ensures none { IfErr result (λ fault. (fault ≡ PageFault.Damaged at.page) × (at.some.items ≡ [])) }
 {
@@ -301,40 +218,4 @@ fn begun(at: Reached) -> Result<NextPairs, PageFault>
         return Err(PageFault::Damaged { page });
     }
     Ok(some)
-}
-
-// The pairs from this key on in the leaf of the key; those of the next leaf, if that one has none. The way there begins below the last page
-// that both ways share.
-pub fn next<S: EawStore>(
-    pages: &mut Pages<S>,
-    root: Root,
-    from: u64,
-) -> Result<NextPairs, PageFault>
-    requires root { root.page < page_count (S.view pages.old.store).shape }
-    requires sound { IsTrue S.tells → IsAlive (S.view pages.old.store) → AreSoundTrees (S.view pages.old.store).state.bytes }
-    requires named { IsTrue S.tells → IsAlive (S.view pages.old.store) → IsTable (S.view pages.old.store).state.bytes root.table root.page }
-    ensures looks { Looks S.tells (S.opens (S.view pages.old.store).shape) (is_failed result)
-        (pages_of (S.view pages.old.store) pages.old) (pages_of (S.view pages.new.store) pages.new) }
-    ensures cause { LookCause S.tells (S.view pages.old.store) result }
-    ensures follows { Follows S.tells (S.calls pages.old.store) (S.calls pages.new.store) (tree_nexting root.page from) (λ some. some.items)
-        (S.view pages.old.store) (S.view pages.new.store) result }
-    ensures next { IsTrue S.tells → IfOk result (λ some. AreNext (pairs_of_tree (S.view pages.old.store).state.bytes root.page) from some.items) }
-    ensures inside { IfOk result (λ some. AreInside from (slots_of (S.view pages.old.store).shape) some.items) }
-    ensures dead { IsErrOf result PageFault.Dead → pages.new ≡ pages.old }
-{
-    let start = Start {
-        page: root.page,
-        key: from,
-        most: WAY_MAX,
-    };
-    let at = reach(pages, root, start)?;
-    let Reached { some, behind, .. } = at;
-    if !some.is_empty() {
-        return Ok(some);
-    }
-    let Some(next_start) = behind else {
-        return Ok(some);
-    };
-    let later = reach(pages, root, next_start)?;
-    begun(later)
 }

@@ -7,74 +7,35 @@ ghost use Rattle.record_slots.specs.Super.{SaysSuper};
 ghost use Rattle.page_store.specs.Index.{IsTable, index_pages_of, slots_of};
 ghost use Rattle.page_store.specs.Looks.{Looks, LookCause, is_failed};
 ghost use Rattle.page_store.specs.Pairs.{found};
-ghost use Rattle.page_store.specs.Removes.{HasAbsent, Removes};
+ghost use Rattle.page_store.specs.Removes.{Removes};
 ghost use Rattle.page_store.specs.Shown.{pages_of, top_in};
-ghost use Rattle.page_store.specs.Works.{Works, WorksFrom, blamed, is_done, removal_actions, removal_limits};
+ghost use Rattle.page_store.specs.Works.{WorksFrom, blamed, is_done, removal_actions};
 ghost use Rattle.index_pages.specs.Fetched.{IsFront};
 ghost use Rattle.index_pages.specs.Giving.{MayGive, GivesSlot};
 ghost use Rattle.index_pages.specs.Page.{count_of, page_pairs};
 ghost use Rattle.btree_laws.specs.Descent.{child_for};
 ghost use Rattle.btree_laws.specs.Removals.{right_of, without_right};
 ghost use Rattle.btree_laws.specs.Tree.{pairs_of_tree};
-ghost use Rattle.btree_pages.specs.Downward.{below, down, tree_finding};
+ghost use Rattle.btree_pages.specs.Downward.{below, down};
 ghost use Rattle.btree_pages.specs.Index.{tree, tree_removal, AreSoundTrees};
 ghost use Rattle.btree_pages.specs.OnWay.{IsReached};
 ghost use Rattle.btree_pages.specs.Steps.{CameDown, FailsDown, ReadsNamed, limits_down};
 ghost use Rattle.btree_pages.specs.Writes.{IsRead, Releases};
 
-use crate::checking::FORM;
 use crate::emptied::{NewPairs, drop_leaf, join_leaves};
-use crate::insertion::is_index_page;
 use crate::node::{Node, fetch_child, fetch_node};
 use crate::parents::{place_behind, without_end, without_place};
 use crate::write::NO_LINK;
 use btree_laws::Root;
 use eaw_face::EawStore;
 use index_pages::{
-    LeafPage, Release, SLOTS_IN_PAGE, fetch_super, give_page, give_slot, index_page_count,
-    place_found, remove_pair,
+    LeafPage, Release, give_page, give_slot, index_page_count, place_found, remove_pair,
 };
 use page_store::{PageFault, Pages};
 use record_slots::Super;
 
-// Takes out the pair of a key. Returns false, and leaves all as it was, exactly when it is the last pair of an only child.
-pub fn remove<S: EawStore>(
-    pages: &mut Pages<S>,
-    tid: u8,
-    root: Root,
-    key: u64,
-) -> Result<bool, PageFault>
-    requires tid { tid < (S.view pages.old.store).shape.numbers }
-    requires table { root.table < 8 }
-    requires closed { IsAlive (S.view pages.old.store) → top_in pages.old.marks tid ≡ None }
-    requires sound { IsTrue S.tells → IsAlive (S.view pages.old.store) → AreSoundTrees (S.view pages.old.store).state.bytes }
-    requires named { IsTrue S.tells → IsAlive (S.view pages.old.store) → IsTable (S.view pages.old.store).state.bytes root.table root.page }
-    requires lists { IsTrue S.tells → IsAlive (S.view pages.old.store) → version_of (S.view pages.old.store).state.bytes ≡ 2 }
-    requires absent { IsTrue S.tells → IsAlive (S.view pages.old.store) → HasAbsent tree root.page root.table key (S.view pages.old.store).state.bytes }
-    ensures removes { Removes S.tells (S.opens (S.view pages.old.store).shape) tree tid root.page key
-        (pages_of (S.view pages.old.store) pages.old) (pages_of (S.view pages.new.store) pages.new) result }
-    ensures works { Works (Unit {0}) S.tells (is_done result) S.view S.calls tid (down root.page key)
-        (removal_limits (tree_finding root.page key) (S.view pages.old.store).shape) (removal_actions (tree_removal (S.view pages.old.store).state.bytes root.page key))
-        (blamed result) (S.view pages.old.store) (S.view pages.new.store) }
-    ensures dead { IsErrOf result PageFault.Dead → pages.new ≡ pages.old }
-{
-    let count = index_page_count(pages);
-    let front = fetch_super(pages, FORM)?;
-    if !is_index_page(root.page, count) {
-        return Err(PageFault::Damaged { page: 0 });
-    }
-    let top = fetch_node(pages, root.page)?;
-    if top.level > 0 {
-        return remove_below(pages, tid, root, key, &front, top);
-    }
-    let Some(slot) = release_slot(&front, &top, key) else {
-        return Err(PageFault::Damaged { page: top.page });
-    };
-    lose_pair(pages, tid, root, key, &slot, top)
-}
-
 // Goes on below the root, to the leaf of the key and the parent of that leaf.
-fn remove_below<S: EawStore>(
+pub fn remove_below<S: EawStore>(
     pages: &mut Pages<S>,
     tid: u8,
     root: Root,
@@ -153,7 +114,7 @@ fn fetch_parent<S: EawStore>(
 
 // Gives back the slot of the key's pair in its leaf. Nothing is written yet. `None` exactly when the leaf has no such pair, or its slot
 // cannot be given back.
-fn release_slot(front: &Super, leaf: &Node, key: u64) -> Option<Release>
+pub fn release_slot(front: &Super, leaf: &Node, key: u64) -> Option<Release>
     ensures gives { IfSome result (λ slot. GivesSlot front.now slot.number slot.free slot.front) }
     ensures finds { IfSome result (λ slot. found leaf.now.pairs.items key ≡ Some slot.number) }
     ensures none { IfNone result ((slot : ℕ) → found leaf.now.pairs.items key ≡ Some slot → ¬ MayGive front.now.version slot front.now.next_slot front.now.free_slots) }
@@ -175,7 +136,7 @@ fn below(number: u64, end: u32) -> Option<u32>
 }
 
 // Takes the pair out of a leaf that keeps others, or is the root.
-fn lose_pair<S: EawStore>(
+pub fn lose_pair<S: EawStore>(
     pages: &mut Pages<S>,
     tid: u8,
     root: Root,

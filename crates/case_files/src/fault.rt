@@ -18,6 +18,8 @@ pub enum LineFault {
     Image,
     #[error("what fails is `read`, `write` or `medium`")]
     Trouble,
+    #[error("a place is `began`, `answered`, `offered`, `ended` or `read`, and six numbers follow")]
+    Hold,
     #[error("this is no call of pages")]
     PageCall,
     #[error("two words are needed here")]

@@ -22,6 +22,7 @@
 //! | `> TEXT` | a line of its input |
 //! | `drawn N SEED` | N lines of raw commands, drawn from a seed |
 //! | `loads N A to B` | the keys A to B are put, each K with the value `vK`, N in a transaction; and the answers that all this was done |
+//! | `hold PLACE W N C T S F` | as worker W comes to a place for the T-th time, flag S is set, and then flag F is waited for. There are four flags, from 1 on, and 0 is none. PLACE is `began`, `answered`, `offered` or `ended`, in the N-th transaction of caller W, C being the call that is answered, or else 0; or `read`, before reader W asks for its N-th key. No wait may be given up |
 //! | `fail read A to B` | one read fails. The run is made once for the A-th read, once for the next, and so on to the B-th. `fail write` and `fail medium` are the same of the sink and of the medium |
 //! | `power A to B` | power is lost: the medium takes A calls, and fails each behind them. Again one run for each number |
 //!
@@ -72,6 +73,7 @@ mod draws;
 mod fault;
 mod fields;
 mod file;
+mod held;
 mod loads;
 mod page_call;
 mod ran;
@@ -86,6 +88,7 @@ pub use comparing::{compare, compare_places, compare_ran};
 pub use draws::Draws;
 pub use fault::{BadLine, LineFault};
 pub use file::read_cases;
+pub use held::{Held, Stop};
 pub use page_call::{PageCall, PageLine};
 pub use ran::Ran;
 pub use report::{CaseFault, Report};

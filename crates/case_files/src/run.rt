@@ -1,6 +1,7 @@
 use crate::draws::push_drawn;
 use crate::fault::LineFault;
 use crate::fields::{bytes, number, size, span, two_words, word_and_rest, words};
+use crate::held::Held;
 use crate::loads::push_loads;
 use crate::text_lines::push_lines;
 use std::alloc::Global;
@@ -74,6 +75,8 @@ pub struct Run {
     pub sets: Vec<Placed>,
     pub words: Vec<String>,
     pub input: Vec<u8>,
+    /// Who is held where.
+    pub holds: Vec<Held>,
     pub trouble: Trouble,
     /// Each way that will do.
     pub wanted: Vec<Wanted>,
@@ -91,6 +94,7 @@ impl Run {
             sets: Vec::new(alloc),
             words: Vec::new(alloc),
             input: Vec::new(alloc),
+            holds: Vec::new(alloc),
             trouble: Trouble {
                 kind: TroubleKind::Nothing,
                 first: 0,
@@ -111,7 +115,7 @@ impl Run {
     /// Takes what a line says of the run.
     pub fn take(&mut self, alloc: Global, word: &str, rest: &str) -> Result<(), LineFault> {
         match word {
-            "length" | "set" | "words" => self.take_start(alloc, word, rest),
+            "length" | "set" | "words" | "hold" => self.take_start(alloc, word, rest),
             "drawn" | "loads" => self.take_many(alloc, word, rest),
             "fail" | "power" => {
                 self.trouble = Trouble::read(word, rest)?;
@@ -127,11 +131,12 @@ impl Run {
         }
     }
 
-    // What there is before the run, and its words.
+    // What there is before the run, its words, and who is held in it.
     fn take_start(&mut self, alloc: Global, word: &str, rest: &str) -> Result<(), LineFault> {
         match word {
             "length" => self.len = Some(size(rest)?),
             "set" => self.sets.push(Placed::read(alloc, rest)?)?,
+            "hold" => self.holds.push(Held::read(alloc, rest)?)?,
             _ => self.words = words(alloc, rest)?,
         }
         Ok(())

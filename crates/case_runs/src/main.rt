@@ -5,6 +5,7 @@
 #![tactic(auto)]
 
 mod file_bytes;
+mod holds;
 mod once;
 mod over_file;
 mod playing;

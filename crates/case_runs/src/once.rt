@@ -1,8 +1,9 @@
 // One run of a case.
+use crate::holds::{Holds, holds_of};
 use crate::run_media::played_in_memory;
 use case_files::{CaseFault, Ran, Record, Run, TracedMedia, TroubleKind, has_failed};
 use case_pages::media_of;
-use mars_shell::{OpenGate, Status, fault_text, run};
+use mars_shell::{Status, fault_text, run};
 use outside::{MemorySink, MemorySource};
 use pcm_media::{FusedMedia, Media, MemoryMedia};
 use std::alloc::Global;
@@ -73,7 +74,7 @@ pub fn sink_of(alloc: Global, asked: &Run, nth: u64) -> Result<MemorySink, CaseF
     Ok(sink)
 }
 
-/// Makes a run over a medium. Where power is lost, that is behind `nth` calls.
+/// Makes a run over a medium. Where power is lost, that is behind `nth` calls. Nobody waits in vain where the case holds them.
 pub fn run_over<R: AllocGlobal + Threads + Wait + Sync, M: Media + Drop + Send>(
     rt: &R,
     asked: &Run,
@@ -91,7 +92,12 @@ pub fn run_over<R: AllocGlobal + Threads + Wait + Sync, M: Media + Drop + Send>(
             u64::MAX
         }
     };
+    let holds = holds_of(rt.alloc(), &asked.holds)?;
+    let gate = Holds::new(&holds);
     let media = FusedMedia::wrap(media, passes);
-    let (status, media) = run(rt, &asked.words, &mut source, sink, media, &OpenGate);
+    let (status, media) = run(rt, &asked.words, &mut source, sink, media, &gate);
+    if gate.given_up() > 0 {
+        return Err(CaseFault::Differs { what: "a wait" });
+    }
     Ok((status, media.into_inner()))
 }

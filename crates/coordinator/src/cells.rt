@@ -2,6 +2,8 @@
 ghost use Rattle.std.specs.Prelude.{◌≡◌, ◌<◌};
 ghost use Rattle.coordinator.specs.Commits.{cells_in};
 
+use array_shape::Shape;
+
 /// The cells that one number has of a commit at one logger: `count` cells from `first` on.
 #[derive(Clone, Copy, Debug, PartialEq, Eq)]
 pub struct Cells {
@@ -12,6 +14,13 @@ pub struct Cells {
 impl Cells {
     /// No cell.
     pub const NONE: Cells = Cells { first: 0, count: 0 };
+}
+
+/// The cells that the next commits of an array name: eight places for each number, one for each logger.
+#[derive(Clone, Copy)]
+pub struct CellTable<'a> {
+    pub shape: &'a Shape,
+    pub cells: &'a [Cells; 512],
 }
 
 // Those of number `tid` at a logger: the table has eight places for each number.

@@ -11,5 +11,5 @@ mod commits;
 mod phases;
 
 pub use ballots::ballot_for;
-pub use cells::Cells;
+pub use cells::{CellTable, Cells};
 pub use commits::{commit, decide, write_back};

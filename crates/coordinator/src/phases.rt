@@ -16,8 +16,8 @@ ghost use Rattle.coordinator.specs.Costs.{parts_at, parts_in_all, rows_at, rows_
 ghost use Rattle.coordinator.specs.Places.{bodies_at, votes_at};
 ghost use Rattle.coordinator.specs.Rows.{HasVote, Says};
 
-use crate::cells::{Cells, cells_in};
-use array_shape::{NumberSet, Shape};
+use crate::cells::{CellTable, Cells, cells_in};
+use array_shape::NumberSet;
 use logger::Logger;
 use mars_base::Failed;
 use pcm_media::Media;
@@ -26,20 +26,19 @@ use row_bytes::Ballot;
 // Writes the rows without their votes.
 pub(crate) fn put_rows<M: Media>(
     media: &mut M,
-    shape: &Shape,
+    table: &CellTable,
     ballot: Ballot,
-    cells: &[Cells; 512],
 ) -> Result<(), Failed>
-    requires mask { ballot.mask < 2 ^ shape.now.loggers }
-    requires group { ballot.group < 2 ^ shape.now.numbers }
-    requires size { (M.view media.old).size ≡ media_len shape.now }
-    ensures costs { Costs true (rows_in_all shape.now ballot + 1) (M.view media.old).moment (M.view media.new).moment result }
-    ensures does { Writes M.tells (bodies_of shape.now (has_row ballot)) (M.view media.old) (M.view media.new) result }
-    ensures names { IsTrue M.tells → OnOk result (((M.view media.new).content.unsettled ≡ []) × ((g t : ℕ) → g < shape.now.loggers → t < shape.now.numbers → has_row ballot g t ≡ true
-        → Says ballot cells.now g t (bytes_of shape.now (M.view media.new).content.bytes g t))) }
+    requires mask { ballot.mask < 2 ^ table.now.shape.now.loggers }
+    requires group { ballot.group < 2 ^ table.now.shape.now.numbers }
+    requires size { (M.view media.old).size ≡ media_len table.now.shape.now }
+    ensures costs { Costs true (rows_in_all table.now.shape.now ballot + 1) (M.view media.old).moment (M.view media.new).moment result }
+    ensures does { Writes M.tells (bodies_of table.now.shape.now (has_row ballot)) (M.view media.old) (M.view media.new) result }
+    ensures names { IsTrue M.tells → OnOk result (((M.view media.new).content.unsettled ≡ []) × ((g t : ℕ) → g < table.now.shape.now.loggers → t < table.now.shape.now.numbers → has_row ballot g t ≡ true
+        → Says ballot table.now.cells.now g t (bytes_of table.now.shape.now (M.view media.new).content.bytes g t))) }
 {
     for tid in group_of(ballot).members() {
-        put_rows_of(media, shape, ballot, cells, tid)?;
+        put_rows_of(media, table, ballot, tid)?;
     }
     media.barrier()
 }
@@ -47,24 +46,23 @@ pub(crate) fn put_rows<M: Media>(
 // Those of one number.
 fn put_rows_of<M: Media>(
     media: &mut M,
-    shape: &Shape,
+    table: &CellTable,
     ballot: Ballot,
-    cells: &[Cells; 512],
     tid: u8,
 ) -> Result<(), Failed>
-    requires tid { tid < shape.now.numbers }
+    requires tid { tid < table.now.shape.now.numbers }
     requires has { has ballot.group tid ≡ true }
-    requires mask { ballot.mask < 2 ^ shape.now.loggers }
-    requires size { (M.view media.old).size ≡ media_len shape.now }
-    ensures costs { Costs true (rows_at shape.now ballot tid) (M.view media.old).moment (M.view media.new).moment result }
-    ensures does { Writes M.tells (bodies_at shape.now ballot tid) (M.view media.old) (M.view media.new) result }
-    ensures names { IsTrue M.tells → OnOk result ((g : ℕ) → g < shape.now.loggers → has_row ballot g tid ≡ true
-        → Says ballot cells.now g tid (bytes_of shape.now (M.view media.new).content.bytes g tid)) }
+    requires mask { ballot.mask < 2 ^ table.now.shape.now.loggers }
+    requires size { (M.view media.old).size ≡ media_len table.now.shape.now }
+    ensures costs { Costs true (rows_at table.now.shape.now ballot tid) (M.view media.old).moment (M.view media.new).moment result }
+    ensures does { Writes M.tells (bodies_at table.now.shape.now ballot tid) (M.view media.old) (M.view media.new) result }
+    ensures names { IsTrue M.tells → OnOk result ((g : ℕ) → g < table.now.shape.now.loggers → has_row ballot g tid ≡ true
+        → Says ballot table.now.cells.now g tid (bytes_of table.now.shape.now (M.view media.new).content.bytes g tid)) }
 {
     for number in mask_of(ballot).members() {
-        let Cells { first, count } = cells_in(cells, number, tid);
+        let Cells { first, count } = cells_in(table.cells, number, tid);
         let row = ballot.row(tid, first, count);
-        Logger::new(*shape, number).put_row(media, tid, row)?;
+        Logger::new(*table.shape, number).put_row(media, tid, row)?;
     }
     Ok(())
 }
@@ -72,20 +70,20 @@ fn put_rows_of<M: Media>(
 // Writes or clears the votes. Once all of them stand, the parts are decided.
 pub(crate) fn set_votes<M: Media>(
     media: &mut M,
-    shape: &Shape,
+    table: &CellTable,
     ballot: Ballot,
     voted: bool,
 ) -> Result<(), Failed>
-    requires mask { ballot.mask < 2 ^ shape.now.loggers }
-    requires group { ballot.group < 2 ^ shape.now.numbers }
-    requires size { (M.view media.old).size ≡ media_len shape.now }
-    ensures costs { Costs true (rows_in_all shape.now ballot + 1) (M.view media.old).moment (M.view media.new).moment result }
-    ensures does { Writes M.tells (votes_of shape.now (has_row ballot)) (M.view media.old) (M.view media.new) result }
-    ensures votes { IsTrue M.tells → OnOk result (((M.view media.new).content.unsettled ≡ []) × ((g t : ℕ) → g < shape.now.loggers → t < shape.now.numbers → has_row ballot g t ≡ true
-        → HasVote voted (bytes_of shape.now (M.view media.new).content.bytes g t))) }
+    requires mask { ballot.mask < 2 ^ table.now.shape.now.loggers }
+    requires group { ballot.group < 2 ^ table.now.shape.now.numbers }
+    requires size { (M.view media.old).size ≡ media_len table.now.shape.now }
+    ensures costs { Costs true (rows_in_all table.now.shape.now ballot + 1) (M.view media.old).moment (M.view media.new).moment result }
+    ensures does { Writes M.tells (votes_of table.now.shape.now (has_row ballot)) (M.view media.old) (M.view media.new) result }
+    ensures votes { IsTrue M.tells → OnOk result (((M.view media.new).content.unsettled ≡ []) × ((g t : ℕ) → g < table.now.shape.now.loggers → t < table.now.shape.now.numbers → has_row ballot g t ≡ true
+        → HasVote voted (bytes_of table.now.shape.now (M.view media.new).content.bytes g t))) }
 {
     for tid in group_of(ballot).members() {
-        set_votes_of(media, shape, ballot, tid, voted)?;
+        set_votes_of(media, table, ballot, tid, voted)?;
     }
     media.barrier()
 }
@@ -93,22 +91,22 @@ pub(crate) fn set_votes<M: Media>(
 // Those of one number.
 fn set_votes_of<M: Media>(
     media: &mut M,
-    shape: &Shape,
+    table: &CellTable,
     ballot: Ballot,
     tid: u8,
     voted: bool,
 ) -> Result<(), Failed>
-    requires tid { tid < shape.now.numbers }
+    requires tid { tid < table.now.shape.now.numbers }
     requires has { has ballot.group tid ≡ true }
-    requires mask { ballot.mask < 2 ^ shape.now.loggers }
-    requires size { (M.view media.old).size ≡ media_len shape.now }
-    ensures costs { Costs true (rows_at shape.now ballot tid) (M.view media.old).moment (M.view media.new).moment result }
-    ensures does { Writes M.tells (votes_at shape.now ballot tid) (M.view media.old) (M.view media.new) result }
-    ensures votes { IsTrue M.tells → OnOk result ((g : ℕ) → g < shape.now.loggers → has_row ballot g tid ≡ true
-        → HasVote voted (bytes_of shape.now (M.view media.new).content.bytes g tid)) }
+    requires mask { ballot.mask < 2 ^ table.now.shape.now.loggers }
+    requires size { (M.view media.old).size ≡ media_len table.now.shape.now }
+    ensures costs { Costs true (rows_at table.now.shape.now ballot tid) (M.view media.old).moment (M.view media.new).moment result }
+    ensures does { Writes M.tells (votes_at table.now.shape.now ballot tid) (M.view media.old) (M.view media.new) result }
+    ensures votes { IsTrue M.tells → OnOk result ((g : ℕ) → g < table.now.shape.now.loggers → has_row ballot g tid ≡ true
+        → HasVote voted (bytes_of table.now.shape.now (M.view media.new).content.bytes g tid)) }
 {
     for number in mask_of(ballot).members() {
-        Logger::new(*shape, number).set_vote(media, tid, voted)?;
+        Logger::new(*table.shape, number).set_vote(media, tid, voted)?;
     }
     Ok(())
 }
@@ -116,20 +114,19 @@ fn set_votes_of<M: Media>(
 // Writes the parts into the data.
 pub(crate) fn install<M: Media>(
     media: &mut M,
-    shape: &Shape,
+    table: &CellTable,
     ballot: Ballot,
-    cells: &[Cells; 512],
 ) -> Result<(), Failed>
-    requires there { AreThere shape.now ballot cells.now }
-    requires size { (M.view media.old).size ≡ media_len shape.now }
-    requires good { IsTrue M.tells → AreGood shape.now (M.view media.old).content.bytes ballot cells.now }
-    ensures costs { Costs M.tells (2 * parts_in_all shape.now ballot cells.now + 1) (M.view media.old).moment (M.view media.new).moment result }
-    ensures does { Writes M.tells (places_of shape.now (parts_named shape.now (M.view media.old).content.bytes ballot cells.now)) (M.view media.old) (M.view media.new) result }
+    requires there { AreThere table.now.shape.now ballot table.now.cells.now }
+    requires size { (M.view media.old).size ≡ media_len table.now.shape.now }
+    requires good { IsTrue M.tells → AreGood table.now.shape.now (M.view media.old).content.bytes ballot table.now.cells.now }
+    ensures costs { Costs M.tells (2 * parts_in_all table.now.shape.now ballot table.now.cells.now + 1) (M.view media.old).moment (M.view media.new).moment result }
+    ensures does { Writes M.tells (places_of table.now.shape.now (parts_named table.now.shape.now (M.view media.old).content.bytes ballot table.now.cells.now)) (M.view media.old) (M.view media.new) result }
     ensures applied { IsTrue M.tells → OnOk result (((M.view media.new).content.unsettled ≡ [])
-        × (data_of shape.now (M.view media.new).content.bytes ≡ applied (parts_named shape.now (M.view media.old).content.bytes ballot cells.now) (data_of shape.now (M.view media.old).content.bytes))) }
+        × (data_of table.now.shape.now (M.view media.new).content.bytes ≡ applied (parts_named table.now.shape.now (M.view media.old).content.bytes ballot table.now.cells.now) (data_of table.now.shape.now (M.view media.old).content.bytes))) }
 {
     for tid in group_of(ballot).members() {
-        install_of(media, shape, ballot, cells, tid)?;
+        install_of(media, table, ballot, tid)?;
     }
     media.barrier()
 }
@@ -137,24 +134,23 @@ pub(crate) fn install<M: Media>(
 // Those of one number.
 fn install_of<M: Media>(
     media: &mut M,
-    shape: &Shape,
+    table: &CellTable,
     ballot: Ballot,
-    cells: &[Cells; 512],
     tid: u8,
 ) -> Result<(), Failed>
-    requires tid { tid < shape.now.numbers }
+    requires tid { tid < table.now.shape.now.numbers }
     requires has { has ballot.group tid ≡ true }
-    requires there { AreThere shape.now ballot cells.now }
-    requires size { (M.view media.old).size ≡ media_len shape.now }
-    requires good { IsTrue M.tells → AreGood shape.now (M.view media.old).content.bytes ballot cells.now }
-    ensures costs { Costs M.tells (2 * parts_at shape.now ballot cells.now tid) (M.view media.old).moment (M.view media.new).moment result }
-    ensures does { Writes M.tells (places_of shape.now (number_parts shape.now (M.view media.old).content.bytes ballot cells.now tid)) (M.view media.old) (M.view media.new) result }
-    ensures applied { IsTrue M.tells → OnOk result (data_of shape.now (M.view media.new).content.bytes ≡
-        applied (number_parts shape.now (M.view media.old).content.bytes ballot cells.now tid) (data_of shape.now (M.view media.old).content.bytes)) }
+    requires there { AreThere table.now.shape.now ballot table.now.cells.now }
+    requires size { (M.view media.old).size ≡ media_len table.now.shape.now }
+    requires good { IsTrue M.tells → AreGood table.now.shape.now (M.view media.old).content.bytes ballot table.now.cells.now }
+    ensures costs { Costs M.tells (2 * parts_at table.now.shape.now ballot table.now.cells.now tid) (M.view media.old).moment (M.view media.new).moment result }
+    ensures does { Writes M.tells (places_of table.now.shape.now (number_parts table.now.shape.now (M.view media.old).content.bytes ballot table.now.cells.now tid)) (M.view media.old) (M.view media.new) result }
+    ensures applied { IsTrue M.tells → OnOk result (data_of table.now.shape.now (M.view media.new).content.bytes ≡
+        applied (number_parts table.now.shape.now (M.view media.old).content.bytes ballot table.now.cells.now tid) (data_of table.now.shape.now (M.view media.old).content.bytes)) }
 {
     for number in mask_of(ballot).members() {
-        let Cells { first, count } = cells_in(cells, number, tid);
-        Logger::new(*shape, number).apply(media, tid, first, count)?;
+        let Cells { first, count } = cells_in(table.cells, number, tid);
+        Logger::new(*table.shape, number).apply(media, tid, first, count)?;
     }
     Ok(())
 }

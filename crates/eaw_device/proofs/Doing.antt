@@ -3,7 +3,6 @@ use Rattle.std.proofs.Common.{◌≡◌, ℕ, ◌+◌, ◌<◌, ◌≤◌, Bool,
 use Rattle.std.specs.Prelude.{None, IsTrue, OnOk, OnErr, IsErrAnd, is_err, slice_get, Some}
 use Rattle.std.proofs.lemmas.Bool.{false≢true}
 use Rattle.mars_base.specs.Causes.{Rose}
-use Rattle.mars_base.proofs.Going.{stays}
 use Rattle.pcm_media.specs.View.{View}
 use Rattle.array_shape.specs.declared.shape.Shape.{Shape}
 use Rattle.eaw_face.specs.State.{Logs}
@@ -12,6 +11,7 @@ use Rattle.eaw_face.specs.Command.{commit_group, Command, after}
 use Rattle.eaw_face.specs.Causes.{IsAlive, known, IsNumberOf, room_for, Cause}
 use Rattle.eaw_face.proofs.Others.{others_after}
 use Rattle.eaw_face.proofs.Mirroring.{none_sent}
+use Rattle.eaw_face.proofs.Refusing.{refused}
 use Rattle.eaw_face.specs.Sending.{Sending}
 use Rattle.eaw_face.specs.Mirroring.{Mirrors}
 use Rattle.eaw_face.specs.Does.{Becomes, IsEither, Does}
@@ -67,29 +67,6 @@ module _ (tells : Bool) (Opens : List ℕ → List ℕ → Type 0) (command : Co
     sends = tt;
     refused = still.0;
   }
-
--- a command that is refused, by a fault other than the medium's
-pub refused : {T : Type 0} (tells : Bool) (Opens : List ℕ → List ℕ → Type 0) (command : Command) (store : StoreView) (fault : EawFault) → (let r : Result T EawFault = Err fault in Cause store command store.faults r) → (fault ≡ Media → ⊥)
-    → (r : Result T EawFault) → IsErrAnd r (λ e. e ≡ fault) → Does tells Opens command store store r
-refused {T} tells Opens command store fault cause other (Ok x) is = absurd is
-refused {T} tells Opens command store fault cause other (Err e) is = record {
-  shape = refl;
-  depth = refl;
-  later = omega arith;
-  cause = subst (λ (f : EawFault). let r : Result T EawFault = Err f in Cause store command store.faults r) (sym is) cause;
-  done = tt;
-  kept = tt;
-  dies = λ dead. absurd (other (sym is ∙ same dead));
-  others = λ u apart. refl;
-  time = λ told fine. stays store.moment store.left_since (IsEither Opens store.state.bytes (after command store.state).bytes);
-  mirrors = none_sent tells store store refl refl refl refl (λ alive. alive) (λ told mirrors alive. refl);
-  one = omega arith;
-  sends = tt;
-  refused = refl;
-}
-  where
-    same : (let r : Result T EawFault = Err e in let s : Result T EawFault = Err Media in r ≡ s) → e ≡ Media
-    same dead = cc
 
 -- a command on a number that has no log
 pub lacking : {T : Type 0} (tells : Bool) (Opens : List ℕ → List ℕ → Type 0) (command : Command) (store : StoreView) (t : ℕ) → ((u : ℕ) → (IsLive store t → ⊥) → u ≡ t → known store command (Some u))

@@ -40,8 +40,8 @@ use Rattle.write_back.specs.Spared.{AreSpared}
 use Rattle.write_back.proofs.Sparing.{late_held}
 use Rattle.write_back.proofs.Tying.{or_also}
 use Rattle.eaw_device.specs.Sound.{IsSound, shown, view_of}
-use Rattle.eaw_device.proofs.Entries.{cells_on_here, cells_on_past}
-use Rattle.eaw_device.proofs.LogParts.{firsts_same, rests_same, part_in, EachCell, EachIn, each_number, each_cell, each_held, parts_in_same}
+use Rattle.write_back.proofs.EntryParts.{firsts_same, rests_same, cells_on_here, cells_on_past, part_in}
+use Rattle.eaw_device.proofs.LogParts.{EachCell, EachIn, each_number, each_cell, each_held, parts_in_same}
 use Rattle.eaw_device.proofs.Staged.{cells_apart}
 use Rattle.eaw_device.proofs.Tables.{entries_there, entries_live, parts_there, held_kept, others_kept, sound_media}
 use Rattle.eaw_device.proofs.Sure.{cells_data, cells_sure, cells_time}

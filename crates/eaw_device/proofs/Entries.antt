@@ -2,7 +2,6 @@
 use Rattle.std.proofs.Common.{◌≡◌, ℕ, zero, suc, ◌+◌, ◌-◌, ◌*◌, ◌<◌, ◌≤◌, Bool, true, false, cond, nat_eq, List, [], ◌∷◌, ◌++◌, length, take, refl, ◌∙◌, ap, arith}
 use Rattle.std.specs.Prelude.{filter}
 use Rattle.std.specs.List.{range_with_len}
-use Rattle.std.proofs.lemmas.Bool.{eq-eqb, ne_eqb}
 use Rattle.std.proofs.lemmas.Nat.{mod_below}
 use Rattle.array_shape.specs.declared.shape.Shape.{Shape}
 use Rattle.array_shape.specs.Places.{logger_of, IsShape}
@@ -62,13 +61,6 @@ module _ (shape : Shape) where
           → cond on (e.cell ∷ cells_on shape g (es ++ ys)) (cells_on shape g (es ++ ys)) ≡ cond on (e.cell ∷ cells_on shape g es) (cells_on shape g es) ++ cells_on shape g ys
       one true same = ap (λ (l : List ℕ). e.cell ∷ l) same
       one false same = same
-
-  -- an entry of this logger, and one of another
-  pub cells_on_here : (g : ℕ) (e : Entry) (es : List Entry) → logger_of shape e.addr ≡ g → cells_on shape g (e ∷ es) ≡ e.cell ∷ cells_on shape g es
-  cells_on_here g e es is = ap (λ (on : Bool). cond on (e.cell ∷ cells_on shape g es) (cells_on shape g es)) (eq-eqb (logger_of shape e.addr) g is)
-
-  pub cells_on_past : (g : ℕ) (e : Entry) (es : List Entry) → (logger_of shape e.addr ≡ g → ⊥) → cells_on shape g (e ∷ es) ≡ cells_on shape g es
-  cells_on_past g e es ne = ap (λ (on : Bool). cond on (e.cell ∷ cells_on shape g es) (cells_on shape g es)) (ne_eqb (logger_of shape e.addr) g ne)
 
   pub count_on-ranges_in : (g : ℕ) (es : List Entry) → count_on shape g (ranges_in es) ≡ length (cells_on shape g es)
   count_on-ranges_in g [] = refl

@@ -16,7 +16,8 @@ use Rattle.write_back.specs.declared.entry.Entry.{Entry}
 use Rattle.eaw_device.specs.declared.log.Log.{Log}
 use Rattle.eaw_device.specs.Logs.{IsKept, Adds}
 use Rattle.write_back.specs.Entries.{ranges_in, cells_on}
-use Rattle.eaw_device.proofs.Entries.{numbers_split, numbers_more, ranges_in-append, ranges_in-take, length-ranges_in, logger_small, cells_on-append, cells_on_here, cells_on_past, few_entries}
+use Rattle.eaw_device.proofs.Entries.{numbers_split, numbers_more, ranges_in-append, ranges_in-take, length-ranges_in, logger_small, cells_on-append, few_entries}
+use Rattle.write_back.proofs.EntryParts.{cells_on_here, cells_on_past}
 
 abbrev pub HasPlace : Shape → ℕ × ℕ → Type 0
 HasPlace shape r = IsPlaced shape r.0 r.1

@@ -15,15 +15,9 @@ use Rattle.write_back.specs.declared.entry.Entry.{Entry}
 use Rattle.eaw_device.specs.declared.log.Log.{Log}
 use Rattle.eaw_device.specs.Logs.{IsKept, IsHeld}
 use Rattle.write_back.specs.Entries.{IsEntry, ranges_in, parts_in, cells_on}
-use Rattle.eaw_device.proofs.Entries.{logger_small, cells_on_here, cells_on_past}
+use Rattle.eaw_device.proofs.Entries.{logger_small}
+use Rattle.write_back.proofs.EntryParts.{firsts_same, rests_same, cells_on_here, cells_on_past, part_in, parts_at-parts_in, parts_from-numbers}
 use Rattle.eaw_device.proofs.Keeping.{HasPlace, last_cells, first_few}
-
--- equal lists have equal first elements, and equal rests
-pub firsts_same : {A : Type 0} (x y : A) (xs ys : List A) → x ∷ xs ≡ y ∷ ys → x ≡ y
-firsts_same x y xs ys is = cc
-
-pub rests_same : {A : Type 0} (x y : A) (xs ys : List A) → x ∷ xs ≡ y ∷ ys → xs ≡ ys
-rests_same x y xs ys is = cc
 
 pub ranges_in-drop : (n : ℕ) (es : List Entry) → ranges_in (drop n es) ≡ drop n (ranges_in es)
 ranges_in-drop zero es = refl
@@ -64,48 +58,18 @@ count_on-ranges_of shape g (p ∷ ps) = one (nat_eq (logger_of shape p.0) g) (co
     one false same = same
 
 module _ (shape : Shape) (image : List ℕ) (t : ℕ) where
-  -- the part in a cell
-  abbrev pub part_in : ℕ → ℕ → Part
-  part_in g c = cell_part (cell_of shape image g t c)
-
-  pub parts_in-append : (xs ys : List Entry) → parts_in shape image t (xs ++ ys) ≡ parts_in shape image t xs ++ parts_in shape image t ys
-  parts_in-append [] ys = refl
-  parts_in-append (e ∷ es) ys = ap (λ (l : List Part). part_in (logger_of shape e.addr) e.cell ∷ l) (parts_in-append es ys)
-
   pub parts_in-take : (n : ℕ) (es : List Entry) → parts_in shape image t (take n es) ≡ take n (parts_in shape image t es)
   parts_in-take zero es = refl
   parts_in-take (suc n) [] = refl
-  parts_in-take (suc n) (e ∷ es) = ap (λ (l : List Part). part_in (logger_of shape e.addr) e.cell ∷ l) (parts_in-take n es)
+  parts_in-take (suc n) (e ∷ es) = ap (λ (l : List Part). part_in shape image t (logger_of shape e.addr) e.cell ∷ l) (parts_in-take n es)
 
   pub parts_in-drop : (n : ℕ) (es : List Entry) → parts_in shape image t (drop n es) ≡ drop n (parts_in shape image t es)
   parts_in-drop zero es = refl
   parts_in-drop (suc n) [] = refl
   parts_in-drop (suc n) (e ∷ es) = parts_in-drop n es
 
-  pub parts_from-numbers : (g e n : ℕ) → parts_from shape image g t e n ≡ map (part_in g) (range_with_len e n)
-  parts_from-numbers g e zero = refl
-  parts_from-numbers g e (suc n) = ap (λ (l : List Part). part_in g e ∷ l) (parts_from-numbers g (e + 1) n)
-
-  -- if the cells say the ranges of the entries, the parts of one logger are those in its cells
-  pub parts_at-parts_in : (g : ℕ) (es : List Entry) → ranges_of (parts_in shape image t es) ≡ ranges_in es → parts_at shape g (parts_in shape image t es) ≡ map (part_in g) (cells_on shape g es)
-  parts_at-parts_in g [] heads = refl
-  parts_at-parts_in g (e ∷ es) heads =
-      let p = part_in (logger_of shape e.addr) e.cell in
-      let first = firsts_same (p.0, length p.1) (e.addr, e.len) (ranges_of (parts_in shape image t es)) (ranges_in es) heads in
-      let rest = parts_at-parts_in g es (rests_same (p.0, length p.1) (e.addr, e.len) (ranges_of (parts_in shape image t es)) (ranges_in es) heads) in
-      let logger : logger_of shape p.0 ≡ logger_of shape e.addr = ap (λ (r : ℕ × ℕ). logger_of shape r.0) first in
-      elim (cases_eq (logger_of shape e.addr) g) [
-        | inl is ↦
-            (λ i. cond (eq-eqb (logger_of shape p.0) g (logger ∙ is) i) (p ∷ rest i) (rest i))
-            ∙ ap (λ (h : ℕ). part_in h e.cell ∷ map (part_in g) (cells_on shape g es)) is
-            ∙ sym (ap (map (part_in g)) (cells_on_here shape g e es is))
-        | inr ne ↦
-            (λ i. cond (ne_eqb (logger_of shape p.0) g (λ is. ne (sym logger ∙ is)) i) (p ∷ rest i) (rest i))
-            ∙ sym (ap (map (part_in g)) (cells_on_past shape g e es ne))
-      ]
-
   -- entries with the ranges of parts, of which each logger has its own in its cells, have these parts
-  pub same_parts : (shaped : IsShape shape) (es : List Entry) (qs : List Part) → ranges_in es ≡ ranges_of qs → ((g : ℕ) → g < shape.loggers → map (part_in g) (cells_on shape g es) ≡ filter (is_write_part_on shape g) qs) → parts_in shape image t es ≡ qs
+  pub same_parts : (shaped : IsShape shape) (es : List Entry) (qs : List Part) → ranges_in es ≡ ranges_of qs → ((g : ℕ) → g < shape.loggers → map (part_in shape image t g) (cells_on shape g es) ≡ filter (is_write_part_on shape g) qs) → parts_in shape image t es ≡ qs
   same_parts shaped [] [] ranges same = refl
   same_parts shaped [] (q ∷ qs) ranges same = absurd (let long = ap length ranges in omega (arith, long))
   same_parts shaped (e ∷ es) [] ranges same = absurd (let long = ap length ranges in omega (arith, long))
@@ -113,16 +77,16 @@ module _ (shape : Shape) (image : List ℕ) (t : ℕ) where
       let first = firsts_same (e.addr, e.len) (q.0, length q.1) (ranges_in es) (ranges_of qs) ranges in
       let rest = rests_same (e.addr, e.len) (q.0, length q.1) (ranges_in es) (ranges_of qs) ranges in
       let logger : logger_of shape q.0 ≡ logger_of shape e.addr = ap (λ (r : ℕ × ℕ). logger_of shape r.0) (sym first) in
-      let on : (g : ℕ) → logger_of shape e.addr ≡ g → g < shape.loggers → part_in g e.cell ∷ map (part_in g) (cells_on shape g es) ≡ q ∷ filter (is_write_part_on shape g) qs =
+      let on : (g : ℕ) → logger_of shape e.addr ≡ g → g < shape.loggers → part_in shape image t g e.cell ∷ map (part_in shape image t g) (cells_on shape g es) ≡ q ∷ filter (is_write_part_on shape g) qs =
       λ g is lt.
-      sym (ap (map (part_in g)) (cells_on_here shape g e es is)) ∙ same g lt
+      sym (ap (map (part_in shape image t g)) (cells_on_here shape g e es is)) ∙ same g lt
       ∙ ap (λ (b : Bool). cond b (q ∷ filter (is_write_part_on shape g) qs) (filter (is_write_part_on shape g) qs)) (eq-eqb (logger_of shape q.0) g (logger ∙ is)) in
       let here = logger_of shape e.addr in
-      let head = firsts_same (part_in here e.cell) q (map (part_in here) (cells_on shape here es)) (filter (is_write_part_on shape here) qs) (on here refl (logger_small shape e.addr shaped)) in
+      let head = firsts_same (part_in shape image t here e.cell) q (map (part_in shape image t here) (cells_on shape here es)) (filter (is_write_part_on shape here) qs) (on here refl (logger_small shape e.addr shaped)) in
       let tail = same_parts shaped es qs rest (λ g lt. elim (cases_eq (logger_of shape e.addr) g) [
-        | inl is ↦ rests_same (part_in g e.cell) q (map (part_in g) (cells_on shape g es)) (filter (is_write_part_on shape g) qs) (on g is lt)
+        | inl is ↦ rests_same (part_in shape image t g e.cell) q (map (part_in shape image t g) (cells_on shape g es)) (filter (is_write_part_on shape g) qs) (on g is lt)
         | inr ne ↦
-            sym (ap (map (part_in g)) (cells_on_past shape g e es ne)) ∙ same g lt
+            sym (ap (map (part_in shape image t g)) (cells_on_past shape g e es ne)) ∙ same g lt
             ∙ ap (λ (b : Bool). cond b (q ∷ filter (is_write_part_on shape g) qs) (filter (is_write_part_on shape g) qs)) (ne_eqb (logger_of shape q.0) g (λ is. ne (sym logger ∙ is)))
       ]) in
       (λ i. head i ∷ tail i)

@@ -1,6 +1,6 @@
 -- A device of which some commits that wait are written back, and a command after that.
 use Rattle.std.proofs.Common.{◌≡◌, ℕ, ◌<◌, ◌≤◌, Bool, true, false, inl, inr, List, drop, length, Result, Ok, Err, refl, sym, ◌∙◌, ap, subst, arith}
-use Rattle.std.specs.Prelude.{IsTrue, Option, Some, slice_get, slice_index, None}
+use Rattle.std.specs.Prelude.{IfErr, IsTrue, OnOk, Option, Some, slice_get, slice_index, None}
 use Rattle.std.proofs.lemmas.Bool.{cases_Bool, false≢true}
 use Rattle.std.proofs.lemmas.Option.{slice_get_within}
 use Rattle.std.proofs.lemmas.Result.{on_ok_weaker, on_err_weaker}
@@ -127,9 +127,11 @@ module _ (tells : Bool) (old new : View) (shape : Shape) (logs : List Log) (late
     };
   }
 
-  pub quiet_done : new.faults ≡ old.faults → (IsTrue tells → data_with shape late'.queue new.content.bytes ≡ data_with shape late.queue old.content.bytes)
-      → (let ok : Result (Unit {0}) EawFault = Ok tt in IsQuiet tells (Opens shape) (view_of old shape logs late is_dead) (view_of new shape logs late' is_dead) ok)
-  quiet_done kept whole = record {
+  quiet_so : (dead : Bool) (answer : Result (Unit {0}) EawFault) → OnOk answer (new.faults ≡ old.faults) → OnOk answer (dead ≡ false)
+      → (IsTrue tells → OnOk answer ((view_of new shape logs late' dead).state ≡ (view_of old shape logs late is_dead).state))
+      → IfErr answer (λ fault. (fault ≡ Media) × (dead ≡ true) × Rose old.faults new.faults)
+      → IsQuiet tells (Opens shape) (view_of old shape logs late is_dead) (view_of new shape logs late' dead) answer
+  quiet_so dead answer kept alive' state failed = record {
     shape = refl;
     depth = back.depth;
     device = back.does.does.device;
@@ -137,26 +139,18 @@ module _ (tells : Bool) (old new : View) (shape : Shape) (logs : List Log) (late
     sending = refl;
     later = back.does.does.cause.later;
     kept = kept;
-    alive = alive;
-    state = λ told.
-        let bytes = alive_shown shape late' is_dead new.content.bytes alive ∙ whole told ∙ sym (alive_shown shape late is_dead old.content.bytes alive) in
-        let logs_same = λ (u : ℕ). others_kept shape logs old.content.bytes new.content.bytes u (sound.kept u) (same told u) in
-        λ i. record { bytes = bytes i; logs = λ u. logs_same u i };
-    failed = tt;
+    alive = alive';
+    state = state;
+    failed = failed;
     time = moments;
   }
 
+  pub quiet_done : new.faults ≡ old.faults → (IsTrue tells → data_with shape late'.queue new.content.bytes ≡ data_with shape late.queue old.content.bytes)
+      → (let ok : Result (Unit {0}) EawFault = Ok tt in IsQuiet tells (Opens shape) (view_of old shape logs late is_dead) (view_of new shape logs late' is_dead) ok)
+  quiet_done kept whole = quiet_so is_dead (Ok tt) kept alive (λ told.
+        let bytes = alive_shown shape late' is_dead new.content.bytes alive ∙ whole told ∙ sym (alive_shown shape late is_dead old.content.bytes alive) in
+        let logs_same = λ (u : ℕ). others_kept shape logs old.content.bytes new.content.bytes u (sound.kept u) (same told u) in
+        λ i. record { bytes = bytes i; logs = λ u. logs_same u i }) tt
+
   pub quiet_failed : Rose old.faults new.faults → (let failed : Result (Unit {0}) EawFault = Err Media in IsQuiet tells (Opens shape) (view_of old shape logs late is_dead) (view_of new shape logs late' true) failed)
-  quiet_failed rose = record {
-    shape = refl;
-    depth = back.depth;
-    device = back.does.does.device;
-    ranges = refl;
-    sending = refl;
-    later = back.does.does.cause.later;
-    kept = tt;
-    alive = tt;
-    state = λ told. tt;
-    failed = (refl, refl, rose);
-    time = moments;
-  }
+  quiet_failed rose = quiet_so true (Err Media) tt tt (λ told. tt) (refl, refl, rose)

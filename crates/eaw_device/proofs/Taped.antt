@@ -5,7 +5,7 @@ use Rattle.array_shape.specs.declared.shape.Shape.{Shape}
 use Rattle.write_back.specs.declared.commits.LateData.{LateData}
 use Rattle.tape_media.specs.Tape.{Tape, view_of}
 use Rattle.tape_media.specs.Tape as tape
-use Rattle.taped_store.specs.Same.{ShowsSame}
+use Rattle.eaw_face.specs.Mirroring.{ShowsSame}
 use Rattle.eaw_device.specs.declared.log.Log.{Log}
 use Rattle.eaw_device.specs.Logs.{parts_logged}
 use Rattle.eaw_device.specs.Sound.{IsSound, IsTold, shown}

@@ -40,11 +40,13 @@ use Rattle.write_back.proofs.Sparing.{late_held}
 use Rattle.eaw_device.specs.Sound.{IsBefore, IsSound, shown, view_of}
 use Rattle.eaw_device.proofs.Entries.{numbers_split, ranges_in-append, length-ranges_in, cells_on-append, count_on-ranges_in}
 use Rattle.eaw_device.proofs.Keeping.{length-cells_on_kept}
-use Rattle.eaw_device.proofs.LogParts.{ranges_of-append, count_on-ranges_of, part_in, parts_in-append, parts_from-numbers, same_parts}
+use Rattle.write_back.proofs.EntryParts.{part_in, parts_in-append, parts_from-numbers}
+use Rattle.eaw_device.proofs.LogParts.{ranges_of-append, count_on-ranges_of, same_parts}
 use Rattle.eaw_device.proofs.Staged.{staged_spared, staged_in_cells, staged_within, staged_cell}
 use Rattle.eaw_device.proofs.Tables.{each_set, entries_live, ranges_there, parts_there, ranges_set, parts_set, parts_kept, held_kept, others_kept, slice_get-set_same, sound_set}
 use Rattle.eaw_device.proofs.Sure.{cells_data, cells_sure, cells_time}
-use Rattle.eaw_device.proofs.Doing.{done, failed, refused}
+use Rattle.eaw_face.proofs.Refusing.{refused}
+use Rattle.eaw_device.proofs.Doing.{done, failed}
 
 -- a write has as many pieces at a logger as its range has parts
 pub length-write_parts_on : (shape : Shape) (g addr : ℕ) (bytes : List ℕ) → length (write_parts_on shape g addr bytes) ≡ length (parts_on shape g addr (length bytes))

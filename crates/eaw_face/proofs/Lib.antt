@@ -1,3 +1,4 @@
 pub mod Others
 pub mod Groups
 pub mod Mirroring
+pub mod Refusing

@@ -50,16 +50,21 @@ pub record Mirrors (tells : Bool) (old new : StoreView) : Type 0 where
   pub lived : new.is_dead ≡ false → old.is_dead ≡ false
   pub data_is : IsTrue tells → old.sending.mirrors ≡ true → new.sending.is_down ≡ false → new.is_dead ≡ false → new.state.bytes ≡ followed added old.state.bytes
 
--- a store that gave up its oldest frame, if it had one, is as it was in all else
-pub record GivesUp (old new : StoreView) : Type 0 where
+-- one store shows what the other does, but for what was done on the device
+pub record ShowsSame (old new : StoreView) : Type 0 where
   pub shape : new.shape ≡ old.shape
   pub depth : new.depth ≡ old.depth
-  pub device : new.device ≡ old.device
   pub state : new.state ≡ old.state
   pub ranges : new.ranges ≡ old.ranges
   pub is_dead : new.is_dead ≡ old.is_dead
   pub faults : new.faults ≡ old.faults
   pub moment : new.moment ≡ old.moment
   pub left : (t : ℕ) (image : List ℕ) → new.left_since t image ↔ old.left_since t image
+  pub sending : new.sending ≡ old.sending
+
+-- a store that gave up its oldest frame, if it had one, is as it was in all else
+pub record GivesUp (old new : StoreView) : Type 0 where
+  pub same : ShowsSame old (record new { sending = old.sending })
+  pub device : new.device ≡ old.device
   pub frames : IsTrue old.sending.told → new.sending.frames ≡ drop 1 old.sending.frames
   pub sending : new.sending ≡ record old.sending { frames = new.sending.frames }

@@ -37,10 +37,10 @@ no_frames (f ∷ fs) first is none some = absurd (let short : length f ≡ 0 = a
 -- what is left once the oldest was given up
 pub one_given_up : (old mid new : StoreView) → IsTrue mid.sending.told → IsBut old mid → GivesUp mid new → IsBut old new
 one_given_up old mid new told but gives = record {
-  shape = gives.shape ∙ but.shape;
-  depth = gives.depth ∙ but.depth;
-  state = gives.state ∙ but.state;
-  is_dead = gives.is_dead ∙ but.is_dead;
+  shape = gives.same.shape ∙ but.shape;
+  depth = gives.same.depth ∙ but.depth;
+  state = gives.same.state ∙ but.state;
+  is_dead = gives.same.is_dead ∙ but.is_dead;
   sending = gives.sending ∙ ap (λ (s : Sending). record s { frames = new.sending.frames }) but.sending;
 }
 

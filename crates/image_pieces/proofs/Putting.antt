@@ -1,23 +1,15 @@
 -- Pieces of 512 bytes, put one behind the other.
 use Rattle.std.proofs.Common.{◌≡◌, ℕ, suc, ◌+◌, ◌*◌, ◌≤◌, List, ◌++◌, length, take, drop, sym, ◌∙◌, ap, append_assoc, arith}
-use Rattle.std.proofs.lemmas.List.{length-append, length-drop, length-take, take_at}
+use Rattle.std.proofs.lemmas.List.{drop-drop, length-append, length-take, take_at}
+use Rattle.mars_base.proofs.Puts.{length-put}
 use Rattle.array_image.specs.Joined.{joined}
 use Rattle.array_image.proofs.Joined.{joined_more}
 
 module _ (at n : ℕ) (out piece : List ℕ) (inside : at + 512 ≤ length out) (long : length piece ≡ 512) (size : n ≡ 512) where
   pub piece_long : length (take at out ++ (piece ++ drop n (drop at out))) ≡ length out
   piece_long =
-      omega (
-        arith,
-        inside,
-        long,
-        size,
-        length-append (take at out) (piece ++ drop n (drop at out)),
-        length-append piece (drop n (drop at out)),
-        length-take at out,
-        length-drop n (drop at out),
-        length-drop at out,
-      )
+      let end : at + n ≡ at + length piece = omega (arith, long, size) in
+      ap (λ (l : List ℕ). length (take at out ++ (piece ++ l))) (drop-drop n at out ∙ ap (λ (m : ℕ). drop m out) end) ∙ length-put out at piece (omega (arith, inside, long))
 
   pub piece_in : take (at + 512) (take at out ++ (piece ++ drop n (drop at out))) ≡ take at out ++ piece
   piece_in =

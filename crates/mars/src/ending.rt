@@ -44,7 +44,7 @@ pub fn run_told<
     ensures input { WordsSay (map string_bytes words.now) result.0.status (source.new ≡ source.old) (λ asked. IfReads asked
         (source.new ≡ source.old) (IsTrue S.tells → InputSays result.0.status (S.left source.old) (S.left source.new))) }
     ensures ran { WordsSay (map string_bytes words.now) result.0.status ((source.new ≡ source.old) × (sink.new ≡ sink.old) × (result.1 ≡ media)) (λ asked. Wrote K.tells (K.written sink.old) (K.written sink.new) (K.faults sink.old) (K.faults sink.new)
-        (λ cut text. (input : List ℕ) × (IsTrue S.tells → S.left source.old ≡ input) × (IsTrue M.tells → OutcomeFor (λ place. Unit {0}) asked (M.view media) result.0.status (M.view result.1) input cut text))) }
+        (λ cut text. (input : List ℕ) × (IsTrue S.tells → S.left source.old ≡ input) × (IsTrue M.tells → OutcomeFor asked (λ place. Unit {0}) (M.view media) result.0.status (M.view result.1) input cut text))) }
 {
     let (status, media) = run(rt, words, source, sink, media, &OpenGate);
     let number = tell(&status, errors);

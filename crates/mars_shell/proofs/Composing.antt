@@ -145,12 +145,12 @@ module _ (tells : Bool) (told : IsTrue tells) (old new : View) (counts_now : (t 
         ⊎_elim (λ like. (like.2, subst (λ (s : Shape). Opens s image like.2) same like.4)) (λ first. (_, subst (λ (s : Shape). Opens s image (followed first.frames (settled_data follows.shape old.content.bytes))) same first.opens))
         (follows.since all_there image (counts_now old.moment image told (follows.later all_there) left))
 
-    pub next_followed : (status : Status) (input : List ℕ) (cut : Bool) (text : List ℕ) → OutcomeFor (λ place. Unit {0}) Follow old status new input cut text → AllOpen shape new.content
+    pub next_followed : (status : Status) (input : List ℕ) (cut : Bool) (text : List ℕ) → OutcomeFor Follow (λ place. Unit {0}) old status new input cut text → AllOpen shape new.content
     next_followed status input cut text outcome = ⊎_elim
         (λ unopened. outcome_gives (AllOpen shape new.content) true (λ ended. ⊥) (λ page. ⊥) ⊥ ⊥ old status new cut text (idle_open cut text) (λ ended none. absurd none) unopened)
         (λ ran. followed_open input cut text ran.0 ran.2) outcome
 
-    pub next_open : (given : EawOptions) (status : Status) (input : List ℕ) (cut : Bool) (text : List ℕ) → OutcomeFor (λ place. Unit {0}) (Eaw given) old status new input cut text → AllOpen shape new.content
+    pub next_open : (given : EawOptions) (status : Status) (input : List ℕ) (cut : Bool) (text : List ℕ) → OutcomeFor (Eaw given) (λ place. Unit {0}) old status new input cut text → AllOpen shape new.content
     next_open given status input cut text outcome =
         outcome_gives (AllOpen shape new.content) true (λ ended. ObeysAs given.frames old input ended new cut text) (λ page. ⊥) ⊥ ⊥ old status new cut text (idle_open cut text) (obeyed_as given.frames input cut text) outcome
 
@@ -205,7 +205,7 @@ module _ (tells : Bool) (told : IsTrue tells) (old new : View) (counts_now : (t 
     made_by_sound name cut text script.MediaFault made = tried_sound name made.1.0 made.1.1
     made_by_sound name cut text script.NoMemory made = absurd made
 
-    made_sound : (name : List ℕ) (status : Status) (cut : Bool) (text : List ℕ) → OutcomeFor (λ place. Unit {0}) (Make name) old status new [] cut text → AllSound shape form new.content
+    made_sound : (name : List ℕ) (status : Status) (cut : Bool) (text : List ℕ) → OutcomeFor (Make name) (λ place. Unit {0}) old status new [] cut text → AllSound shape form new.content
     made_sound name status cut text outcome =
         ⊎_elim (λ over. records_sound true 0 (MadeBy name old new cut text) status cut text (made_by_sound name cut text) over) (λ refused. tried_sound name refused.2.shape refused.2.tries) outcome
 
@@ -235,7 +235,7 @@ module _ (tells : Bool) (told : IsTrue tells) (old new : View) (counts_now : (t 
     run_sound true depth input cut text ended framed = turns_sound depth _ ended framed.taken
     run_sound false depth input cut text ended taken = turns_sound depth (Answers input ended cut text) ended taken
 
-    pub next_sound : (Knows : Place → Type 0) (asked : Words) (status : Status) (input : List ℕ) (cut : Bool) (text : List ℕ) → IsOfRecords asked → OutcomeFor Knows asked old status new input cut text → AllSound shape form new.content
+    pub next_sound : (Knows : Place → Type 0) (asked : Words) (status : Status) (input : List ℕ) (cut : Bool) (text : List ℕ) → IsOfRecords asked → OutcomeFor asked Knows old status new input cut text → AllSound shape form new.content
     next_sound Knows (Run given) status input cut text of outcome = records_sound false 0 (λ ended. RunsAs given.frames (depth_of given.writing) input cut text old ended new) status cut text (λ ended taken. run_sound given.frames (depth_of given.writing) input cut text ended taken) outcome
     next_sound Knows (Callers numbers) status input cut text of outcome = records_sound false (passes_for numbers.callers numbers.readers) (λ ended. TakesTurns (depth_of numbers.writing) (JointWork Knows numbers.callers numbers.readers numbers.tries input ended cut text) old ended new) status cut text (λ ended taken. turns_sound (depth_of numbers.writing) (JointWork Knows numbers.callers numbers.readers numbers.tries input ended cut text) ended taken) outcome
     next_sound Knows Dump status input cut text of outcome = records_sound true 0 (DumpsRecords old new cut text) status cut text (dumped_sound cut text) outcome

@@ -130,7 +130,7 @@ module _ (old new : View) (input : List ℕ) (cut : Bool) (text : List ℕ) (giv
   followed_so follow.MediaFault counts = absurd (no_media counts.1)
   followed_so follow.NoMemory counts = inr (inl refl)
 
-  pub complete_follow : (status : Status) → Counts status s s' k k' m m' → InputSays status given left → OutcomeFor (λ place. Unit {0}) Follow old status new input cut text → IsComplete Follow status
+  pub complete_follow : (status : Status) → Counts status s s' k k' m m' → InputSays status given left → OutcomeFor Follow (λ place. Unit {0}) old status new input cut text → IsComplete Follow status
   complete_follow status counts says outcome = ⊎_elim
       (λ unopened. ⊎_elim (λ good. inl good) (λ none. inr (inl none))
       (complete_of true (λ ended. ⊥) (λ page. ⊥) ⊥ ⊥ old new cut text given left s s' k k' m m' short shape is_array (λ page is. is) (λ is. is) no_source no_sink no_media status counts says unopened))

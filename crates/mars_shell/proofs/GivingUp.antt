@@ -39,5 +39,5 @@ module _ (core : CoreView) (left : ℕ → List ℕ → Type 0) (same : (t : ℕ
 -- a core over a store that gave up a frame is as it was, but for that
 module _ {S : Type 0} (Opens : Shape → List ℕ → List ℕ → Type 0) (index : Index) (old new : StoreView) (gives : GivesUp old new) (was is : Held S) (rest : is ≡ record was { records = is.records }) where
   pub core_is : core_of Opens index new is ≡ record (core_of Opens index old was) { left_since = new.left_since }
-  core_is = λ i. record (core_over Opens index (record old { shape = gives.shape i; depth = gives.depth i; state = gives.state i; is_dead = gives.is_dead i; faults = gives.faults i; moment = gives.moment i })
-      (state_over index (record old { state = gives.state i; is_dead = gives.is_dead i }) (rest i))) { left_since = new.left_since }
+  core_is = λ i. record (core_over Opens index (record old { shape = gives.same.shape i; depth = gives.same.depth i; state = gives.same.state i; is_dead = gives.same.is_dead i; faults = gives.same.faults i; moment = gives.same.moment i })
+      (state_over index (record old { state = gives.same.state i; is_dead = gives.same.is_dead i }) (rest i))) { left_since = new.left_since }

@@ -174,12 +174,12 @@ module _ (old : View) (shape : Shape) (form : ℕ) (names : List (List ℕ)) (ta
     told_one cut text ended makes image left =
         with_more name image (subst (λ (s : Shape). HasNewName name s old image) (this_shape makes.shape makes.tries.holds.array.header) (makes.finishes.now image left))
 
-    pub named : (status : Status) (input : List ℕ) (cut : Bool) (text : List ℕ) → (status ≡ Good) ⊎ (status ≡ WriteFault) → OutcomeFor (λ place. Unit {0}) (Make name) old status new input cut text
+    pub named : (status : Status) (input : List ℕ) (cut : Bool) (text : List ℕ) → (status ≡ Good) ⊎ (status ≡ WriteFault) → OutcomeFor (Make name) (λ place. Unit {0}) old status new input cut text
         → AllAreOf shape form (names ++ name ∷ []) table new.content
     named status input cut text (inl is) outcome =
-        ⊎_elim (λ makes. told_one cut text script.All makes) (λ refused. absurd (not_refused Good refused.0 tt refused.1)) (subst (λ (s : Status). OutcomeFor (λ place. Unit {0}) (Make name) old s new input cut text) is outcome)
+        ⊎_elim (λ makes. told_one cut text script.All makes) (λ refused. absurd (not_refused Good refused.0 tt refused.1)) (subst (λ (s : Status). OutcomeFor (Make name) (λ place. Unit {0}) old s new input cut text) is outcome)
     named status input cut text (inr is) outcome =
-        ⊎_elim (λ makes. told_one cut text script.WriteFault makes) (λ refused. absurd (not_refused WriteFault refused.0 tt refused.1)) (subst (λ (s : Status). OutcomeFor (λ place. Unit {0}) (Make name) old s new input cut text) is outcome)
+        ⊎_elim (λ makes. told_one cut text script.WriteFault makes) (λ refused. absurd (not_refused WriteFault refused.0 tt refused.1)) (subst (λ (s : Status). OutcomeFor (Make name) (λ place. Unit {0}) old s new input cut text) is outcome)
 
   module _ (version_two : (form : ℕ) (bytes : List ℕ) → (index_of_form form).sound bytes → length bytes < 2 ^ 32
       → (index_of_form form).sound (upgraded bytes) × (names_of (upgraded bytes) ≡ names_of bytes) × (table_of (index_of_form form) (upgraded bytes) ≡ table_of (index_of_form form) bytes)) where
@@ -245,7 +245,7 @@ module _ (old : View) (shape : Shape) (form : ℕ) (names : List (List ℕ)) (ta
           outcome_gives P spares Works (λ page. IsDamaged old page × (Exceeds callers old → ⊥)) (HoldsArray old × (Exceeds callers old → ⊥)) (Exceeds callers old) old status new cut text
           (λ spared MayWrite Cause none. as_before (idle cut text spared MayWrite Cause none)) works outcome
 
-      pub unchanged : (Knows : Place → Type 0) (asked : Words) (status : Status) (input : List ℕ) (cut : Bool) (text : List ℕ) → ChangesNone asked → OutcomeFor Knows asked old status new input cut text
+      pub unchanged : (Knows : Place → Type 0) (asked : Words) (status : Status) (input : List ℕ) (cut : Bool) (text : List ℕ) → ChangesNone asked → OutcomeFor asked Knows old status new input cut text
           → (called : List (List ℕ)) × MayName asked names called × IsOf shape form called table image
       unchanged Knows Dump status input cut text none outcome = over (HasTables Dump) (λ of. (names, refl, of)) true 0 (DumpsRecords old new cut text) status cut text (dumped cut text) outcome
       unchanged Knows (Make name) status input cut text none outcome = ⊎_elim
@@ -278,7 +278,7 @@ module _ (old : View) (shape : Shape) (form : ℕ) (names : List (List ℕ)) (ta
       run_by true depth input cut text ended framed = turned depth _ ended framed.taken
       run_by false depth input cut text ended taken = turned depth (Answers input ended cut text) ended taken
 
-      pub some : (Knows : Place → Type 0) (asked : Words) (status : Status) (input : List ℕ) (cut : Bool) (text : List ℕ) → IsOfRecords asked → OutcomeFor Knows asked old status new input cut text
+      pub some : (Knows : Place → Type 0) (asked : Words) (status : Status) (input : List ℕ) (cut : Bool) (text : List ℕ) → IsOfRecords asked → OutcomeFor asked Knows old status new input cut text
           → (called : List (List ℕ)) × MayName asked names called × (records : Table) × IsOf shape form called records image
       some Knows (Run given) status input cut text of outcome = over HasSome as_before false 0 (λ ended. RunsAs given.frames (depth_of given.writing) input cut text old ended new) status cut text
           (λ ended taken. run_by given.frames (depth_of given.writing) input cut text ended taken) outcome

@@ -45,19 +45,19 @@ IfReads _ Without Reads = Without
 
 -- What was written and done, by what is asked for. `run`, `callers`, `drill`, `dump`, `make` and `purge` read the records of an array that
 -- was opened. `eaw` and `follow` do not. Only `callers` need numbers, and tell a gate, which Knows of places.
-abbrev pub OutcomeFor : (Place → Type 0) → Words → View → Status → View → List ℕ → Bool → List ℕ → Type 0
-OutcomeFor Knows (Run given) old status new input cut text = OverRecords false 0 (λ ended. RunsAs given.frames (depth_of given.writing) input cut text old ended new) old status new cut text
-OutcomeFor Knows (Callers numbers) old status new input cut text =
+abbrev pub OutcomeFor : Words → (Place → Type 0) → View → Status → View → List ℕ → Bool → List ℕ → Type 0
+OutcomeFor (Run given) Knows old status new input cut text = OverRecords false 0 (λ ended. RunsAs given.frames (depth_of given.writing) input cut text old ended new) old status new cut text
+OutcomeFor (Callers numbers) Knows old status new input cut text =
     OverRecords false (passes_for numbers.callers numbers.readers) (λ ended. TakesTurns (depth_of numbers.writing) (JointWork Knows numbers.callers numbers.readers numbers.tries input ended cut text) old ended new) old status new cut text
-OutcomeFor Knows (Eaw given) old status new input cut text = OutcomeOf true (λ ended. ObeysAs given.frames old input ended new cut text) (λ page. ⊥) ⊥ ⊥ old status new cut text
-OutcomeFor Knows Follow old status new input cut text = OutcomeOf true (λ ended. ⊥) (λ page. ⊥) ⊥ ⊥ old status new cut text
+OutcomeFor (Eaw given) Knows old status new input cut text = OutcomeOf true (λ ended. ObeysAs given.frames old input ended new cut text) (λ page. ⊥) ⊥ ⊥ old status new cut text
+OutcomeFor Follow Knows old status new input cut text = OutcomeOf true (λ ended. ⊥) (λ page. ⊥) ⊥ ⊥ old status new cut text
     ⊎ ((ended : FollowEnd) × (status ≡ follow_status ended) × Follows old input ended new cut text)
-OutcomeFor Knows Dump old status new input cut text = OverRecords true 0 (DumpsRecords old new cut text) old status new cut text
-OutcomeFor Knows (Drill numbers) old status new input cut text = OverRecords false 0 (λ ended. TakesTurns (depth_of numbers.writing) (Drills numbers ended cut text) old ended new) old status new cut text
-OutcomeFor Knows (Format numbers) old status new input cut text = FormatOutcome numbers old status new cut text
-OutcomeFor Knows (Make name) old status new input cut text = OverRecords true 0 (MadeBy name old new cut text) old status new cut text
+OutcomeFor Dump Knows old status new input cut text = OverRecords true 0 (DumpsRecords old new cut text) old status new cut text
+OutcomeFor (Drill numbers) Knows old status new input cut text = OverRecords false 0 (λ ended. TakesTurns (depth_of numbers.writing) (Drills numbers ended cut text) old ended new) old status new cut text
+OutcomeFor (Format numbers) Knows old status new input cut text = FormatOutcome numbers old status new cut text
+OutcomeFor (Make name) Knows old status new input cut text = OverRecords true 0 (MadeBy name old new cut text) old status new cut text
     ⊎ ((refusal : Refusal) × (status ≡ Refused refusal) × Refuses name refusal old new cut text)
-OutcomeFor Knows Purge old status new input cut text = OverRecords false 0 (PurgedBy old new cut text) old status new cut text
+OutcomeFor Purge Knows old status new input cut text = OverRecords false 0 (PurgedBy old new cut text) old status new cut text
 
 -- an input whose bytes are known and within the limit
 abbrev pub IsShortInput : Bool → List ℕ → Type 0

@@ -74,7 +74,7 @@ pub fn run_callers<
     ensures input { IsTrue S.tells → InputSays result.0 (S.left source.old) (S.left source.new) }
     ensures ran { Wrote K.tells (K.written sink.old) (K.written sink.new) (K.faults sink.old) (K.faults sink.new)
         (λ cut text. (input : List ℕ) × (IsTrue S.tells → S.left source.old ≡ input)
-        × (IsTrue M.tells → OutcomeFor (G.told crew.now.gate.now) (Callers crew.now.numbers) (M.view media) result.0 (M.view result.1) input cut text)) }
+        × (IsTrue M.tells → OutcomeFor (Callers crew.now.numbers) (G.told crew.now.gate.now) (M.view media) result.0 (M.view result.1) input cut text)) }
 {
     let passes = passes_for(crew.numbers.callers, crew.numbers.readers);
     let depth = depth_of(crew.numbers.writing);

@@ -28,7 +28,7 @@ pub(crate) fn run_follow<S: Source, K: Sink, M: Media>(
     ensures steady { IsTrue (S.steady source.old) → result.0 ≡ Status.ReadFault → ⊥ }
     ensures input { IsTrue S.tells → InputSays result.0 (S.left source.old) (S.left source.new) }
     ensures ran { Wrote K.tells (K.written sink.old) (K.written sink.new) (K.faults sink.old) (K.faults sink.new)
-        (λ cut text. (input : List ℕ) × (IsTrue S.tells → S.left source.old ≡ input) × (IsTrue M.tells → OutcomeFor (λ place. Unit {0}) Follow (M.view media) result.0 (M.view result.1) input cut text)) }
+        (λ cut text. (input : List ℕ) × (IsTrue S.tells → S.left source.old ≡ input) × (IsTrue M.tells → OutcomeFor Follow (λ place. Unit {0}) (M.view media) result.0 (M.view result.1) input cut text)) }
 {
     let (input, store) = match open::<S, M, Brand>(alloc, true, source, media, 0) {
         Ok(opened) => opened,

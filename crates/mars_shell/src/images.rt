@@ -12,7 +12,6 @@ ghost use Rattle.command_words.specs.declared.words.Words.{Words};
 ghost use Rattle.command_words.specs.declared.words.Words.TheVariants.{Make};
 ghost use Rattle.array_runs.specs.Outcome.{OpensInTwo};
 ghost use Rattle.array_runs.specs.declared.status.Status.{Status};
-ghost use Rattle.caller_work.specs.declared.gate.Place.{Place};
 ghost use Rattle.mars_shell.specs.Asked.{OutcomeFor};
 ghost use Rattle.mars_shell.specs.Formats.{FormatOutcome, HasAsked};
 ghost use Rattle.mars_shell.specs.Next.{IsOf, AllAreOf, IsOfPrefix, IsOfRecords, ChangesNone, MayName, records_on};
@@ -20,6 +19,7 @@ ghost use Rattle.mars_shell.specs.PrefixLaw.{PrefixLaw};
 ghost use Rattle.told_commands.specs.Tables.{names_on};
 
 use btree_pages::BTreePages;
+use caller_work::Gate;
 use key_list::KeyList;
 use pcm_media::Media;
 use record_table::version_two_keeps;
@@ -31,7 +31,7 @@ use record_table::version_two_keeps;
 /// were if nothing was answered or the command changes none. Only the making of a table adds one: each image has it once that was told, and
 /// may have it meanwhile. So the tables and the records of an array that a format made, and that only these commands have written since,
 /// are known from what was told, whatever its bytes are; and a table that was made stays, with records or without.
-pub fn what_images_hold<M: Media>()
+pub fn what_images_hold<M: Media, G: Gate>()
     ensures one { (shape other : Shape) (form its : ℕ) (names called : List (List ℕ)) (table records : Table) (image : List ℕ) → IsOf shape form names table image → IsOf other its called records image
         → (shape ≡ other) × (names ≡ called) × (table ≡ records) }
     ensures made { (numbers : FormatNumbers) (old new : M) (status : Status) (cut : Bool) (text : List ℕ) → (status ≡ Status.Good) ⊎ (status ≡ Status.WriteFault)
@@ -49,14 +49,14 @@ pub fn what_images_hold<M: Media>()
         → OpensLike shape (M.view old).content image ⊎ OpensInTwo shape (M.view old).content image → IsOf shape form names table image }
     ensures unchanged { (old : M) (shape : Shape) (form : ℕ) (names : List (List ℕ)) (table : Table) → AllAreOf shape form names table (M.view old).content
         → (new : M) (image : List ℕ) → (M.view new).left_since (M.view old).moment image
-        → (Knows : Place → Type 0) (asked : Words) (status : Status) (input : List ℕ) (cut : Bool) (text : List ℕ) → ChangesNone asked → OutcomeFor Knows asked (M.view old) status (M.view new) input cut text
+        → (gate : G) (asked : Words) (status : Status) (input : List ℕ) (cut : Bool) (text : List ℕ) → ChangesNone asked → OutcomeFor asked (G.told gate) (M.view old) status (M.view new) input cut text
         → (left : List (List ℕ)) × MayName asked names left × IsOf shape form left table image }
     ensures named { (old : M) (shape : Shape) (form : ℕ) (names : List (List ℕ)) (table : Table) → AllAreOf shape form names table (M.view old).content
         → (new : M) (name : List ℕ) (status : Status) (input : List ℕ) (cut : Bool) (text : List ℕ) → (status ≡ Status.Good) ⊎ (status ≡ Status.WriteFault)
-        → OutcomeFor (λ place. Unit {0}) (Make name) (M.view old) status (M.view new) input cut text → AllAreOf shape form (names ++ name ∷ []) table (M.view new).content }
+        → OutcomeFor (Make name) (λ place. Unit {0}) (M.view old) status (M.view new) input cut text → AllAreOf shape form (names ++ name ∷ []) table (M.view new).content }
     ensures some { (old : M) (shape : Shape) (form : ℕ) (names : List (List ℕ)) (table : Table) → AllAreOf shape form names table (M.view old).content
         → (new : M) (image : List ℕ) → (M.view new).left_since (M.view old).moment image
-        → (Knows : Place → Type 0) (asked : Words) (status : Status) (input : List ℕ) (cut : Bool) (text : List ℕ) → IsOfRecords asked → OutcomeFor Knows asked (M.view old) status (M.view new) input cut text
+        → (gate : G) (asked : Words) (status : Status) (input : List ℕ) (cut : Bool) (text : List ℕ) → IsOfRecords asked → OutcomeFor asked (G.told gate) (M.view old) status (M.view new) input cut text
         → (left : List (List ℕ)) × MayName asked names left × (records : Table) × IsOf shape form left records image }
 {
     version_two_keeps::<KeyList>();

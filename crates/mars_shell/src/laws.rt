@@ -17,13 +17,13 @@ ghost use Rattle.command_words.specs.declared.words.Words.TheVariants.{Eaw, Foll
 ghost use Rattle.eaw_device.specs.Opens.{AllOpen};
 ghost use Rattle.mars_shell.specs.Asked.{OutcomeFor};
 ghost use Rattle.mars_shell.specs.Formats.{FormatOutcome};
-ghost use Rattle.caller_work.specs.declared.gate.Place.{Place};
 ghost use Rattle.mars_shell.specs.Joint.{JointWork};
 ghost use Rattle.mars_shell.specs.Next.{AllSound, IsOfRecords, LeavesFresh};
 ghost use Rattle.array_runs.specs.Records.{HoldsRecords};
 ghost use Rattle.array_runs.specs.declared.status.Status.{Status};
 
 use btree_pages::BTreePages;
+use caller_work::Gate;
 use key_list::KeyList;
 use pcm_media::Media;
 use record_table::version_two_keeps;
@@ -31,25 +31,25 @@ use record_table::version_two_keeps;
 /// What the fates of callers on threads say of the history of a run: the transactions of each caller are those of its plans that committed,
 /// in their order and each once, with just the calls of the plan and under the number that was told. A caller whose worker was stopped
 /// before it could settle may have one more, the plan that it had offered. No other caller has any.
-pub fn what_callers_are_told()
+pub fn what_callers_are_told<G: Gate>()
     ensures fated { (names : List (List ℕ)) (base : Table) (index : Index) (limits : Limits) (turns : List Turn) (final : State) → Runs limits (opened names base index) turns final
-        → (Knows : Place → Type 0) (callers readers tries : ℕ) (input text : List ℕ) (ended : Ended) (cut : Bool) (work : JointWork Knows callers readers tries input ended cut text limits turns final)
+        → (gate : G) (callers readers tries : ℕ) (input text : List ℕ) (ended : Ended) (cut : Bool) (work : JointWork (G.told gate) callers readers tries input ended cut text limits turns final)
         → (caller : ℕ) → caller < callers → AreFated caller (planned None (calls_by caller work.said)) (of_caller work.fates caller) (commits_of caller final.history) }
     ensures others { (names : List (List ℕ)) (base : Table) (index : Index) (limits : Limits) (turns : List Turn) (final : State) → Runs limits (opened names base index) turns final
-        → (Knows : Place → Type 0) (callers readers tries : ℕ) (input text : List ℕ) (ended : Ended) (cut : Bool) → JointWork Knows callers readers tries input ended cut text limits turns final → HasNoOthers callers final }
+        → (gate : G) (callers readers tries : ℕ) (input text : List ℕ) (ended : Ended) (cut : Bool) → JointWork (G.told gate) callers readers tries input ended cut text limits turns final → HasNoOthers callers final }
 {}
 
 /// Runs compose, over a medium that tells its bytes. If all that a loss of power may leave is sound, then that is so after a run too,
 /// whatever its status and also where it was refused; and it is what the clauses of the next run ask for. After raw commands and frames all
 /// still opens, and after a format that made an array all is sound, whatever was there before.
-pub fn runs_compose<M: Media>()
+pub fn runs_compose<M: Media, G: Gate>()
     ensures premises { (media : M) (shape : Shape) (form : ℕ) → IsTrue M.tells → AllSound shape form (M.view media).content → AllOpen shape (M.view media).content × HoldsRecords shape (M.view media) }
-    ensures run { (old new : M) (shape : Shape) (form : ℕ) (Knows : Place → Type 0) (asked : Words) (status : Status) (input text : List ℕ) (cut : Bool) → IsTrue M.tells → IsOfRecords asked
-        → AllSound shape form (M.view old).content → OutcomeFor Knows asked (M.view old) status (M.view new) input cut text → AllSound shape form (M.view new).content }
+    ensures run { (old new : M) (shape : Shape) (form : ℕ) (gate : G) (asked : Words) (status : Status) (input text : List ℕ) (cut : Bool) → IsTrue M.tells → IsOfRecords asked
+        → AllSound shape form (M.view old).content → OutcomeFor asked (G.told gate) (M.view old) status (M.view new) input cut text → AllSound shape form (M.view new).content }
     ensures raw { (old new : M) (shape : Shape) (given : EawOptions) (status : Status) (input text : List ℕ) (cut : Bool) → IsTrue M.tells
-        → AllOpen shape (M.view old).content → OutcomeFor (λ place. Unit {0}) (Eaw given) (M.view old) status (M.view new) input cut text → AllOpen shape (M.view new).content }
+        → AllOpen shape (M.view old).content → OutcomeFor (Eaw given) (λ place. Unit {0}) (M.view old) status (M.view new) input cut text → AllOpen shape (M.view new).content }
     ensures follow { (old new : M) (shape : Shape) (status : Status) (input text : List ℕ) (cut : Bool) → IsTrue M.tells
-        → AllOpen shape (M.view old).content → OutcomeFor (λ place. Unit {0}) Follow (M.view old) status (M.view new) input cut text → AllOpen shape (M.view new).content }
+        → AllOpen shape (M.view old).content → OutcomeFor Follow (λ place. Unit {0}) (M.view old) status (M.view new) input cut text → AllOpen shape (M.view new).content }
     ensures fresh { (old new : M) (numbers : FormatNumbers) (status : Status) (text : List ℕ) (cut : Bool) → (status ≡ Status.Good) ⊎ (status ≡ Status.WriteFault)
         → FormatOutcome numbers (M.view old) status (M.view new) cut text → LeavesFresh numbers (M.view new).content }
 {

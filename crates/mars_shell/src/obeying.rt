@@ -48,7 +48,7 @@ pub fn obey<
     ensures formats { (numbers : FormatNumbers) → asked ≡ Format numbers → FormatSays numbers (M.view media).size result.0 (sink.new ≡ sink.old) (result.1 ≡ media) }
     ensures untold { TellsLate asked result.0 → sink.new ≡ sink.old }
     ensures ran { Wrote K.tells (K.written sink.old) (K.written sink.new) (K.faults sink.old) (K.faults sink.new)
-        (λ cut text. (input : List ℕ) × (IsTrue S.tells → S.left source.old ≡ input) × (IsTrue M.tells → OutcomeFor (G.told gate.now) asked (M.view media) result.0 (M.view result.1) input cut text)) }
+        (λ cut text. (input : List ℕ) × (IsTrue S.tells → S.left source.old ≡ input) × (IsTrue M.tells → OutcomeFor asked (G.told gate.now) (M.view media) result.0 (M.view result.1) input cut text)) }
     ensures complete { IsFit asked S.tells (S.left source.old) M.tells (M.view media)
         → (Rose (S.faults source.old) (S.faults source.new) → ⊥) → (Rose (K.faults sink.old) (K.faults sink.new) → ⊥) → (Rose (M.view media).faults (M.view result.1).faults → ⊥)
         → IsComplete asked result.0 }

@@ -60,7 +60,7 @@ pub fn run<
     // for `make` the number of the new table, for `purge` how many keys were taken out, for `eaw` it answers the commands by the model,
     // with the frames that they send if that is asked for, and for `follow` it counts the frames that are applied.
     ensures ran { WordsSay (map string_bytes words.now) result.0 ((source.new ≡ source.old) × (sink.new ≡ sink.old) × (result.1 ≡ media)) (λ asked. Wrote K.tells (K.written sink.old) (K.written sink.new) (K.faults sink.old) (K.faults sink.new)
-        (λ cut text. (input : List ℕ) × (IsTrue S.tells → S.left source.old ≡ input) × (IsTrue M.tells → OutcomeFor (G.told gate.now) asked (M.view media) result.0 (M.view result.1) input cut text))) }
+        (λ cut text. (input : List ℕ) × (IsTrue S.tells → S.left source.old ≡ input) × (IsTrue M.tells → OutcomeFor asked (G.told gate.now) (M.view media) result.0 (M.view result.1) input cut text))) }
     // What can be done is done, unless memory runs out.
     ensures complete { WordsSay (map string_bytes words.now) result.0 (Unit {0}) (λ asked. IsFit asked S.tells (S.left source.old) M.tells (M.view media)
         → (Rose (S.faults source.old) (S.faults source.new) → ⊥) → (Rose (K.faults sink.old) (K.faults sink.new) → ⊥) → (Rose (M.view media).faults (M.view result.1).faults → ⊥)

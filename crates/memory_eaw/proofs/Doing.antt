@@ -11,7 +11,6 @@ use Rattle.eaw_face.specs.Causes.{IsAlive, known, room_for, Cause}
 use Rattle.eaw_face.specs.Does.{Becomes, Does, IsEither}
 use Rattle.eaw_face.specs.declared.fault.EawFault.{EawFault}
 use Rattle.eaw_face.specs.declared.fault.EawFault.TheVariants.{Media}
-use Rattle.mars_base.proofs.Going.{stays}
 use Rattle.eaw_face.proofs.Others.{others_after}
 use Rattle.eaw_face.proofs.Mirroring.{none_sent}
 use Rattle.std.proofs.lemmas.Bool.{false≢true}
@@ -50,27 +49,6 @@ does_done x old new command may shape faults becomes time = record {
   sends = λ mirrors. absurd (false≢true mirrors);
   refused = tt;
 }
-
--- a command that is refused, by a fault other than the medium's
-pub does_refused : {T : Type 0} (store : StoreView) (command : Command) (fault : EawFault) → (let r : Result T EawFault = Err fault in Cause store command store.faults r) → (fault ≡ Media → ⊥) → (let r : Result T EawFault = Err fault in Does true IsData command store store r)
-does_refused {T} store command fault cause other = record {
-  shape = refl;
-  depth = refl;
-  later = omega arith;
-  cause = cause;
-  done = tt;
-  kept = tt;
-  dies = λ is. absurd (other (same is));
-  others = λ u apart. refl;
-  time = λ told alive. stays store.moment store.left_since (IsEither IsData store.state.bytes (after command store.state).bytes);
-  mirrors = none_sent true store store refl refl refl refl (λ alive. alive) (λ told mirrors alive. refl);
-  one = omega arith;
-  sends = tt;
-  refused = refl;
-}
-  where
-    same : (let r : Result T EawFault = Err fault in let s : Result T EawFault = Err Media in r ≡ s) → fault ≡ Media
-    same is = cc
 
 -- data and logs are as they were
 pub becomes_same : (old new : Plain) (command : Command) → new.is_dead ≡ false → new.bytes ≡ old.bytes → new.logs ≡ old.logs → ranges_after command (view_of old).ranges ≡ (view_of old).ranges → after command (view_of old).state ≡ (view_of old).state

@@ -1,5 +1,5 @@
 -- A store in memory: its data, what each number has logged, and what it keeps of its calls.
-use Rattle.std.specs.Prelude.{ℕ, ◌≡◌, ◌-◌, ◌^◌, ◌<◌, ◌≤◌, ◌⊎◌, ◌↔◌, Bool, List, [], ◌∷◌, length, All}
+use Rattle.std.specs.Prelude.{ℕ, ◌≡◌, ◌-◌, ◌^◌, ◌<◌, ◌≤◌, ◌⊎◌, Bool, List, [], ◌∷◌, length, All}
 use Rattle.pcm_media.specs.Images.{no_content}
 use Rattle.array_shape.specs.declared.shape.Shape.{Shape}
 use Rattle.array_shape.specs.Places.{data_len}
@@ -54,14 +54,3 @@ pub record IsSound (plain : Plain) : Type 0 where
   pub low : plain.kept.moment ≤ 2 ^ 64 - 1
   pub few : plain.kept.faults ≤ 2 ^ 64 - 1
   pub stamped : All (λ v. v.until ≤ plain.kept.moment) plain.kept.past
-
--- two stores show the same
-pub record SameStore (old new : StoreView) : Type 0 where
-  pub shape : new.shape ≡ old.shape
-  pub depth : new.depth ≡ old.depth
-  pub state : new.state ≡ old.state
-  pub ranges : new.ranges ≡ old.ranges
-  pub is_dead : new.is_dead ≡ old.is_dead
-  pub faults : new.faults ≡ old.faults
-  pub moment : new.moment ≡ old.moment
-  pub left : (t : ℕ) (image : List ℕ) → new.left_since t image ↔ old.left_since t image

@@ -11,11 +11,11 @@ ghost use Rattle.eaw_face.specs.StoreView.{IsLive, log_len};
 ghost use Rattle.eaw_face.specs.Command.{Command, log_write, log_edit, commit, commit_group, abort, nested_top, partial_abort, atomic_write, log_read, read};
 ghost use Rattle.eaw_face.specs.Does.{Does};
 ghost use Rattle.eaw_face.specs.Causes.{fit, known};
+ghost use Rattle.eaw_face.specs.Mirroring.{ShowsSame};
 ghost use Rattle.memory_eaw.specs.Kept.{fresh_kept, MustFail, MustFailChange};
-ghost use Rattle.memory_eaw.specs.Plain.{IsSound, SameStore};
+ghost use Rattle.memory_eaw.specs.Plain.{IsSound, IsData};
 ghost use Rattle.memory_eaw.specs.Fresh.{IsFresh};
 ghost use Rattle.memory_eaw.specs.Log.{logged};
-ghost use Rattle.memory_eaw.specs.Plain.{IsData};
 ghost use Rattle.memory_eaw.specs.Calls.{Counts, plain_calls};
 ghost use Rattle.mirror.specs.Log.{log_at};
 ghost use Rattle.memory_eaw.specs.Steps.{relogged, called_plain, changed_plain, failed_plain, committed, IsUnknown, IsUnknownIn, IsFullBy};
@@ -95,7 +95,7 @@ impl MemoryEaw {
 
     /// Lists a call as one that fails: the `nth` counted call, from 1 since the array was made.
     pub fn fail(&mut self, nth: u64) -> Result<(), NoMemory>
-        ensures store { SameStore (shown self.old) (shown self.new) }
+        ensures store { ShowsSame (shown self.old) (shown self.new) }
         ensures ok { OnOk result (kept_of self.new ≡ record (kept_of self.old) { listed = (kept_of self.old).listed ++ nth ∷ [] }) }
         ensures err { OnErr result (kept_of self.new ≡ kept_of self.old) }
     {
@@ -352,8 +352,7 @@ impl EawStore for MemoryEaw {
     ghost use Rattle.std.specs.Prelude.{true, refl};
     ghost use Rattle.std.proofs.Common.{sym, ◌∙◌};
     ghost use Rattle.std.proofs.Math.Nat.{le_refl};
-    ghost use Rattle.memory_eaw.specs.Plain.{IsData};
-    ghost use Rattle.memory_eaw.specs.Shown.{plain_of, shown, kept_of};
+        ghost use Rattle.memory_eaw.specs.Shown.{plain_of, shown, kept_of};
     ghost use Rattle.memory_eaw.specs.Calls.{plain_calls};
     ghost use Rattle.memory_eaw.specs.Laws.{beyond_in, placed_in, some_now, counts_now, only_now};
 

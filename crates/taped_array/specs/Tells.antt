@@ -2,7 +2,7 @@
 use Rattle.std.specs.Prelude.{ℕ, ℤ, pos, ◌≡◌, ◌≤◌, false, List, [], ◌∷◌, Option, Some, None}
 use Rattle.tape_media.specs.Steps.{Step, with_first_done, DeviceMayLeave}
 use Rattle.tape_media.specs.Tape.{Tape, done_moment}
-use Rattle.taped_store.specs.Same.{ShowsSame}
+use Rattle.eaw_face.specs.Mirroring.{ShowsSame}
 use Rattle.eaw_device.specs.Opens.{Opens}
 use Rattle.taped_array.specs.declared.open_array.OpenArray.{OpenArray}
 use Rattle.taped_array.specs.Status.{no_piece}

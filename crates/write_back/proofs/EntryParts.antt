@@ -20,6 +20,14 @@ firsts_same x y xs ys is = cc
 pub rests_same : {A : Type 0} (x y : A) (xs ys : List A) → x ∷ xs ≡ y ∷ ys → xs ≡ ys
 rests_same x y xs ys is = cc
 
+module _ (shape : Shape) where
+  -- an entry of this logger, and one of another
+  pub cells_on_here : (g : ℕ) (e : Entry) (es : List Entry) → logger_of shape e.addr ≡ g → cells_on shape g (e ∷ es) ≡ e.cell ∷ cells_on shape g es
+  cells_on_here g e es is = ap (λ (on : Bool). cond on (e.cell ∷ cells_on shape g es) (cells_on shape g es)) (eq-eqb (logger_of shape e.addr) g is)
+
+  pub cells_on_past : (g : ℕ) (e : Entry) (es : List Entry) → (logger_of shape e.addr ≡ g → ⊥) → cells_on shape g (e ∷ es) ≡ cells_on shape g es
+  cells_on_past g e es ne = ap (λ (on : Bool). cond on (e.cell ∷ cells_on shape g es) (cells_on shape g es)) (ne_eqb (logger_of shape e.addr) g ne)
+
 module _ (shape : Shape) (image : List ℕ) (t : ℕ) where
   -- the part in a cell
   abbrev pub part_in : ℕ → ℕ → Part
@@ -49,19 +57,12 @@ module _ (shape : Shape) (image : List ℕ) (t : ℕ) where
       let p = part_in (logger_of shape e.addr) e.cell in
       held_at es n d (omega arith) (rests_same (p.0, length p.1) (e.addr, e.len) (ranges_of (parts_in shape image t es)) (ranges_in es) heads)
 
-  parts_from-numbers : (g e n : ℕ) → parts_from shape image g t e n ≡ map (part_in g) (range_with_len e n)
+  pub parts_from-numbers : (g e n : ℕ) → parts_from shape image g t e n ≡ map (part_in g) (range_with_len e n)
   parts_from-numbers g e zero = refl
   parts_from-numbers g e (suc n) = ap (λ (l : List Part). part_in g e ∷ l) (parts_from-numbers g (e + 1) n)
 
-  -- an entry of this logger, and one of another
-  cells_on_here : (g : ℕ) (e : Entry) (es : List Entry) → logger_of shape e.addr ≡ g → cells_on shape g (e ∷ es) ≡ e.cell ∷ cells_on shape g es
-  cells_on_here g e es is = ap (λ (on : Bool). cond on (e.cell ∷ cells_on shape g es) (cells_on shape g es)) (eq-eqb (logger_of shape e.addr) g is)
-
-  cells_on_past : (g : ℕ) (e : Entry) (es : List Entry) → (logger_of shape e.addr ≡ g → ⊥) → cells_on shape g (e ∷ es) ≡ cells_on shape g es
-  cells_on_past g e es ne = ap (λ (on : Bool). cond on (e.cell ∷ cells_on shape g es) (cells_on shape g es)) (ne_eqb (logger_of shape e.addr) g ne)
-
   -- if the cells say the ranges of the entries, the parts of one logger are those in its cells
-  parts_at-parts_in : (g : ℕ) (es : List Entry) → ranges_of (parts_in shape image t es) ≡ ranges_in es → parts_at shape g (parts_in shape image t es) ≡ map (part_in g) (cells_on shape g es)
+  pub parts_at-parts_in : (g : ℕ) (es : List Entry) → ranges_of (parts_in shape image t es) ≡ ranges_in es → parts_at shape g (parts_in shape image t es) ≡ map (part_in g) (cells_on shape g es)
   parts_at-parts_in g [] heads = refl
   parts_at-parts_in g (e ∷ es) heads =
       let p = part_in (logger_of shape e.addr) e.cell in
@@ -72,10 +73,10 @@ module _ (shape : Shape) (image : List ℕ) (t : ℕ) where
         | inl is ↦
             (λ i. cond (eq-eqb (logger_of shape p.0) g (logger ∙ is) i) (p ∷ rest i) (rest i))
             ∙ ap (λ (h : ℕ). part_in h e.cell ∷ map (part_in g) (cells_on shape g es)) is
-            ∙ sym (ap (map (part_in g)) (cells_on_here g e es is))
+            ∙ sym (ap (map (part_in g)) (cells_on_here shape g e es is))
         | inr ne ↦
             (λ i. cond (ne_eqb (logger_of shape p.0) g (λ is. ne (sym logger ∙ is)) i) (p ∷ rest i) (rest i))
-            ∙ sym (ap (map (part_in g)) (cells_on_past g e es ne))
+            ∙ sym (ap (map (part_in g)) (cells_on_past shape g e es ne))
       ]
 
   -- entries with the cells that a row names have there the parts of the row

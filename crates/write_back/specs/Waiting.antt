@@ -1,8 +1,10 @@
 -- The commits that a queue in memory names on the medium.
-use Rattle.std.specs.Prelude.{ℕ, ◌^◌, ◌<◌, ◌≤◌, List, [], ◌∷◌, length, All, vec_capacity}
+use Rattle.std.specs.Prelude.{ℕ, ◌≡◌, ◌^◌, ◌<◌, ◌≤◌, Bool, IsTrue, List, [], ◌∷◌, length, All, vec_capacity}
 use Rattle.pcm_media.specs.Images.{Content}
+use Rattle.pcm_media.specs.View.{View}
 use Rattle.array_shape.specs.declared.shape.Shape.{Shape}
 use Rattle.array_shape.specs.Logged.{applied}
+use Rattle.array_shape.specs.Places.{media_len}
 use Rattle.row_bytes.specs.declared.ballot.Ballot.{Ballot}
 use Rattle.array_image.specs.Image.{data_of}
 use Rattle.commit_queue.specs.Queue.{Commit, queue_parts}
@@ -36,3 +38,9 @@ pub record IsFit (shape : Shape) (late : LateCommits) : Type 0 where
   pub there : All (λ (b : Ballot). AreThere shape b late.cells) late.ballots.items
   pub ordered : All (λ (b : Ballot). (0 < b.order) × (b.order < 2 ^ 16)) late.ballots.items
   pub has_rows : All (λ (b : Ballot). (0 < b.mask) × (0 < b.group)) late.ballots.items
+
+-- a queue that fits the array, whose commits wait on this medium
+pub record IsQueued (tells : Bool) (shape : Shape) (late : LateCommits) (media : View) : Type 0 where
+  pub fit : IsFit shape late
+  pub size : media.size ≡ media_len shape
+  pub waiting : IsTrue tells → AreWaiting shape late media.content

@@ -1,13 +1,12 @@
 // The queue in memory, and its steps on the medium.
 ghost use Rattle.std.specs.Prelude.{◌≡◌, ◌-◌, ◌^◌, ◌<◌, ℕ, [], true, IfOk, IsTrue, length, vec_capacity};
 ghost use Rattle.array_shape.specs.declared.shape.Shape.{Shape};
-ghost use Rattle.array_shape.specs.Places.{media_len};
 ghost use Rattle.array_shape.specs.NumberSet.{has};
 ghost use Rattle.coordinator.specs.Commits.{AreGood, AreThere};
 ghost use Rattle.write_back.specs.Orders.{shares};
 
 use array_shape::Shape;
-use coordinator::{Cells, commit, decide, write_back};
+use coordinator::{CellTable, Cells, commit, decide, write_back};
 use mars_base::Failed;
 use pcm_media::Media;
 use row_bytes::Ballot;
@@ -24,7 +23,7 @@ pub struct LateCommits {
 }
 
 impl LateCommits {
-    ghost use Rattle.write_back.specs.Waiting.{AreWaiting, IsFit};
+    ghost use Rattle.write_back.specs.Waiting.{IsFit, IsQueued};
     ghost use Rattle.write_back.specs.Orders.{IsFree, due_for, due_for_place, last_order};
     ghost use Rattle.write_back.specs.Steps.{CommitsOne, DecidesOne, WritesBack};
 
@@ -44,15 +43,17 @@ impl LateCommits {
 
     // Writes the oldest back, if one waits.
     fn write_back_oldest<M: Media>(&mut self, media: &mut M, shape: &Shape) -> Result<(), Failed>
-        requires fit { IsFit shape.now self.old }
-        requires size { (M.view media.old).size ≡ media_len shape.now }
-        requires waiting { IsTrue M.tells → AreWaiting shape.now self.old (M.view media.old).content }
+        requires { IsQueued M.tells shape.now self.old (M.view media.old) }
         ensures { WritesBack M.tells shape.now 1 self.old (M.view media.old) self.new (M.view media.new) result }
     {
         let Some(&ballot) = self.ballots.first() else {
             return Ok(());
         };
-        write_back(media, shape, ballot, &self.cells)?;
+        let table = CellTable {
+            shape,
+            cells: &self.cells,
+        };
+        write_back(media, &table, ballot)?;
         self.ballots.remove(0);
         Ok(())
     }
@@ -64,9 +65,7 @@ impl LateCommits {
         shape: &Shape,
         count: usize,
     ) -> Result<(), Failed>
-        requires fit { IsFit shape.now self.old }
-        requires size { (M.view media.old).size ≡ media_len shape.now }
-        requires waiting { IsTrue M.tells → AreWaiting shape.now self.old (M.view media.old).content }
+        requires { IsQueued M.tells shape.now self.old (M.view media.old) }
         ensures { WritesBack M.tells shape.now count self.old (M.view media.old) self.new (M.view media.new) result }
     {
         for _done in 0..count {
@@ -96,9 +95,7 @@ impl LateCommits {
         shape: &Shape,
         ballot: Ballot,
     ) -> Result<(), Failed>
-        requires fit { IsFit shape.now self.now }
-        requires size { (M.view media.old).size ≡ media_len shape.now }
-        requires waiting { IsTrue M.tells → AreWaiting shape.now self.now (M.view media.old).content }
+        requires queued { IsQueued M.tells shape.now self.now (M.view media.old) }
         requires there { AreThere shape.now ballot self.now.cells }
         requires good { IsTrue M.tells → AreGood shape.now (M.view media.old).content.bytes ballot self.now.cells }
         requires some { 0 < ballot.mask }
@@ -106,7 +103,11 @@ impl LateCommits {
         ensures { CommitsOne M.tells shape.now ballot self.now (M.view media.old) self.now (M.view media.new) result }
     {
         let ballot = Ballot { order: 0, ..ballot };
-        commit(media, shape, ballot, &self.cells)
+        let table = CellTable {
+            shape,
+            cells: &self.cells,
+        };
+        commit(media, &table, ballot)
     }
 
     /// How many are written back to make place for one more.
@@ -136,9 +137,7 @@ impl LateCommits {
         shape: &Shape,
         ballot: Ballot,
     ) -> Result<(), Failed>
-        requires fit { IsFit shape.now self.old }
-        requires size { (M.view media.old).size ≡ media_len shape.now }
-        requires waiting { IsTrue M.tells → AreWaiting shape.now self.old (M.view media.old).content }
+        requires queued { IsQueued M.tells shape.now self.old (M.view media.old) }
         requires there { AreThere shape.now ballot self.old.cells }
         requires good { IsTrue M.tells → AreGood shape.now (M.view media.old).content.bytes ballot self.old.cells }
         requires some { (0 < ballot.mask) × (0 < ballot.group) }
@@ -149,7 +148,11 @@ impl LateCommits {
     {
         let order = self.last_order() + 1;
         let ballot = Ballot { order, ..ballot };
-        decide(media, shape, ballot, &self.cells)?;
+        let table = CellTable {
+            shape,
+            cells: &self.cells,
+        };
+        decide(media, &table, ballot)?;
         self.ballots.push_reserved(ballot);
         Ok(())
     }

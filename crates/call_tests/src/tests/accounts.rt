@@ -1,15 +1,15 @@
+// Transfers between two accounts, with power lost at each call of the medium.
 ghost use Rattle.std.specs.Prelude.{◌≡◌, ◌≢◌, ◌<◌, IsTrue};
 ghost use Rattle.caller_steps.specs.Sound.{IsSound};
 
-use super::arrays::{CHOICES, fresh, media_of, whole};
+use super::arrays::{CHOICES, cut_behind, fresh, media_of, memory_of, whole};
 use super::opening::{close_bank, open_bank};
 use bank::{Refusal, balance, transfer};
 use caller_steps::{Core as Steps, prefix_law};
 use history::{Call, Control, TableCall, main_table};
-use pcm_media::{FusedMedia, Media, MemoryMedia};
+use pcm_media::{Media, MemoryMedia};
 use record_slots::Value;
 use std::alloc::Global;
-use std::process::Abort;
 use std::test::Fail;
 use transactions::Stop;
 
@@ -30,7 +30,7 @@ fn open_account<C: Steps>(core: &mut C, account: u64, value: Value)
 
 /// An array with 100 in the account 1 and 50 in the account 2.
 pub fn with_accounts(alloc: Global) -> Option<MemoryMedia> {
-    Some(opened(alloc, whole(fresh(alloc)?))?.into_inner())
+    Some(memory_of(opened(alloc, whole(fresh(alloc)?))?))
 }
 
 // The medium of an array, with both accounts in it.
@@ -85,62 +85,6 @@ fn pay_thrice<C: Steps>(core: &mut C) -> [Result<(), Stop<Refusal>>; 3]
     [pay(core, 2, 30), pay(core, 2, 71), pay(core, 3, 1)]
 }
 
-// A transfer of 30: its answer and the medium as it is then, or `None` if the array was not opened.
-fn pay_once<M: Media + Drop>(alloc: Global, media: M) -> Option<(Result<(), Stop<Refusal>>, M)> {
-    let mut core = open_bank(alloc, media)?;
-    let answer = transfer(&mut core, 0, 1, 2, 30);
-    Some((answer, close_bank(core)))
-}
-
-// The same behind a fuse.
-fn pay_behind(
-    alloc: Global,
-    image: &[u8],
-    passes: u64,
-) -> Option<(Result<(), Stop<Refusal>>, MemoryMedia)> {
-    let (answer, media) = pay_once(alloc, FusedMedia::wrap(media_of(alloc, image)?, passes))?;
-    Some((answer, media.into_inner()))
-}
-
-// What becomes of a transfer that loses power.
-enum Fate {
-    Unopened,
-    Refused,
-    Done,
-    /// An image has other balances than it may have.
-    Wrong,
-}
-
-fn fate_behind(alloc: Global, image: &[u8], passes: u64) -> Fate {
-    let Some((answer, media)) = pay_behind(alloc, image, passes) else {
-        return Fate::Unopened;
-    };
-    for choice in CHOICES {
-        if !may_be_left(balances_left(alloc, &media, choice), &answer) {
-            return Fate::Wrong;
-        }
-    }
-    if answer.is_ok() {
-        Fate::Done
-    } else {
-        Fate::Refused
-    }
-}
-
-// What both accounts have in an image that a loss of power may leave.
-fn balances_left(alloc: Global, media: &MemoryMedia, choice: &[u8]) -> Option<(u64, u64)> {
-    balances(alloc, whole(media.leave(choice).ok()?))
-}
-
-// Whether an image may have these balances behind this answer.
-fn may_be_left(balances: Option<(u64, u64)>, answer: &Result<(), Stop<Refusal>>) -> bool {
-    match balances {
-        Some((70, 80)) => true,
-        Some((100, 50)) => answer.is_err(),
-        _ => false,
-    }
-}
-
 fn three_answers<M: Media + Drop>(
     alloc: Global,
     media: M,
@@ -162,17 +106,44 @@ fn moves_and_refuses(rt: HostRuntime) -> Result<(), Fail> {
     Ok(())
 }
 
+// Whether a transfer of 30 is done, and the medium as it is then, or `None` if the array was not opened.
+fn pay_once<M: Media + Drop>(alloc: Global, media: M) -> Option<(bool, M)> {
+    let mut core = open_bank(alloc, media)?;
+    let is_done = pay(&mut core, 2, 30).is_ok();
+    Some((is_done, close_bank(core)))
+}
+
+// The same where power is lost behind so many calls.
+fn pay_behind(alloc: Global, image: &[u8], passes: u64) -> Option<(bool, MemoryMedia)> {
+    let (is_done, media) = pay_once(alloc, cut_behind(media_of(alloc, image)?, passes))?;
+    Some((is_done, memory_of(media)))
+}
+
+// Whether each image that is left has both balances as they were before the transfer, which is not done then, or as they are behind it.
+fn keeps_the_sum(alloc: Global, is_done: bool, media: &MemoryMedia) -> bool {
+    for choice in CHOICES {
+        let Ok(left) = media.leave(choice) else {
+            return false;
+        };
+        match balances(alloc, whole(left)) {
+            Some((70, 80)) => {}
+            Some((100, 50)) if !is_done => {}
+            _ => return false,
+        }
+    }
+    true
+}
+
 #[test]
 fn keeps_the_sum_wherever_power_is_lost(rt: HostRuntime) -> Result<(), Fail> {
     let media = with_accounts(rt.alloc()).ok_or("accounts")?;
     let mut was_refused = false;
     let mut was_done = false;
     for passes in 0..64 {
-        match fate_behind(rt.alloc(), media.bytes(), passes) {
-            Fate::Unopened => {}
-            Fate::Refused => was_refused = true,
-            Fate::Done => was_done = true,
-            Fate::Wrong => panic!(rt; "power lost after {passes} calls"),
+        if let Some((is_done, left)) = pay_behind(rt.alloc(), media.bytes(), passes) {
+            was_done = was_done || is_done;
+            was_refused = was_refused || !is_done;
+            assert!(rt; keeps_the_sum(rt.alloc(), is_done, &left));
         }
     }
     assert!(rt; was_refused && was_done);

@@ -1,4 +1,5 @@
 // Arrays in memory.
+use super::held_media::HeldMedia;
 use array_shape::Shape;
 use eaw_device::format;
 use pcm_media::{FusedMedia, MemoryMedia};
@@ -9,13 +10,26 @@ const CALLS: u64 = 256;
 
 const WRITTEN: u64 = 65_536;
 
-/// Bytes for what is not sure behind a loss of power. Where none are said, a read's bytes stay.
-pub const CHOICES: [&[u8]; 4] = [b"", b"\x00", b"\xFF", b"\xC3\x01"];
+/// Bytes for what is not sure behind a loss of power: what a read gave, zeros, others, and the mark of an array.
+pub const CHOICES: [&[u8]; 4] = [b"", b"\x00", b"\xC3\x01", b"MARSEAW1"];
 
-/// A medium whose power is never cut. All arrays of these tests lie on a medium of this one type, since all that stands on a medium is built
-/// once for each; and what is said of it is proved once for any.
-pub fn whole(media: MemoryMedia) -> FusedMedia<MemoryMedia> {
-    FusedMedia::wrap(media, u64::MAX)
+/// What all arrays of these tests lie on, whose power may be cut and whose reads may be held. It is one type, since all that stands on a
+/// medium is built once for each; and what is said of it is proved once for any.
+pub type Disk = HeldMedia<FusedMedia<MemoryMedia>>;
+
+/// A medium whose power is cut behind so many calls.
+pub fn cut_behind(media: MemoryMedia, passes: u64) -> Disk {
+    HeldMedia::free(FusedMedia::wrap(media, passes))
+}
+
+/// A medium whose power is never cut.
+pub fn whole(media: MemoryMedia) -> Disk {
+    cut_behind(media, u64::MAX)
+}
+
+/// The memory in a medium.
+pub fn memory_of(disk: Disk) -> MemoryMedia {
+    disk.into_inner().into_inner()
 }
 
 /// A fresh array of the least numbers; `None` where memory is short.

@@ -6,13 +6,13 @@ use btree_pages::BTreePages;
 use caller_steps::Core as Steps;
 use eaw_device::Eaw;
 use mars_core::Core;
-use noted::KeepsNothing;
+use noted::KeepsNews;
 use open_records::open;
 use pcm_media::Media;
 use std::alloc::Global;
 
-/// A core over the records of an array.
-pub type Bank<M> = Core<Eaw<M>, BTreePages, KeepsNothing>;
+/// A core over the records of an array. All tests have one that can forget its history, so that it is built once.
+pub type Bank<M> = Core<Eaw<M>, BTreePages, KeepsNews>;
 
 /// Opens the records of the array that the medium holds, for a caller. There are none where it holds no sound array, the medium fails, or
 /// memory is short.

@@ -1,24 +1,14 @@
-// Tables to be restored, and arrays that hold them.
+// Tables to be restored.
 use super::arrays::media_of;
 use array_shape::Shape;
-use btree_pages::BTreePages;
-use eaw_device::Eaw;
 use history::{Rows, Tables, main_table};
-use mars_core::Core;
-use noted::KeepsAll;
-use pcm_media::{FusedMedia, Media, MemoryMedia};
+use pcm_media::{Media, MemoryMedia};
 use record_slots::{Name, Value};
 use restoring::{RestoreFault, restore};
 use std::alloc::Global;
 
 // Pages of the index are filled, so that one pair more splits a leaf.
 const FULL: usize = 30;
-
-/// The medium on which all arrays of these tests lie.
-pub type Lost = FusedMedia<MemoryMedia>;
-
-/// A core over an array that keeps the records that it found.
-pub type Kept<M> = Core<Eaw<M>, BTreePages, KeepsAll>;
 
 /// Restores tables; each page of their index is full.
 pub fn restore_full<M: Media>(
@@ -30,44 +20,42 @@ pub fn restore_full<M: Media>(
     restore(alloc, media, shape, FULL, tables)
 }
 
-/// An array of this shape with these tables, restored over nothing but this byte.
-pub fn array_with(alloc: Global, shape: &Shape, byte: u8, tables: Tables) -> Option<MemoryMedia> {
-    let bytes = vec![in alloc; byte; shape.media_len() as usize].ok()?;
-    let mut media = media_of(alloc, &bytes)?;
+/// An array of this shape with these tables.
+pub fn array_with(alloc: Global, shape: &Shape, tables: Tables) -> Option<MemoryMedia> {
+    let zeros = vec![in alloc; 0; shape.media_len() as usize].ok()?;
+    let mut media = media_of(alloc, &zeros)?;
     restore_full(alloc, &mut media, shape, tables).ok()?;
     Some(media)
 }
 
-// A table beside `main`.
-fn others() -> Option<Name> {
-    Name::of(b"others")
-}
-
-// Rows whose keys are ten apart.
-fn rows_of(alloc: Global, count: u16, value: Value) -> Option<Rows> {
+// So many rows.
+fn rows_of(alloc: Global, count: usize) -> Option<Rows> {
+    let value = Value::of(b"same")?;
     let mut rows = Rows::new(alloc);
-    for j in 0..count {
-        rows.push(10 * u64::from(j), value).ok()?;
+    for key in 0..count {
+        rows.push(key as u64, value).ok()?;
     }
     Some(rows)
 }
 
-/// So many rows of `main`, and of another table.
-#[derive(Clone, Copy)]
-pub struct Counts {
-    pub first: u16,
-    pub second: u16,
-}
+/// How many rows `main` has, and another table.
+pub type Counts = (usize, usize);
 
-/// Both tables, with this value under each key.
-pub fn two_tables(alloc: Global, counts: Counts, value: &[u8]) -> Option<Tables> {
-    let value = Value::of(value)?;
+/// Both tables.
+pub fn two_tables(alloc: Global, counts: Counts) -> Option<Tables> {
+    let (first, second) = counts;
     let mut tables = Tables::new(alloc);
+    tables.push(main_table(), rows_of(alloc, first)?).ok()?;
     tables
-        .push(main_table(), rows_of(alloc, counts.first, value)?)
-        .ok()?;
-    tables
-        .push(others()?, rows_of(alloc, counts.second, value)?)
+        .push(Name::of(b"others")?, rows_of(alloc, second)?)
         .ok()?;
     Some(tables)
+}
+
+/// How many rows two tables have.
+pub fn counts_of(tables: &Tables) -> Option<Counts> {
+    match tables.as_slice() {
+        [(_, first), (_, second)] => Some((first.as_slice().len(), second.as_slice().len())),
+        _ => None,
+    }
 }

@@ -3,7 +3,7 @@ ghost use Rattle.std.specs.Prelude.{◌≡◌, ◌≤◌, ℕ, List, true, lengt
 ghost use Rattle.tape_media.specs.Steps.{DeviceMayLeave, IsWithin, with_first_done};
 ghost use Rattle.tape_media.specs.Pieces.{step_of};
 ghost use Rattle.tape_media.specs.Tape.{next_of, done_moment};
-ghost use Rattle.taped_store.specs.Same.{ShowsSame};
+ghost use Rattle.eaw_face.specs.Mirroring.{ShowsSame};
 
 use super::Pages;
 use tape_media::Piece;

@@ -25,8 +25,8 @@ use Rattle.coordinator.proofs.commits.commit.Goals as goal
 
 pub returns-then-ballot-eq0-clause-committed : goal.returns-then-ballot-eq0-clause-committed
 returns-then-ballot-eq0-clause-committed g c told bytes rest =
-    let none : parts_named c.args.shape.now (g.M.Media.view c.args.media.now).content.bytes c.args.ballot c.args.cells.now ≡ [] = none_named c.args.shape.now c.args.ballot c.args.cells.now c.requires.there c.if-ballot-eq0.true (g.M.Media.view c.args.media.now).content.bytes in
-    subst (λ (ps : List Part). IsAtRest c.args.shape.now [] (applied ps bytes) (g.M.Media.view c.args.media.now).content) (sym none) rest
+    let none : parts_named c.args.table.now.shape.now (g.M.Media.view c.args.media.now).content.bytes c.args.ballot c.args.table.now.cells.now ≡ [] = none_named c.args.table.now.shape.now c.args.ballot c.args.table.now.cells.now c.requires.there c.if-ballot-eq0.true (g.M.Media.view c.args.media.now).content.bytes in
+    subst (λ (ps : List Part). IsAtRest c.args.table.now.shape.now [] (applied ps bytes) (g.M.Media.view c.args.media.now).content) (sym none) rest
 
 pub returns-in_err-decide-clause-any_moment : goal.returns-in_err-decide-clause-any_moment
 returns-in_err-decide-clause-any_moment g c told bytes rest = c.decide.ensures.any_moment told [] bytes rest (record { later = tt; apart = λ h t lt lt' has. refl })
@@ -34,23 +34,23 @@ returns-in_err-decide-clause-any_moment g c told bytes rest = c.decide.ensures.a
 pub returns-in_err-decide-clause-does : goal.returns-in_err-decide-clause-does
 returns-in_err-decide-clause-does g c =
     let base = g.M.Media.view c.args.media.now in
-    hands_on g.M.Media.tells (commit_places c.args.shape.now base.content.bytes c.args.ballot c.args.cells.now) (row_places c.args.shape.now c.args.ballot) base base (g.M.Media.view c.decide.new.media)
-    (λ told. rows_in_all_places c.args.shape.now c.args.ballot base.content.bytes c.args.cells.now) (none_yet g.M.Media.tells _ base) c.from_residual.result c.from_residual.ensures.0 c.in_err-decide.ensures.does
+    hands_on g.M.Media.tells (commit_places c.args.table.now.shape.now base.content.bytes c.args.ballot c.args.table.now.cells.now) (row_places c.args.table.now.shape.now c.args.ballot) base base (g.M.Media.view c.decide.new.media)
+    (λ told. rows_in_all_places c.args.table.now.shape.now c.args.ballot base.content.bytes c.args.table.now.cells.now) (none_yet g.M.Media.tells _ base) c.from_residual.result c.from_residual.ensures.0 c.in_err-decide.ensures.does
 
 module _ (g : Over) (c : goal.After-write_back g) where
   abbrev its : Commit
-  its = commit_of c.args.shape.now (g.M.Media.view c.args.media.now).content.bytes c.args.ballot c.args.cells.now
+  its = commit_of c.args.table.now.shape.now (g.M.Media.view c.args.media.now).content.bytes c.args.ballot c.args.table.now.cells.now
 
-  named : Names c.args.shape.now c.args.ballot c.args.cells.now its
+  named : Names c.args.table.now.shape.now c.args.ballot c.args.table.now.cells.now its
   named = record { ballot_is = refl; first_is = λ h t lt lt' has. refl; count_is = λ h t lt lt' has. refl }
 
-  joined : IsTrue g.M.Media.tells → (bytes : List ℕ) → IsAtRest c.args.shape.now [] bytes (g.M.Media.view c.args.media.now).content → IsAtRest c.args.shape.now (its ∷ []) bytes (g.M.Media.view c.decide.new.media).content
+  joined : IsTrue g.M.Media.tells → (bytes : List ℕ) → IsAtRest c.args.table.now.shape.now [] bytes (g.M.Media.view c.args.media.now).content → IsAtRest c.args.table.now.shape.now (its ∷ []) bytes (g.M.Media.view c.decide.new.media).content
   joined told bytes rest = c.in_ok-decide.ensures.joined told [] bytes rest (record { later = tt; apart = λ h t lt lt' has. refl })
 
 pub returns-clause-any_moment : goal.returns-clause-any_moment
 returns-clause-any_moment g c told bytes rest =
     then (c.in_ok-decide.ensures.any_moment told [] bytes rest (record { later = tt; apart = λ h t lt lt' has. refl }))
-    (weaker (λ image stands. inr (subst (λ (ps : List Part). StandsFor c.args.shape.now image (applied ps bytes)) (append-nil (its g c).parts) stands))
+    (weaker (λ image stands. inr (subst (λ (ps : List Part). StandsFor c.args.table.now.shape.now image (applied ps bytes)) (append-nil (its g c).parts) stands))
     (c.write_back.ensures.any_moment told [] (its g c) bytes (named g c) (joined g c told bytes rest)))
 
 pub returns-clause-committed : goal.returns-clause-committed
@@ -60,21 +60,21 @@ pub returns-clause-does : goal.returns-clause-does
 returns-clause-does g c =
     let base = g.M.Media.view c.args.media.now in
     let mid = g.M.Media.view c.decide.new.media in
-    let shape = c.args.shape.now in
+    let shape = c.args.table.now.shape.now in
     let ballot = c.args.ballot in
-    let cells = c.args.cells.now in
+    let cells = c.args.table.now.cells.now in
     let first = ends_with g.M.Media.tells (commit_places shape base.content.bytes ballot cells) (row_places shape ballot) base base mid (λ told. rows_in_all_places shape ballot base.content.bytes cells) (none_yet g.M.Media.tells _ base) _ (succeeded g.M.Media.tells _ _ _ c.in_ok-decide.ensures.does refl) in
     ends_with g.M.Media.tells (commit_places shape base.content.bytes ballot cells) (commit_places shape mid.content.bytes ballot cells) base mid (g.M.Media.view c.write_back.new.media)
     (λ told i out. subst (λ places. IsOutside places i) (ap (λ (ps : List Part). row_places shape ballot ++ places_of shape ps) (sym (all_same shape ballot cells c.requires.there base.content.bytes mid.content.bytes (c.in_ok-decide.ensures.cells told)))) out)
     first c.write_back.result c.write_back.ensures.does
 
 pub returns-then-ballot-eq0-clause-rows : goal.returns-then-ballot-eq0-clause-rows
-returns-then-ballot-eq0-clause-rows g c told = no_rows c.args.shape.now c.args.ballot c.args.cells.now false (g.M.Media.view c.args.media.now).content.bytes c.if-ballot-eq0.true
+returns-then-ballot-eq0-clause-rows g c told = no_rows c.args.table.now.shape.now c.args.ballot c.args.table.now.cells.now false (g.M.Media.view c.args.media.now).content.bytes c.if-ballot-eq0.true
 
 pub returns-clause-rows : goal.returns-clause-rows
 returns-clause-rows g c told =
     on_ok_weaker c.write_back.result
-    (cleared_again c.args.shape.now c.args.ballot c.args.cells.now (g.M.Media.view c.args.media.now).content.bytes (g.M.Media.view c.decide.new.media).content.bytes (g.M.Media.view c.write_back.new.media).content.bytes (c.in_ok-decide.ensures.rows told))
+    (cleared_again c.args.table.now.shape.now c.args.ballot c.args.table.now.cells.now (g.M.Media.view c.args.media.now).content.bytes (g.M.Media.view c.decide.new.media).content.bytes (g.M.Media.view c.write_back.new.media).content.bytes (c.in_ok-decide.ensures.rows told))
     (c.write_back.ensures.rows told)
 
 -- where some logger takes part, a commit is decided and written back
@@ -83,10 +83,10 @@ both shape ballot cells some = ap (λ b. cond b 0 (decide_calls shape ballot + w
 
 pub returns-in_err-decide-clause-costs : goal.returns-in_err-decide-clause-costs
 returns-in_err-decide-clause-costs g c =
-    costs_err g.M.Media.tells _ _ _ c.from_residual.result c.from_residual.ensures.0 (omega (arith, c.decide.ensures.costs.most, both c.args.shape.now c.args.ballot c.args.cells.now (λ none. omega (arith, none, c.if-ballot-eq0.false))))
+    costs_err g.M.Media.tells _ _ _ c.from_residual.result c.from_residual.ensures.0 (omega (arith, c.decide.ensures.costs.most, both c.args.table.now.shape.now c.args.ballot c.args.table.now.cells.now (λ none. omega (arith, none, c.if-ballot-eq0.false))))
 
 pub returns-clause-costs : goal.returns-clause-costs
 returns-clause-costs g c =
-    let all = both c.args.shape.now c.args.ballot c.args.cells.now (λ none. omega (arith, none, c.if-ballot-eq0.false)) in
+    let all = both c.args.table.now.shape.now c.args.ballot c.args.table.now.cells.now (λ none. omega (arith, none, c.if-ballot-eq0.false)) in
     let decided = c.in_ok-decide.ensures.costs in
     costs_then g.M.Media.tells _ _ _ _ _ _ c.write_back.result all (record { done = λ told. decided.done refl; most = decided.most }) c.write_back.ensures.costs

@@ -14,8 +14,8 @@ invariant-loop-tid g l =
     let m = g.M.Media in
     let base = (m.view l.fn.media).content.bytes in
     (at : ℕ) × record {
-      left : AreLeft l.shape.numbers l.ballot.group at l.tid-iterator;
-      costs : CostsSoFar m.tells (2 * total (parts_at l.shape l.ballot l.cells) at) (m.view l.fn.media).moment (m.view l.media).moment;
-      does : SoFar m.tells (places_of l.shape (parts_named l.shape base l.ballot l.cells)) (m.view l.fn.media) (m.view l.media);
-      applied : IsTrue m.tells → data_of l.shape (m.view l.media).content.bytes ≡ applied (joined (number_parts l.shape base l.ballot l.cells) 0 at) (data_of l.shape base);
+      left : AreLeft l.table.shape.now.numbers l.ballot.group at l.tid-iterator;
+      costs : CostsSoFar m.tells (2 * total (parts_at l.table.shape.now l.ballot l.table.cells.now) at) (m.view l.fn.media).moment (m.view l.media).moment;
+      does : SoFar m.tells (places_of l.table.shape.now (parts_named l.table.shape.now base l.ballot l.table.cells.now)) (m.view l.fn.media) (m.view l.media);
+      applied : IsTrue m.tells → data_of l.table.shape.now (m.view l.media).content.bytes ≡ applied (joined (number_parts l.table.shape.now base l.ballot l.table.cells.now) 0 at) (data_of l.table.shape.now base);
     }

@@ -16,8 +16,8 @@ invariant-loop-number g l =
     let m = g.M.Media in
     let base = (m.view l.fn.media).content.bytes in
     (at : ℕ) × record {
-      left : AreLeft l.shape.loggers l.fn.ballot.mask at l.number-iterator;
-      costs : CostsSoFar m.tells (2 * total (λ h. cond (has_row l.fn.ballot h l.tid) (cells_in l.cells h l.tid).count 0) at) (m.view l.fn.media).moment (m.view l.media).moment;
-      does : SoFar m.tells (places_of l.shape (number_parts l.shape base l.fn.ballot l.cells l.tid)) (m.view l.fn.media) (m.view l.media);
-      applied : IsTrue m.tells → data_of l.shape (m.view l.media).content.bytes ≡ applied (joined (named_at l.shape base (commit_with l.fn.ballot l.cells []) l.tid) 0 at) (data_of l.shape base);
+      left : AreLeft l.table.shape.now.loggers l.fn.ballot.mask at l.number-iterator;
+      costs : CostsSoFar m.tells (2 * total (λ h. cond (has_row l.fn.ballot h l.tid) (cells_in l.table.cells.now h l.tid).count 0) at) (m.view l.fn.media).moment (m.view l.media).moment;
+      does : SoFar m.tells (places_of l.table.shape.now (number_parts l.table.shape.now base l.fn.ballot l.table.cells.now l.tid)) (m.view l.fn.media) (m.view l.media);
+      applied : IsTrue m.tells → data_of l.table.shape.now (m.view l.media).content.bytes ≡ applied (joined (named_at l.table.shape.now base (commit_with l.fn.ballot l.table.cells.now []) l.tid) 0 at) (data_of l.table.shape.now base);
     }

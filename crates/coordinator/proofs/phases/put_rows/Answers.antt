@@ -19,7 +19,7 @@ pub loop-tid-init : goal.loop-tid-init
 loop-tid-init g c = (
   0,
   record {
-    left = all_left c.args.shape.now.numbers c.args.ballot.group (omega arith) c.requires.group _ (c.into_iter-tid-iterator.ensures.into_iter_gives ∙ c.members-tid-items.ensures ∙ ap (λ (bits : ℕ). numbers_from bits 0 64) c.group_of.ensures);
+    left = all_left c.args.table.now.shape.now.numbers c.args.ballot.group (omega arith) c.requires.group _ (c.into_iter-tid-iterator.ensures.into_iter_gives ∙ c.members-tid-items.ensures ∙ ap (λ (bits : ℕ). numbers_from bits 0 64) c.group_of.ensures);
     costs = omega arith;
     does = none_yet g.M.Media.tells _ _;
     names = λ told h t lt lt'. absurd (omega arith);
@@ -28,21 +28,21 @@ loop-tid-init g c = (
 
 pub put_rows_of-requires-clause-tid : goal.put_rows_of-requires-clause-tid
 put_rows_of-requires-clause-tid g c =
-    number_below c.args.shape.now c.args.ballot c.requires.group c.loop-tid.invariant.0 _ c.loop-tid.invariant.1.left c.in-Some.tid _ c.in-Some.ensures.steps
+    number_below c.args.table.now.shape.now c.args.ballot c.requires.group c.loop-tid.invariant.0 _ c.loop-tid.invariant.1.left c.in-Some.tid _ c.in-Some.ensures.steps
 
 pub put_rows_of-requires-clause-has : goal.put_rows_of-requires-clause-has
 put_rows_of-requires-clause-has g c =
-    number_here c.args.shape.now c.args.ballot c.requires.group c.loop-tid.invariant.0 _ c.loop-tid.invariant.1.left c.in-Some.tid _ c.in-Some.ensures.steps
+    number_here c.args.table.now.shape.now c.args.ballot c.requires.group c.loop-tid.invariant.0 _ c.loop-tid.invariant.1.left c.in-Some.tid _ c.in-Some.ensures.steps
 
 pub returns-in_err-put_rows_of-clause-does : goal.returns-in_err-put_rows_of-clause-does
 returns-in_err-put_rows_of-clause-does g c =
     let n = c.in-Some.tid in
-    let below = number_below c.args.shape.now c.args.ballot c.requires.group c.loop-tid.invariant.0 _ c.loop-tid.invariant.1.left n _ c.in-Some.ensures.steps in
-    hands_on g.M.Media.tells _ _ _ _ _ (λ told i out. outside_at (bodies_at c.args.shape.now c.args.ballot) i 0 c.args.shape.now.numbers out n (omega arith) (omega (arith, below))) c.loop-tid.invariant.1.does c.from_residual.result c.from_residual.ensures.0 c.in_err-put_rows_of.ensures.does
+    let below = number_below c.args.table.now.shape.now c.args.ballot c.requires.group c.loop-tid.invariant.0 _ c.loop-tid.invariant.1.left n _ c.in-Some.ensures.steps in
+    hands_on g.M.Media.tells _ _ _ _ _ (λ told i out. outside_at (bodies_at c.args.table.now.shape.now c.args.ballot) i 0 c.args.table.now.shape.now.numbers out n (omega arith) (omega (arith, below))) c.loop-tid.invariant.1.does c.from_residual.result c.from_residual.ensures.0 c.in_err-put_rows_of.ensures.does
 
 pub loop-tid-preserved : goal.loop-tid-preserved
 loop-tid-preserved g c =
-    let shape = c.args.shape.now in
+    let shape = c.args.table.now.shape.now in
     let ballot = c.args.ballot in
     let at = c.loop-tid.invariant.0 in
     let done = c.loop-tid.invariant.1 in
@@ -58,9 +58,9 @@ loop-tid-preserved g c =
         left = numbers_left shape ballot c.requires.group at _ done.left n _ steps;
         costs = omega (arith, one, done.costs, past, total_more (rows_at shape ballot) n);
         does = goes_on g.M.Media.tells _ _ _ _ _ (λ told i out. outside_at (bodies_at shape ballot) i 0 shape.numbers out n (omega arith) (omega (arith, below))) done.does c.in_ok-put_rows_of.ensures.does refl;
-        names = λ told. numbers_more shape (has_row ballot) (λ h t r. Says ballot c.args.cells.now h t r) n below (bodies_at shape ballot n) (bodies_in_rows shape ballot n)
+        names = λ told. numbers_more shape (has_row ballot) (λ h t r. Says ballot c.args.table.now.cells.now h t r) n below (bodies_at shape ballot n) (bodies_in_rows shape ballot n)
             _ _ (c.in_ok-put_rows_of.ensures.does.touched told).bytes
-            (λ h t lt. each_past at n reached (has_row ballot h) (λ u. Says ballot c.args.cells.now h u (bytes_of shape (g.M.Media.view c.loop-tid.media).content.bytes h u)) (λ u from under. no_row shape ballot u (between u from under) h) (λ u. done.names told h u lt) t)
+            (λ h t lt. each_past at n reached (has_row ballot h) (λ u. Says ballot c.args.table.now.cells.now h u (bytes_of shape (g.M.Media.view c.loop-tid.media).content.bytes h u)) (λ u from under. no_row shape ballot u (between u from under) h) (λ u. done.names told h u lt) t)
             (c.in_ok-put_rows_of.ensures.names told);
       },
     )
@@ -70,17 +70,17 @@ returns-clause-does g c = then_barrier g.M.Media.tells _ _ _ _ c.barrier.result 
 
 pub returns-clause-names : goal.returns-clause-names
 returns-clause-names g c told =
-    let shape = c.args.shape.now in
+    let shape = c.args.table.now.shape.now in
     let ballot = c.args.ballot in
     let at = c.loop-tid.invariant.0 in
     let done = c.loop-tid.invariant.1 in
     let behind = numbers_behind shape ballot c.requires.group at _ done.left c.in-None.ensures.steps.0 in
-    on_ok_weaker c.barrier.result (barrier_keeps (λ bytes. (h t : ℕ) → h < shape.loggers → t < shape.numbers → has_row ballot h t ≡ true → Says ballot c.args.cells.now h t (bytes_of shape bytes h t)) (g.M.Media.view c.loop-tid.media).content (g.M.Media.view c.barrier.new.self).content
-    (λ h t lt. each_past at shape.numbers done.left.most (has_row ballot h) (λ u. Says ballot c.args.cells.now h u (bytes_of shape (g.M.Media.view c.loop-tid.media).content.bytes h u)) (λ u from under. no_row shape ballot u (behind u from under) h) (λ u. done.names told h u lt) t)) (c.barrier.ensures.settled told)
+    on_ok_weaker c.barrier.result (barrier_keeps (λ bytes. (h t : ℕ) → h < shape.loggers → t < shape.numbers → has_row ballot h t ≡ true → Says ballot c.args.table.now.cells.now h t (bytes_of shape bytes h t)) (g.M.Media.view c.loop-tid.media).content (g.M.Media.view c.barrier.new.self).content
+    (λ h t lt. each_past at shape.numbers done.left.most (has_row ballot h) (λ u. Says ballot c.args.table.now.cells.now h u (bytes_of shape (g.M.Media.view c.loop-tid.media).content.bytes h u)) (λ u from under. no_row shape ballot u (behind u from under) h) (λ u. done.names told h u lt) t)) (c.barrier.ensures.settled told)
 
 pub returns-in_err-put_rows_of-clause-costs : goal.returns-in_err-put_rows_of-clause-costs
 returns-in_err-put_rows_of-clause-costs g c =
-    let shape = c.args.shape.now in
+    let shape = c.args.table.now.shape.now in
     let ballot = c.args.ballot in
     let at = c.loop-tid.invariant.0 in
     let done = c.loop-tid.invariant.1 in
@@ -95,7 +95,7 @@ returns-in_err-put_rows_of-clause-costs g c =
 
 pub returns-clause-costs : goal.returns-clause-costs
 returns-clause-costs g c =
-    let shape = c.args.shape.now in
+    let shape = c.args.table.now.shape.now in
     let ballot = c.args.ballot in
     let at = c.loop-tid.invariant.0 in
     let done = c.loop-tid.invariant.1 in

@@ -12,8 +12,8 @@ abbrev pub invariant-loop-number : goal.invariant-loop-number
 invariant-loop-number g l =
     let m = g.M.Media in
     (at : ℕ) × record {
-      left : AreLeft l.shape.loggers l.ballot.mask at l.number-iterator;
+      left : AreLeft l.table.shape.now.loggers l.ballot.mask at l.number-iterator;
       costs : (m.view l.media).moment ≡ (m.view l.fn.media).moment + total (λ h. cond (has_row l.ballot h l.tid) 1 0) at;
-      does : SoFar m.tells (bodies_at l.shape l.ballot l.tid) (m.view l.fn.media) (m.view l.media);
-      names : IsTrue m.tells → (h : ℕ) → h < at → has_row l.ballot h l.tid ≡ true → Says l.ballot l.cells h l.tid (bytes_of l.shape (m.view l.media).content.bytes h l.tid);
+      does : SoFar m.tells (bodies_at l.table.shape.now l.ballot l.tid) (m.view l.fn.media) (m.view l.media);
+      names : IsTrue m.tells → (h : ℕ) → h < at → has_row l.ballot h l.tid ≡ true → Says l.ballot l.table.cells.now h l.tid (bytes_of l.table.shape.now (m.view l.media).content.bytes h l.tid);
     }

@@ -19,7 +19,7 @@ pub loop-tid-init : goal.loop-tid-init
 loop-tid-init g c = (
   0,
   record {
-    left = all_left c.args.shape.now.numbers c.args.ballot.group (omega arith) c.requires.group _ (c.into_iter-tid-iterator.ensures.into_iter_gives ∙ c.members-tid-items.ensures ∙ ap (λ (bits : ℕ). numbers_from bits 0 64) c.group_of.ensures);
+    left = all_left c.args.table.now.shape.now.numbers c.args.ballot.group (omega arith) c.requires.group _ (c.into_iter-tid-iterator.ensures.into_iter_gives ∙ c.members-tid-items.ensures ∙ ap (λ (bits : ℕ). numbers_from bits 0 64) c.group_of.ensures);
     costs = omega arith;
     does = none_yet g.M.Media.tells _ _;
     votes = λ told h t lt lt'. absurd (omega arith);
@@ -28,21 +28,21 @@ loop-tid-init g c = (
 
 pub set_votes_of-requires-clause-tid : goal.set_votes_of-requires-clause-tid
 set_votes_of-requires-clause-tid g c =
-    number_below c.args.shape.now c.args.ballot c.requires.group c.loop-tid.invariant.0 _ c.loop-tid.invariant.1.left c.in-Some.tid _ c.in-Some.ensures.steps
+    number_below c.args.table.now.shape.now c.args.ballot c.requires.group c.loop-tid.invariant.0 _ c.loop-tid.invariant.1.left c.in-Some.tid _ c.in-Some.ensures.steps
 
 pub set_votes_of-requires-clause-has : goal.set_votes_of-requires-clause-has
 set_votes_of-requires-clause-has g c =
-    number_here c.args.shape.now c.args.ballot c.requires.group c.loop-tid.invariant.0 _ c.loop-tid.invariant.1.left c.in-Some.tid _ c.in-Some.ensures.steps
+    number_here c.args.table.now.shape.now c.args.ballot c.requires.group c.loop-tid.invariant.0 _ c.loop-tid.invariant.1.left c.in-Some.tid _ c.in-Some.ensures.steps
 
 pub returns-in_err-set_votes_of-clause-does : goal.returns-in_err-set_votes_of-clause-does
 returns-in_err-set_votes_of-clause-does g c =
     let n = c.in-Some.tid in
-    let below = number_below c.args.shape.now c.args.ballot c.requires.group c.loop-tid.invariant.0 _ c.loop-tid.invariant.1.left n _ c.in-Some.ensures.steps in
-    hands_on g.M.Media.tells _ _ _ _ _ (λ told i out. outside_at (votes_at c.args.shape.now c.args.ballot) i 0 c.args.shape.now.numbers out n (omega arith) (omega (arith, below))) c.loop-tid.invariant.1.does c.from_residual.result c.from_residual.ensures.0 c.in_err-set_votes_of.ensures.does
+    let below = number_below c.args.table.now.shape.now c.args.ballot c.requires.group c.loop-tid.invariant.0 _ c.loop-tid.invariant.1.left n _ c.in-Some.ensures.steps in
+    hands_on g.M.Media.tells _ _ _ _ _ (λ told i out. outside_at (votes_at c.args.table.now.shape.now c.args.ballot) i 0 c.args.table.now.shape.now.numbers out n (omega arith) (omega (arith, below))) c.loop-tid.invariant.1.does c.from_residual.result c.from_residual.ensures.0 c.in_err-set_votes_of.ensures.does
 
 pub loop-tid-preserved : goal.loop-tid-preserved
 loop-tid-preserved g c =
-    let shape = c.args.shape.now in
+    let shape = c.args.table.now.shape.now in
     let ballot = c.args.ballot in
     let at = c.loop-tid.invariant.0 in
     let done = c.loop-tid.invariant.1 in
@@ -70,7 +70,7 @@ returns-clause-does g c = then_barrier g.M.Media.tells _ _ _ _ c.barrier.result 
 
 pub returns-clause-votes : goal.returns-clause-votes
 returns-clause-votes g c told =
-    let shape = c.args.shape.now in
+    let shape = c.args.table.now.shape.now in
     let ballot = c.args.ballot in
     let at = c.loop-tid.invariant.0 in
     let done = c.loop-tid.invariant.1 in
@@ -80,7 +80,7 @@ returns-clause-votes g c told =
 
 pub returns-in_err-set_votes_of-clause-costs : goal.returns-in_err-set_votes_of-clause-costs
 returns-in_err-set_votes_of-clause-costs g c =
-    let shape = c.args.shape.now in
+    let shape = c.args.table.now.shape.now in
     let ballot = c.args.ballot in
     let at = c.loop-tid.invariant.0 in
     let done = c.loop-tid.invariant.1 in
@@ -95,7 +95,7 @@ returns-in_err-set_votes_of-clause-costs g c =
 
 pub returns-clause-costs : goal.returns-clause-costs
 returns-clause-costs g c =
-    let shape = c.args.shape.now in
+    let shape = c.args.table.now.shape.now in
     let ballot = c.args.ballot in
     let at = c.loop-tid.invariant.0 in
     let done = c.loop-tid.invariant.1 in

@@ -12,8 +12,8 @@ abbrev pub invariant-loop-tid : goal.invariant-loop-tid
 invariant-loop-tid g l =
     let m = g.M.Media in
     (at : ℕ) × record {
-      left : AreLeft l.shape.numbers l.ballot.group at l.tid-iterator;
-      costs : (m.view l.media).moment ≡ (m.view l.fn.media).moment + total (rows_at l.shape l.ballot) at;
-      does : SoFar m.tells (votes_of l.shape (has_row l.ballot)) (m.view l.fn.media) (m.view l.media);
-      votes : IsTrue m.tells → (h t : ℕ) → h < l.shape.loggers → t < at → has_row l.ballot h t ≡ true → HasVote l.voted (bytes_of l.shape (m.view l.media).content.bytes h t);
+      left : AreLeft l.table.shape.now.numbers l.ballot.group at l.tid-iterator;
+      costs : (m.view l.media).moment ≡ (m.view l.fn.media).moment + total (rows_at l.table.shape.now l.ballot) at;
+      does : SoFar m.tells (votes_of l.table.shape.now (has_row l.ballot)) (m.view l.fn.media) (m.view l.media);
+      votes : IsTrue m.tells → (h t : ℕ) → h < l.table.shape.now.loggers → t < at → has_row l.ballot h t ≡ true → HasVote l.voted (bytes_of l.table.shape.now (m.view l.media).content.bytes h t);
     }

@@ -12,8 +12,8 @@ abbrev pub invariant-loop-number : goal.invariant-loop-number
 invariant-loop-number g l =
     let m = g.M.Media in
     (at : ℕ) × record {
-      left : AreLeft l.shape.loggers l.fn.ballot.mask at l.number-iterator;
+      left : AreLeft l.table.shape.now.loggers l.fn.ballot.mask at l.number-iterator;
       costs : (m.view l.media).moment ≡ (m.view l.fn.media).moment + total (λ h. cond (has_row l.fn.ballot h l.tid) 1 0) at;
-      does : SoFar m.tells (votes_at l.shape l.fn.ballot l.tid) (m.view l.fn.media) (m.view l.media);
-      votes : IsTrue m.tells → (h : ℕ) → h < at → has_row l.fn.ballot h l.tid ≡ true → HasVote l.voted (bytes_of l.shape (m.view l.media).content.bytes h l.tid);
+      does : SoFar m.tells (votes_at l.table.shape.now l.fn.ballot l.tid) (m.view l.fn.media) (m.view l.media);
+      votes : IsTrue m.tells → (h : ℕ) → h < at → has_row l.fn.ballot h l.tid ≡ true → HasVote l.voted (bytes_of l.table.shape.now (m.view l.media).content.bytes h l.tid);
     }

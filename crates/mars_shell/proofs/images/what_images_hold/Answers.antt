@@ -34,7 +34,7 @@ returns g c =
       first = λ old shape form names table all new final called base law. prefix (m.view old) shape form names table all (m.view new) final called base law;
       all = λ old shape form names table all new final called base law. last (m.view old) shape form names table all (m.view new) final called base law;
       kept = λ old shape form names table all image either. kept (m.view old) shape form names table all keeps image either;
-      unchanged = λ old shape form names table all new image left. unchanged (m.view old) shape form names table all keeps (m.view new) image left;
+      unchanged = λ old shape form names table all new image left gate. unchanged (m.view old) shape form names table all keeps (m.view new) image left (g.G.Gate.told gate);
       named = λ old shape form names table all new name. named (m.view old) shape form names table all (m.view new) name;
-      some = λ old shape form names table all new image left. some (m.view old) shape form names table all keeps (m.view new) image left;
+      some = λ old shape form names table all new image left gate. some (m.view old) shape form names table all keeps (m.view new) image left (g.G.Gate.told gate);
     }

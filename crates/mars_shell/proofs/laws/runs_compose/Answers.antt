@@ -18,8 +18,8 @@ returns g c =
     let m = g.M.Media in
     record {
       premises = λ media shape form told sound. premises (m.view media) (g.met.M.Media.long media told) shape form sound;
-      run = λ old new shape form Knows asked status input text cut told of sound outcome.
-          next_sound m.tells told (m.view old) (m.view new) (g.met.M.Media.counts_now new) shape form sound (in_two c.version_two_keeps.ensures.sound c.version_two_keeps-2.ensures.sound) Knows asked status input cut text of outcome;
+      run = λ old new shape form gate asked status input text cut told of sound outcome.
+          next_sound m.tells told (m.view old) (m.view new) (g.met.M.Media.counts_now new) shape form sound (in_two c.version_two_keeps.ensures.sound c.version_two_keeps-2.ensures.sound) (g.G.Gate.told gate) asked status input cut text of outcome;
       raw = λ old new shape given status input text cut told all outcome. next_open m.tells told (m.view old) (m.view new) (g.met.M.Media.counts_now new) shape all given status input cut text outcome;
       follow = λ old new shape status input text cut told all outcome. next_followed m.tells told (m.view old) (m.view new) (g.met.M.Media.counts_now new) shape all status input cut text outcome;
       fresh = λ old new numbers status text cut made outcome. fresh_sound numbers (m.view old) (m.view new) status cut text made outcome;

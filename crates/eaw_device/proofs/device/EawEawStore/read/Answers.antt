@@ -5,7 +5,7 @@ use Rattle.eaw_face.specs.Command.{read}
 use Rattle.eaw_face.specs.declared.fault.EawFault.TheVariants.{Dead}
 use Rattle.eaw_device.specs.Opens.{Opens}
 use Rattle.eaw_device.specs.Sound.{view_of}
-use Rattle.eaw_device.proofs.Doing.{refused}
+use Rattle.eaw_face.proofs.Refusing.{refused}
 use Rattle.eaw_device.proofs.Looks.{read_sound, read_done, read_failed}
 use Rattle.eaw_device.proofs.Steady.{steady}
 use Rattle.eaw_device.proofs.device.EawEawStore.read.Goals as goal

@@ -1,4 +1,4 @@
-use Rattle.std.proofs.Common.{◌*◌, ◌<◌, ◌++◌, true, length, sym, ◌∙◌, ap, arith}
+use Rattle.std.proofs.Common.{◌*◌, ◌<◌, ◌++◌, true, length, Err, refl, sym, ◌∙◌, ap, arith}
 use Rattle.std.proofs.lemmas.List.{length-append}
 use Rattle.array_shape.specs.Parts.{parts_of_write}
 use Rattle.array_shape.specs.Logged.{ranges_of}
@@ -6,13 +6,14 @@ use Rattle.std.proofs.lemmas.Result.{err_from_is_err_and}
 use Rattle.eaw_face.specs.Command as command
 use Rattle.eaw_face.specs.State.{listed}
 use Rattle.eaw_face.specs.declared.fault.EawFault.TheVariants.{LogFull}
-use Rattle.memory_eaw.specs.Plain.{Plain}
+use Rattle.eaw_face.proofs.Refusing.{refused}
+use Rattle.memory_eaw.specs.Plain.{IsData, Plain}
 use Rattle.memory_eaw.specs.Shown.{plain_of, shown}
 use Rattle.mirror.specs.Log.{log_at}
 use Rattle.memory_eaw.specs.Steps.{relogged}
 use Rattle.mirror.proofs.Parts.{length-ranges_of}
 use Rattle.memory_eaw.proofs.Room.{fit_room}
-use Rattle.memory_eaw.proofs.Doing.{does_refused, log_len_is}
+use Rattle.memory_eaw.proofs.Doing.{log_len_is}
 use Rattle.memory_eaw.proofs.Commands.{does_written, parts-relogged}
 use Rattle.memory_eaw.proofs.eaw.MemoryEawEawStore.log_write.Goals as goal
 
@@ -34,8 +35,8 @@ returns-in_err-check_room-clause-does c =
     let self = c.args.self.now in
     let full = c.in_err-check_room.ensures.full in
     let p = err_from_is_err_and c.from_residual-in_err-check_room.result c.from_residual-in_err-check_room.ensures.1 in
-    rw (p.1, p.2, full.fault_is) (does_refused (shown self) (command.log_write c.args.tid c.args.addr c.args.bytes.now) (LogFull full.g full.h full.n)
-    (c.in_ok-check_number.ensures.known.0, c.in_ok-check_number.ensures.known.1, full.first) (λ is. cc))
+    rw (p.1, p.2, full.fault_is) (refused true IsData (command.log_write c.args.tid c.args.addr c.args.bytes.now) (shown self) (LogFull full.g full.h full.n)
+    (c.in_ok-check_number.ensures.known.0, c.in_ok-check_number.ensures.known.1, full.first) (λ is. cc) (Err (LogFull full.g full.h full.n)) refl)
 
 pub returns-clause-does : goal.returns-clause-does
 returns-clause-does c =

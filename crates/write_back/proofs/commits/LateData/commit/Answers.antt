@@ -24,6 +24,9 @@ use Rattle.write_back.proofs.commits.LateData.commit.Given.{Over}
 use Rattle.write_back.proofs.commits.LateData.commit.Goals as goal
 
 -- where none may wait
+pub commit_at_once-requires-clause-queued : goal.commit_at_once-requires-clause-queued
+commit_at_once-requires-clause-queued g c = record { fit = c.requires.ready.fit; size = c.requires.size; waiting = c.requires.waiting }
+
 pub returns-then-self-eq0-clause-stays : goal.returns-then-self-eq0-clause-stays
 returns-then-self-eq0-clause-stays g c =
     let kept = c.args.self.now in
@@ -57,6 +60,11 @@ returns-in_err-write_back_first-clause-does g c =
     let now = g.M.Media.view c.write_back_first.new.media in
     place_fault g.M.Media.tells c.args.shape.now c.args.ballot queue mid (omega arith) c.requires.there old now c.from_residual.result c.from_residual.ensures.0 refl
     (placed g.M.Media.tells c.args.shape.now c.due_for_place-due.result queue old mid now c.due_for_place-due.ensures c.in_err-write_back_first.ensures.back)
+
+pub decide_next-requires-clause-queued : goal.decide_next-requires-clause-queued
+decide_next-requires-clause-queued g c =
+    let back = c.in_ok-write_back_first.ensures.back in
+    record { fit = back.fit; size = back.does.does.size ∙ c.requires.size; waiting = back.waiting }
 
 pub decide_next-requires-clause-there : goal.decide_next-requires-clause-there
 decide_next-requires-clause-there g c = subst (λ (cells : List Cells). AreThere c.args.shape.now c.args.ballot cells) (sym c.in_ok-write_back_first.ensures.back.table) c.requires.there

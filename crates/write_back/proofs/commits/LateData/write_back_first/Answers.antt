@@ -6,6 +6,9 @@ use Rattle.write_back.proofs.Together.{still_held}
 use Rattle.write_back.proofs.commits.LateData.write_back_first.Given.{Over}
 use Rattle.write_back.proofs.commits.LateData.write_back_first.Goals as goal
 
+pub write_back_first-requires : goal.write_back_first-requires
+write_back_first-requires g c = record { fit = c.requires.ready.fit; size = c.requires.size; waiting = c.requires.waiting }
+
 module _ (g : Over) (c : goal.After-write_back_first g) where
   went : Forgets c.args.shape.now (take c.args.count c.args.self.now.queue.ballots.items) (entries_of c.args.self.now.parts) (entries_of c.forget_first.new.parts)
   went = subst (λ (l : List Ballot). Forgets c.args.shape.now (take c.args.count l) (entries_of c.args.self.now.parts) (entries_of c.forget_first.new.parts)) c.deref.ensures.value c.forget_first.ensures.forgets

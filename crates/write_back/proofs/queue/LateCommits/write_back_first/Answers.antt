@@ -7,14 +7,10 @@ use Rattle.write_back.proofs.queue.LateCommits.write_back_first.Goals as goal
 pub loop-done-init : goal.loop-done-init
 loop-done-init g c = nothing_back g.M.Media.tells c.args.shape.now 0 c.args.self.now (g.M.Media.view c.args.media.now) refl refl c.requires.fit c.requires.waiting
 
-pub write_back_oldest-requires-clause-fit : goal.write_back_oldest-requires-clause-fit
-write_back_oldest-requires-clause-fit g c = c.loop-done.invariant.fit
-
-pub write_back_oldest-requires-clause-size : goal.write_back_oldest-requires-clause-size
-write_back_oldest-requires-clause-size g c = c.loop-done.invariant.does.does.size ∙ c.requires.size
-
-pub write_back_oldest-requires-clause-waiting : goal.write_back_oldest-requires-clause-waiting
-write_back_oldest-requires-clause-waiting g c = c.loop-done.invariant.waiting
+pub write_back_oldest-requires : goal.write_back_oldest-requires
+write_back_oldest-requires g c =
+    let back = c.loop-done.invariant in
+    record { fit = back.fit; size = back.does.does.size ∙ c.requires.size; waiting = back.waiting }
 
 pub loop-done-preserved : goal.loop-done-preserved
 loop-done-preserved g c = back_more g.M.Media.tells c.args.shape.now c.loop-done._done 1 c.args.self.now c.loop-done.self c.write_back_oldest.new.self (g.M.Media.view c.args.media.now) (g.M.Media.view c.loop-done.media) (g.M.Media.view c.write_back_oldest.new.media) (Ok tt) c.loop-done.invariant c.in_ok-write_back_oldest.ensures
