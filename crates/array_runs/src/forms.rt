@@ -7,7 +7,8 @@ ghost use Rattle.array_runs.specs.Forms.{index_at, SaysForm};
 
 use eaw_face::EawStore;
 use mars_core::CoreFault;
-use record_table::{AttachRecords, Form, form_of};
+use page_store::CheckFault;
+use record_table::{Form, form_of};
 
 /// Which index the data of a store names. An error says why the records are not taken.
 pub fn find_form<S: EawStore>(store: &mut S) -> Result<Form, CoreFault>
@@ -18,9 +19,9 @@ pub fn find_form<S: EawStore>(store: &mut S) -> Result<Form, CoreFault>
 {
     match form_of(store) {
         Ok(form) => Ok(form),
-        Err(AttachRecords::Damaged { page }) => Err(CoreFault::Damaged { page }),
-        Err(AttachRecords::Media) => Err(CoreFault::Media),
-        Err(AttachRecords::Dead) => Err(CoreFault::Media),
-        Err(AttachRecords::NoMemory) => Err(CoreFault::NoMemory),
+        Err(CheckFault::Damaged { page }) => Err(CoreFault::Damaged { page }),
+        Err(CheckFault::Media) => Err(CoreFault::Media),
+        Err(CheckFault::Dead) => Err(CoreFault::Media),
+        Err(CheckFault::NoMemory) => Err(CoreFault::NoMemory),
     }
 }

@@ -12,8 +12,8 @@ use Rattle.page_store.specs.Index.{Index}
 use Rattle.page_store.specs.Looks.{Looks}
 use Rattle.page_store.specs.Shown.{PagesView}
 use Rattle.record_table.specs.Attached.{AttachCause, is_refused_by_media}
-use Rattle.record_table.specs.declared.fault.AttachRecords.{AttachRecords}
-use Rattle.record_table.specs.declared.fault.AttachRecords.TheVariants.{Damaged, Media, Dead, NoMemory}
+use Rattle.page_store.specs.declared.index_fault.CheckFault.{CheckFault}
+use Rattle.page_store.specs.declared.index_fault.CheckFault.TheVariants.{Damaged, Media, Dead, NoMemory}
 use Rattle.record_table.specs.Sought.{LooksAs}
 use Rattle.record_table.specs.Upgrading.{upgraded, OpensUpgraded, Upgrades, UpgradeCause}
 use Rattle.record_table.specs.Names.{names_of}
@@ -25,7 +25,7 @@ use Rattle.record_table.specs.declared.fault.TableFault.{TableFault}
 use Rattle.record_table.specs.declared.fault.TableFault.TheVariants as fault
 use Rattle.mars_core.specs.Attached.{is_media_fault, attach_fault, scan_fault, CoreCause, LeftAsItWas, GivesBack}
 
-pub attach_cause : (tells : Bool) (index : Index) (old : StoreView) (fault : AttachRecords) → AttachCause tells index old fault → CoreCause tells index old (attach_fault fault)
+pub attach_cause : (tells : Bool) (index : Index) (old : StoreView) (fault : CheckFault) → AttachCause tells index old fault → CoreCause tells index old (attach_fault fault)
 attach_cause tells index old (Damaged page) cause = cause.1
 attach_cause tells index old Media cause = tt
 attach_cause tells index old Dead cause = tt
@@ -46,7 +46,7 @@ look_left tells Opens old new alive looks =
     }
 
 -- and so does a test that ends with a refusal, unless the medium failed
-pub attach_left : (tells : Bool) (Opens : List ℕ → List ℕ → Type 0) (index : Index) (old new : PagesView) → IsAlive old.store → (fault : AttachRecords) → AttachCause tells index old.store fault
+pub attach_left : (tells : Bool) (Opens : List ℕ → List ℕ → Type 0) (index : Index) (old new : PagesView) → IsAlive old.store → (fault : CheckFault) → AttachCause tells index old.store fault
     → Looks tells Opens (is_refused_by_media fault) old new → LeftAsItWas tells Opens (is_media_fault (attach_fault fault)) old.store new.store
 attach_left tells Opens index old new alive (Damaged page) cause looks = look_left tells Opens old new alive looks
 attach_left tells Opens index old new alive NoMemory cause looks = look_left tells Opens old new alive looks

@@ -3,9 +3,9 @@ use Rattle.std.specs.Prelude.{ℕ, ◌≡◌, ◌⊎◌, Bool, true, false, IsTr
 use Rattle.mars_base.specs.Causes.{Rose}
 use Rattle.eaw_face.specs.StoreView.{StoreView, LeavesOnly}
 use Rattle.page_store.specs.Index.{Index}
+use Rattle.page_store.specs.declared.index_fault.CheckFault.{CheckFault}
+use Rattle.page_store.specs.declared.index_fault.CheckFault.TheVariants as check
 use Rattle.record_table.specs.Upgrading.{upgraded}
-use Rattle.record_table.specs.declared.fault.AttachRecords.{AttachRecords}
-use Rattle.record_table.specs.declared.fault.AttachRecords.TheVariants as table
 use Rattle.record_table.specs.declared.fault.TableFault.{TableFault}
 use Rattle.record_table.specs.declared.fault.TableFault.TheVariants as fault
 use Rattle.mars_core.specs.declared.fault.CoreFault.{CoreFault}
@@ -22,9 +22,9 @@ CoreCause tells index old (Damaged page) = IsTrue tells → index.fails old.stat
 CoreCause tells index old _ = Unit {0}
 
 -- why records could not be taken, or not be read
-abbrev pub attach_fault : AttachRecords → CoreFault
-attach_fault (table.Damaged page) = Damaged page
-attach_fault table.NoMemory = NoMemory
+abbrev pub attach_fault : CheckFault → CoreFault
+attach_fault (check.Damaged page) = Damaged page
+attach_fault check.NoMemory = NoMemory
 attach_fault _ = Media
 
 abbrev pub scan_fault : TableFault → CoreFault

@@ -1,4 +1,5 @@
-use record_table::{AttachRecords, TableFault};
+use page_store::CheckFault;
+use record_table::TableFault;
 use thiserror::Error;
 
 /// Why a core was not attached.
@@ -15,18 +16,18 @@ pub enum CoreFault {
 }
 
 /// Why records could not be taken.
-impl From<AttachRecords> for CoreFault {
+impl From<CheckFault> for CoreFault {
     ghost use Rattle.std.specs.Prelude.{◌≡◌};
     ghost use Rattle.mars_core.specs.Attached.{attach_fault};
 
     ghost from_gives = { λ refused fault. fault ≡ attach_fault refused };
 
-    fn from(refused: AttachRecords) -> Self {
+    fn from(refused: CheckFault) -> Self {
         match refused {
-            AttachRecords::Damaged { page } => CoreFault::Damaged { page },
-            AttachRecords::Media => CoreFault::Media,
-            AttachRecords::Dead => CoreFault::Media,
-            AttachRecords::NoMemory => CoreFault::NoMemory,
+            CheckFault::Damaged { page } => CoreFault::Damaged { page },
+            CheckFault::Media => CoreFault::Media,
+            CheckFault::Dead => CoreFault::Media,
+            CheckFault::NoMemory => CoreFault::NoMemory,
         }
     }
 }

@@ -9,6 +9,7 @@ use Rattle.index_pages.specs.Acts.{Acts}
 use Rattle.page_store.specs.Command.{PageCommand}
 use Rattle.page_store.specs.Course.{Reading}
 use Rattle.page_store.specs.Does.{Does}
+use Rattle.page_store.specs.Faults.{as_check}
 use Rattle.page_store.specs.Follows.{Walks}
 use Rattle.page_store.specs.Shown.{PagesView}
 use Rattle.page_store.specs.Works.{blamed, blamed_index}
@@ -20,10 +21,9 @@ use Rattle.page_store.specs.Index.{Index}
 use Rattle.page_store.specs.Tested.{Tests}
 use Rattle.page_store.specs.declared.index_fault.CheckFault.{CheckFault}
 use Rattle.page_store.specs.declared.index_fault.CheckFault.TheVariants as check
-use Rattle.record_table.specs.AllTables.{as_unread}
 use Rattle.record_table.specs.Attached.{BlamesTested}
 use Rattle.record_table.specs.Blames.{BlamesOne, BlamesFront, BlamesFrontHere, BlamesFrontMade}
-use Rattle.record_table.specs.Faults.{as_attach, as_table, inserted_as, told_as}
+use Rattle.record_table.specs.Faults.{as_table, inserted_as, told_as}
 use Rattle.record_table.specs.Making.{as_make}
 use Rattle.record_table.specs.declared.fault.TableFault.{TableFault}
 use Rattle.record_table.proofs.Hearing.{last_there}
@@ -93,7 +93,7 @@ front_made T (Damaged bad) blames = blames
 
 -- the test of the index at an attaching, and the read of the super page behind it
 module _ (tells : Bool) (calls calls_now : Command → ℕ) (index : Index) (old new : StoreView) where
-  pub tested_blames : (fault : CheckFault) → (let r : Result (Unit {0}) CheckFault = Err fault in Tests tells calls calls_now (index.testing old.shape) old new r) → BlamesTested tells calls index old (as_unread fault)
+  pub tested_blames : (fault : CheckFault) → (let r : Result (Unit {0}) CheckFault = Err fault in Tests tells calls calls_now (index.testing old.shape) old new r) → BlamesTested tells calls index old fault
   tested_blames (check.Damaged page) tests = inr (
     calls_now,
     new.moment,
@@ -110,7 +110,7 @@ module _ (tells : Bool) (calls calls_now : Command → ℕ) (index : Index) (old
   tested_blames check.Dead tests = tt
   tested_blames check.NoMemory tests = tt
 
-pub front_tested : (T : Type 0) (tells : Bool) (calls : Command → ℕ) (index : Index) (old : StoreView) (fault : PageFault) → (let r : Result T PageFault = Err fault in BlamesFront r) → BlamesTested tells calls index old (as_attach fault)
+pub front_tested : (T : Type 0) (tells : Bool) (calls : Command → ℕ) (index : Index) (old : StoreView) (fault : PageFault) → (let r : Result T PageFault = Err fault in BlamesFront r) → BlamesTested tells calls index old (as_check fault)
 front_tested T tells calls index old Media blames = tt
 front_tested T tells calls index old Dead blames = tt
 front_tested T tells calls index old SavesFull blames = tt

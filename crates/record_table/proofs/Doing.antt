@@ -1,12 +1,14 @@
 -- What a call on records does, given what the calls below leave.
-use Rattle.std.proofs.Common.{◌≡◌, ℕ, ◌+◌, ◌<◌, ◌≤◌, Bool, true, false, inl, IsTrue, List, length, Result, Ok, Err, refl, sym, ◌∙◌, ap, subst, arith}
+use Rattle.std.proofs.Common.{◌≡◌, ◌≢◌, ℕ, ◌+◌, ◌<◌, ◌≤◌, ◌⊎◌, Bool, true, false, inl, IsTrue, List, length, Result, Ok, Err, refl, sym, ◌∙◌, ap, subst, arith}
 use Rattle.std.specs.Prelude.{Option, Some, None, is_some, IsFalse, IsErrOf, IfOk, OnOk, OnErr}
 use Rattle.std.specs.FinMap.{get}
 use Rattle.std.proofs.lemmas.Bool.{false≢true}
-use Rattle.mars_base.proofs.Going.{then, weaker}
+use Rattle.mars_base.specs.Causes.{Rose}
+use Rattle.mars_base.proofs.Going.{stays, then, weaker}
 use Rattle.array_shape.specs.declared.shape.Shape.{Shape}
 use Rattle.eaw_face.specs.State.{State, count_on}
 use Rattle.eaw_face.specs.Causes.{IsAlive}
+use Rattle.eaw_face.specs.Mirroring.{Mirrors}
 use Rattle.eaw_face.specs.StoreView.{LeavesOnly}
 use Rattle.mars_base.specs.Room.{IsFirstFull}
 use Rattle.history.specs.Log.{Log, is_rewritten}
@@ -25,9 +27,9 @@ use Rattle.page_store.specs.Looks.{LookCause, is_failed}
 use Rattle.page_store.specs.Shown.{PagesView}
 use Rattle.page_store.specs.declared.fault.PageFault.{PageFault}
 use Rattle.page_store.specs.declared.fault.PageFault.TheVariants as page
-use Rattle.record_table.specs.Calls.{Replies, after, saves_after}
+use Rattle.record_table.specs.Calls.{Replies, table_after, after, saves_after}
 use Rattle.record_table.specs.Causes.{Cause, MaySave, Fits, HasRoom, IsFull, IsShort, IsSought}
-use Rattle.record_table.specs.Does.{Does, OpensAs, Indexed, IsQuiet, replied}
+use Rattle.record_table.specs.Does.{Does, OpensAs, OpensWith, Indexed, IsQuiet, replied}
 use Rattle.record_table.specs.Does as answers
 use Rattle.record_table.specs.Faults.{as_table}
 use Rattle.record_table.specs.Invariant.{Holds}
@@ -63,6 +65,14 @@ pub record Stays (index : Index) (t : ℕ) (c : Call) (old : PagesView) (reply :
   pub replies : Replies (state_of index old) t c reply
   pub same : state_of index old ≡ after t c reply (state_of index old)
 
+-- what is left of pages when the medium failed in a call for this number
+pub record Broken (tells : Bool) (t : ℕ) (old new : PagesView) : Type 0 where
+  pub shape : new.store.shape ≡ old.store.shape
+  pub mirrors : Mirrors tells old.store new.store
+  pub dies : (new.store.is_dead ≡ true) × Rose old.store.faults new.store.faults
+  pub counts : new.counts ≡ old.counts
+  pub others : (u : ℕ) → u ≢ t → new.store.ranges u ≡ old.store.ranges u
+
 module _ (tells : Bool) (Opens : List ℕ → List ℕ → Type 0) (index : Index) (table t : ℕ) (c : Call) (old new : PagesView) where
   -- only the index has changed
   pub does_moved : (r : Result Reply TableFault) → IsAlive old.store → IsFalse (answers.is_failed r) → Moved tells Opens index t old new → Cause tells index table t c old r
@@ -90,14 +100,16 @@ module _ (tells : Bool) (Opens : List ℕ → List ℕ → Type 0) (index : Inde
   }
 
   -- the medium failed
-  pub does_failed : IsAlive old.store → Failed tells Opens index t old new → Does tells Opens index table t c old new (Err Media)
-  does_failed alive failed = record {
-    shape = failed.shape;
-    depth = failed.depth;
-    mirrors = failed.mirrors;
+  pub does_broken : IsAlive old.store → Broken tells t old new → (IsTrue tells → LeavesOnly (λ image. OpensWith Opens index image (state_of index old).table ⊎ OpensWith Opens index image (table_after t c (state_of index old))) old.store new.store)
+      → (IsTrue tells → LeavesOnly (λ image. OpensAs Opens index image old.store.state.bytes (state_of index old).table ⊎ OpensAs Opens index image old.store.state.bytes (table_after t c (state_of index old))) old.store new.store)
+      → Does tells Opens index table t c old new (Err Media)
+  does_broken alive broken time named = record {
+    shape = broken.shape;
+    depth = broken.mirrors.depth;
+    mirrors = broken.mirrors;
     cause = alive;
     faults = λ well. absurd (false≢true (sym well));
-    dies = λ _. failed.dies;
+    dies = λ _. broken.dies;
     replies = λ told. tt;
     done = λ told. tt;
     refused = λ told well. absurd (false≢true (sym well));
@@ -106,37 +118,44 @@ module _ (tells : Bool) (Opens : List ℕ → List ℕ → Type 0) (index : Inde
     version = λ told well. absurd (false≢true (sym well));
     tables = λ told well. absurd (false≢true (sym well));
     saves = tt;
-    same_saves = failed.counts;
-    others = λ u ne. (failed.others u ne, ap (λ (f : ℕ → List ℕ). f u) failed.counts);
-    time = λ told _. weaker (λ image opens. inl (opens_with Opens index image _ _ opens)) (failed.time told);
-    named = λ told _. weaker (λ image opens. inl opens) (failed.time told);
+    same_saves = broken.counts;
+    others = λ u ne. (broken.others u ne, ap (λ (f : ℕ → List ℕ). f u) broken.counts);
+    time = λ told _. time told;
+    named = λ told _. named told;
   }
 
-  -- the store was dead
-  does_dead_same : old.store.is_dead ≡ true → Does tells Opens index table t c old old (Err Dead)
-  does_dead_same dead = record {
+  pub does_failed : IsAlive old.store → Failed tells Opens index t old new → Does tells Opens index table t c old new (Err Media)
+  does_failed alive failed =
+      does_broken alive (record { shape = failed.shape; mirrors = failed.mirrors; dies = failed.dies; counts = failed.counts; others = failed.others })
+      (λ told. weaker (λ image opens. inl (opens_with Opens index image _ _ opens)) (failed.time told)) (λ told. weaker (λ image opens. inl opens) (failed.time told))
+
+  -- it was refused, and nothing has changed
+  pub does_nothing : (f : TableFault) → (let r : Result Reply TableFault = Err f in IsFalse (answers.is_failed r) × Cause tells index table t c old r)
+      → (IsTrue tells → IsAlive old.store → (let r : Result Reply TableFault = Err f in Indexed table c (keys_of index old.store.state.bytes) (keys_of index old.store.state.bytes) r)) → Does tells Opens index table t c old old (Err f)
+  does_nothing f well indexed = record {
     shape = refl;
     depth = refl;
     mirrors = none_sent tells old.store old.store refl refl refl refl (λ fine. fine) (λ told mirrors fine. refl);
-    cause = dead;
+    cause = well.1;
     faults = λ _. (refl, refl);
-    dies = λ failed. absurd (false≢true failed);
+    dies = λ failed. absurd (false≢true (sym well.0 ∙ failed));
     replies = λ told. tt;
     done = λ told. tt;
     refused = λ told _. refl;
-    indexed = λ told alive _. absurd (false≢true (sym alive ∙ dead));
+    indexed = λ told alive _. indexed told alive;
     quiet = λ told _ _. refl;
     version = λ told _ two. two;
     tables = λ told _. refl;
     saves = tt;
     same_saves = refl;
     others = λ u ne. (refl, refl);
-    time = λ told alive. absurd (false≢true (sym alive ∙ dead));
-    named = λ told alive. absurd (false≢true (sym alive ∙ dead));
+    time = λ told _. stays old.store.moment old.store.left_since _;
+    named = λ told _. stays old.store.moment old.store.left_since _;
   }
 
+  -- the store was dead
   pub does_dead : new ≡ old → old.store.is_dead ≡ true → Does tells Opens index table t c old new (Err Dead)
-  does_dead same dead = subst (λ (v : PagesView). Does tells Opens index table t c old v (Err Dead)) (sym same) (does_dead_same dead)
+  does_dead same dead = subst (λ (v : PagesView). Does tells Opens index table t c old v (Err Dead)) (sym same) (does_nothing Dead (refl, dead) (λ told alive. absurd (false≢true (sym alive ∙ dead))))
 
   pub holds_dead : new.store.is_dead ≡ true → Holds tells index new
   holds_dead dead alive = absurd (false≢true (sym alive ∙ dead))

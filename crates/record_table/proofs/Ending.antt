@@ -3,7 +3,7 @@ use Rattle.std.proofs.Common.{◌≡◌, ◌≢◌, ℕ, ◌-◌, ◌+◌, ◌<�
 use Rattle.std.specs.Prelude.{None, map, IfOk, IfErr, OnOk, OnErr}
 use Rattle.std.proofs.lemmas.Bool.{false≢true}
 use Rattle.std.proofs.lemmas.List.{length-append, length-take-le, length-map}
-use Rattle.mars_base.proofs.Going.{stays, weaker}
+use Rattle.mars_base.proofs.Going.{weaker}
 use Rattle.array_shape.specs.Logged.{Part, applied}
 use Rattle.array_shape.specs.declared.shape.Shape.{Shape}
 use Rattle.eaw_face.specs.StoreView.{StoreView, LeavesOnly}
@@ -42,12 +42,11 @@ use Rattle.record_table.specs.State.{TableState, Keys}
 use Rattle.record_table.specs.declared.fault.TableFault.{TableFault}
 use Rattle.record_table.specs.declared.fault.TableFault.TheVariants.{SavesFull}
 use Rattle.record_table.specs.declared.fault.TableFault.TheVariants as refusal
-use Rattle.record_table.proofs.Doing.{does_dead, holds_dead, holds_same, indexed_same}
+use Rattle.record_table.proofs.Doing.{does_broken, does_dead, does_nothing, holds_dead, holds_same, indexed_same}
 use Rattle.record_table.proofs.Moving.{opens_with}
 use Rattle.record_table.proofs.Sharing.{Laws}
 use Rattle.record_table.proofs.SlotParts.{applied_parts}
 use Rattle.record_table.proofs.States.{shown_save, shown_back, shown_commit, shown_abort, parts_back, parts_abort, parts_commit}
-use Rattle.eaw_face.proofs.Mirroring.{none_sent}
 
 -- only a fault of the medium is told as one
 pub media_told : {T : Type 0} (r : Result T PageFault) (s : Result T TableFault) → s ≡ told_as r → s ≡ Err refusal.Media → r ≡ Err fault.Media
@@ -144,52 +143,17 @@ module _ (tells : Bool) (Opens : List ℕ → List ℕ → Type 0) (index : Inde
   ends (Err fault.Media) does same right =
       let alive = does.cause.0 in
       let is = call alive in (
-        record {
-          shape = does.shape;
-          depth = does.depth;
-          mirrors = does.mirrors;
-          cause = alive;
-          faults = λ well. absurd (false≢true (sym well));
-          dies = λ _. (does.dies refl, does.cause.2);
-          replies = λ told. tt;
-          done = λ told. tt;
-          refused = λ told well. absurd (false≢true (sym well));
-          indexed = λ told _ well. absurd (false≢true (sym well));
-          quiet = λ told well. absurd (false≢true (sym well));
-          version = λ told well. absurd (false≢true (sym well));
-          tables = λ told well. absurd (false≢true (sym well));
-          saves = tt;
-          same_saves = does.marks.0;
-          others = λ u ne. (does.others u (λ e. ne (is.named u e)), ap (λ (f : ℕ → List ℕ). f u) does.marks.0);
-          time = λ told _. with_of (let r : Result T PageFault = Err fault.Media in r) alive does told;
-          named = λ told _. time_of (let r : Result T PageFault = Err fault.Media in r) alive does told;
-        },
+        does_broken tells Opens index table t c old new alive
+            (record { shape = does.shape; mirrors = does.mirrors; dies = (does.dies refl, does.cause.2); counts = does.marks.0; others = λ u ne. does.others u (λ e. ne (is.named u e)) })
+            (with_of (let r : Result T PageFault = Err fault.Media in r) alive does) (time_of (let r : Result T PageFault = Err fault.Media in r) alive does),
         holds_dead tells Opens index table t c old new (does.dies refl),
       )
   ends (Err fault.Dead) does same right = let e = same fault.Dead refl (λ x. cc) in (does_dead tells Opens index table t c old new e does.cause, holds_same tells Opens index table t c old new holds e)
   ends (Err fault.SavesFull) does same right =
       let e = same fault.SavesFull refl (λ x. cc) in
       let alive = does.cause.0 in (
-        subst (λ (v : PagesView). Does tells Opens index table t c old v (Err SavesFull)) (sym e) (record {
-          shape = refl;
-          depth = refl;
-          mirrors = none_sent tells old.store old.store refl refl refl refl (λ fine. fine) (λ told mirrors fine. refl);
-          cause = (alive, (call alive).saved_out does.cause.1);
-          faults = λ _. (refl, refl);
-          dies = λ failed. absurd (false≢true failed);
-          replies = λ told. tt;
-          done = λ told. tt;
-          refused = λ told _. refl;
-          indexed = λ told _ _. indexed_same Reply table c _ _ SavesFull tt refl;
-          quiet = λ told _ _. refl;
-          version = λ told _ two. two;
-          tables = λ told _. refl;
-          saves = tt;
-          same_saves = refl;
-          others = λ u ne. (refl, refl);
-          time = λ told _. stays old.store.moment old.store.left_since _;
-          named = λ told _. stays old.store.moment old.store.left_since _;
-        }),
+        subst (λ (v : PagesView). Does tells Opens index table t c old v (Err SavesFull)) (sym e)
+            (does_nothing tells Opens index table t c old new SavesFull (refl, (alive, (call alive).saved_out does.cause.1)) (λ told _. indexed_same Reply table c _ _ SavesFull tt refl)),
         holds_same tells Opens index table t c old new holds e,
       )
   ends (Err (fault.LogFull g h n)) does same right = absurd ((call does.cause.0).no_log g h n does.cause.1)

@@ -14,9 +14,8 @@ use Rattle.page_store.specs.Looks.{Looks, is_failed, LookCause}
 use Rattle.page_store.specs.declared.fault.PageFault.{PageFault}
 use Rattle.page_store.specs.declared.fault.PageFault.TheVariants.{LogFull, SavesFull, Media, Dead, Damaged}
 use Rattle.record_table.specs.Sought.{LooksAs}
-use Rattle.record_table.specs.Attached.{is_refused_by_media}
 use Rattle.record_table.specs.Does as answers
-use Rattle.record_table.specs.Faults.{as_table, as_attach}
+use Rattle.record_table.specs.Faults.{as_table}
 use Rattle.record_table.specs.declared.fault.TableFault.{TableFault}
 use Rattle.eaw_face.proofs.Mirroring.{none_sent, sent_then}
 
@@ -116,17 +115,10 @@ pub looks_next : (tells : Bool) (Opens : Shape → List ℕ → List ℕ → Typ
 looks_next tells Opens t failed old mid new first second =
     looks_then tells (Opens old.store.shape) t failed old mid new first (subst (λ (s : Shape). LooksAs tells (Opens s) t failed mid new) first.shape second)
 
--- refusals of a look, told as those of records and of an attach
+-- refusals of a look, told as those of records
 pub failed_told : (f : PageFault) → (let r : Result (Unit {0}) TableFault = Err (as_table f) in answers.is_failed r) ≡ (let r : Result (Unit {0}) PageFault = Err f in is_failed r)
 failed_told (LogFull g h n) = refl
 failed_told SavesFull = refl
 failed_told Media = refl
 failed_told Dead = refl
 failed_told (Damaged page) = refl
-
-pub failed_attach : (f : PageFault) → is_refused_by_media (as_attach f) ≡ (let r : Result (Unit {0}) PageFault = Err f in is_failed r)
-failed_attach (LogFull g h n) = refl
-failed_attach SavesFull = refl
-failed_attach Media = refl
-failed_attach Dead = refl
-failed_attach (Damaged page) = refl

@@ -35,7 +35,7 @@ use Rattle.page_store.proofs.Numbers.{with_here, with_there}
 use Rattle.record_table.specs.Calls as calls
 use Rattle.record_table.specs.Faults.{told_as}
 use Rattle.record_table.specs.Invariant.{AreSlotParts, Holds}
-use Rattle.record_table.specs.Making.{as_make, IsFit, IsOfMake, names_said, PlaceCause, MakeCause, Makes, OnlyUpgrades, is_make_failed, with_page}
+use Rattle.record_table.specs.Making.{as_make, IsFit, names_said, PlaceCause, MakeCause, Makes, OnlyUpgrades, is_make_failed, with_page}
 use Rattle.record_table.specs.Names.{names_of, IsCalled, IsNew}
 use Rattle.record_table.specs.Does.{OpensNamed}
 use Rattle.record_table.specs.Shown.{state_of, keys_of, table_of}
@@ -148,32 +148,6 @@ module _ (tells : Bool) (Opens : List ℕ → List ℕ → Type 0) (index : Inde
     time = λ told _. time told;
   }
 
-  -- the store was dead
-  was_dead : (old : PagesView) → old.store.is_dead ≡ true → Makes tells Opens index name old old (Err unmade.Dead)
-  was_dead old dead = record {
-    shape = refl;
-    depth = refl;
-    mirrors = none_sent tells old.store old.store refl refl refl refl (λ fine. fine) (λ told mirrors fine. refl);
-    cause = dead;
-    faults = λ _. (refl, refl);
-    dies = λ failed. absurd (false≢true failed);
-    version = λ told. tt;
-    tables = λ told. tt;
-    empty = λ told. tt;
-    indexes = λ told. tt;
-    keys = λ told. tt;
-    state = λ told. tt;
-    free = tt;
-    same_tables = λ told _. refl;
-    same_keys = λ told _. refl;
-    same_state = λ told _. refl;
-    same_numbers = λ _. (refl, refl);
-    upgrades = λ told. tt;
-    quiet = λ told _ two. refl;
-    others = λ u ne. (refl, refl);
-    time = λ told alive. absurd (false≢true (sym alive ∙ dead));
-  }
-
   -- at most the version has changed
   refused_by : (old now : PagesView) (f : MakeFault) → (let r : Result ℕ MakeFault = Err f in IsFalse (is_make_failed r) × MakeCause tells name old.store r) → now.store.shape ≡ old.store.shape → Mirrors tells old.store now.store → now.store.is_dead ≡ old.store.is_dead
       → now.store.faults ≡ old.store.faults → now.counts ≡ old.counts → now.store.ranges 0 ≡ old.store.ranges 0 → ((u : ℕ) → u ≢ 0 → now.store.ranges u ≡ old.store.ranges u)
@@ -204,6 +178,12 @@ module _ (tells : Bool) (Opens : List ℕ → List ℕ → Type 0) (index : Inde
     time = λ told alive. either old now (time told alive);
   }
 
+  -- the store was dead
+  was_dead : (old : PagesView) → old.store.is_dead ≡ true → Makes tells Opens index name old old (Err unmade.Dead)
+  was_dead old dead =
+      refused_by old old unmade.Dead (refl, dead) refl (none_sent tells old.store old.store refl refl refl refl (λ fine. fine) (λ told mirrors fine. refl)) refl refl refl refl (λ u ne. refl) (λ told. refl) (λ told. refl) (λ told. refl)
+      (λ told two. refl) (λ told alive. absurd (false≢true (sym alive ∙ dead))) (λ told. tt)
+
   refused_ready : (old now : PagesView) (f : MakeFault) → Ready old now → (let r : Result ℕ MakeFault = Err f in IsFalse (is_make_failed r) × MakeCause tells name old.store r) → Makes tells Opens index name old now (Err f)
   refused_ready old now f ready well =
       refused_by old now f well ready.shape ready.mirrors ready.dead ready.faults ready.counts ready.ranges ready.others ready.tables ready.keys ready.state ready.quiet (λ told _. ready.time told) (λ told. only_upgraded old.store.state.bytes now.store.state.bytes f (ready.bytes told))
@@ -218,14 +198,6 @@ module _ (tells : Bool) (Opens : List ℕ → List ℕ → Type 0) (index : Inde
       (λ told two. up.quiet told refl two) up.named (λ told. tt)
   not_upgraded old mid fault.SavesFull up same = absurd up.cause
   not_upgraded old mid (fault.LogFull g h n) up same = absurd up.cause
-
-  -- only these can come
-  pub of_make : (old mid : PagesView) (f : PageFault) → (let r : Result (Unit {0}) PageFault = Err f in Upgrades tells Opens index old mid (told_as r)) → IsOfMake f
-  of_make old mid fault.Media up = tt
-  of_make old mid fault.Dead up = tt
-  of_make old mid (fault.Damaged bad) up = tt
-  of_make old mid fault.SavesFull up = absurd up.cause
-  of_make old mid (fault.LogFull g h n) up = absurd up.cause
 
   -- the upgrade was done, and then the super page was looked at
   module _ (old mid now : PagesView) (up : (let r : Result (Unit {0}) TableFault = Ok tt in Upgrades tells Opens index old mid r)) (holds : Holds tells index mid) where
@@ -267,15 +239,14 @@ module _ (tells : Bool) (Opens : List ℕ → List ℕ → Type 0) (index : Inde
           time = look_time false looks;
         }
 
-    pub not_read : (f : PageFault) → (let r : Result Super PageFault = Err f in LooksAs tells Opens 0 (look.is_failed r) mid now × LookCause tells mid.store r) → Makes tells Opens index name old now (Err (as_make f)) × Holds tells index now × IsOfMake f
+    pub not_read : (f : PageFault) → (let r : Result Super PageFault = Err f in LooksAs tells Opens 0 (look.is_failed r) mid now × LookCause tells mid.store r) → Makes tells Opens index name old now (Err (as_make f)) × Holds tells index now
     not_read fault.Media both = (
       failed old now up.cause (both.0.shape ∙ up.shape) (sent_then tells old.store mid.store now.store up.mirrors both.0.mirrors) ((both.0.dies refl).0, subst (λ (n : ℕ). Rose n now.store.faults) (up.faults refl).1 (both.0.dies refl).1)
           (λ u ne. (both.0.others u ne ∙ up.others u ne, ap (λ (f : ℕ → List ℕ). f u) (both.0.saves ∙ up.saves))) (λ told. either old now (look_time true both.0 told)),
       holds_dead now (both.0.dies refl).0,
-      tt,
     )
     not_read fault.Dead both = absurd (false≢true (sym mid_alive ∙ both.1))
-    not_read (fault.Damaged bad) both = let ready = ready_of both.0 in (refused_ready old now (unmade.Damaged bad) ready (refl, (up.cause, both.1.1)), ready.holds, tt)
+    not_read (fault.Damaged bad) both = let ready = ready_of both.0 in (refused_ready old now (unmade.Damaged bad) ready (refl, (up.cause, both.1.1)), ready.holds)
     not_read fault.SavesFull both = absurd both.1
     not_read (fault.LogFull g h n) both = absurd both.1
 
@@ -361,12 +332,11 @@ module _ (tells : Bool) (Opens : List ℕ → List ℕ → Type 0) (index : Inde
       ]) (acts.time told now_alive))
 
       pub not_written : 8 ≤ now.store.shape.entries → old.store.ranges 0 ≡ None → (f : PageFault) → (let r : Result (Unit {0}) PageFault = Err f in Acts tells Opens 0 (front.next_page ∷ 0 ∷ []) parts now far r)
-          → Makes tells Opens index name old far (Err (as_make f)) × Holds tells index far × IsOfMake f
+          → Makes tells Opens index name old far (Err (as_make f)) × Holds tells index far
       not_written entries free fault.Media acts = (
         failed old far ready.alive (acts.shape ∙ ready.shape) (sent_then tells old.store now.store far.store ready.mirrors acts.mirrors) ((acts.dies refl).0, subst (λ (n : ℕ). Rose n far.store.faults) ready.faults (acts.dies refl).1)
             (λ u ne. (acts.others u ne ∙ ready.others u ne, ap (λ (f : ℕ → List ℕ). f u) (acts.saves ∙ ready.counts))) (act_time (Err fault.Media) acts),
         holds_dead far (acts.dies refl).0,
-        tt,
       )
       not_written entries free fault.Dead acts = absurd (false≢true (sym now_alive ∙ acts.cause))
       not_written entries free (fault.LogFull g h n) acts =

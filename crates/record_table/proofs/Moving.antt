@@ -14,10 +14,12 @@ use Rattle.record_slots.specs.Places.{slot_of, slot_due, version_of, tables_of}
 use Rattle.record_slots.specs.declared.slot.Slot.TheVariants.{Absent}
 use Rattle.page_store.specs.Index.{Index, IsTable, Grows, Gains}
 use Rattle.page_store.specs.Index as face
-use Rattle.page_store.specs.Inserts.{Inserts, Made, is_insert_failed}
+use Rattle.page_store.specs.Inserts.{Inserts, KeepsLogs, Made, is_insert_failed}
 use Rattle.page_store.specs.Pairs.{found}
 use Rattle.page_store.specs.Records.{value_of}
 use Rattle.page_store.specs.Shown.{PagesView, saved_of}
+use Rattle.page_store.specs.Shown as pages
+use Rattle.page_store.specs.State.{log_of}
 use Rattle.page_store.specs.declared.index_fault.IndexFault.{IndexFault}
 use Rattle.page_store.specs.declared.index_fault.IndexFault.TheVariants as fault
 use Rattle.record_table.specs.Does.{OpensWith, OpensAs}
@@ -254,6 +256,32 @@ module _ (index : Index) (laws : Laws index) (table root key : ℕ) (name : List
       → (table_of index e ≡ table_of index d) × ((log : List Part) → AreSlotParts index d log → AreSlotParts index e log)
   insertion_keeps reads either = elim either [ inl r ↦ resting r | inr g ↦ gaining g reads ]
 
+-- a call that keeps what numbers have logged, and whose data has the records that there were
+module _ (tells : Bool) (Opens : List ℕ → List ℕ → Type 0) (index : Index) (t : ℕ) (old new : PagesView) where
+  pub moved_so : new.store.shape ≡ old.store.shape → Mirrors tells old.store new.store → KeepsLogs tells old new → new.counts ≡ old.counts → ((u : ℕ) → u ≢ t → new.store.ranges u ≡ old.store.ranges u)
+      → (IsTrue tells → index.sound new.store.state.bytes) → (IsTrue tells → version_of old.store.state.bytes ≡ 2 → version_of new.store.state.bytes ≡ 2) → (IsTrue tells → tables_of new.store.state.bytes ≡ tables_of old.store.state.bytes)
+      → (IsTrue tells → table_of index new.store.state.bytes ≡ table_of index old.store.state.bytes) → (IsTrue tells → (u : ℕ) → AreSlotParts index new.store.state.bytes (log_of (pages.state_of old) u))
+      → (IsTrue tells → LeavesOnly (λ image. OpensAs Opens index image old.store.state.bytes (state_of index old).table) old.store new.store) → Moved tells Opens index t old new
+  moved_so shape mirrors kept counts others sound version tables records parts time = record {
+    shape = shape;
+    depth = mirrors.depth;
+    mirrors = mirrors;
+    dead = kept.dead;
+    faults = kept.faults;
+    counts = counts;
+    tops = kept.tops;
+    ranges = kept.ranges;
+    others = others;
+    version = version;
+    tables = tables;
+    state = λ told i. record {
+      table = records told i;
+      logs = λ u. log_kept old.store.state.bytes new.store.state.bytes (tables told) _ _ (kept.logs told u) _ _ (λ j. counts j u) i;
+    };
+    tied = λ told. record { sound = sound told; parts = λ u. subst (AreSlotParts index new.store.state.bytes) (sym (kept.logs told u)) (parts told u) };
+    time = time;
+  }
+
 either_of : (index : Index) (table root key : ℕ) (d e : List ℕ) (r : Result ℕ IndexFault) → IsFalse (is_insert_failed r) → Made index root table key d e r → Grows index root d e × (face.Rests index root d e ⊎ Gains index root table key d e)
 either_of index table root key d e (Ok slot) well made = (made.1, inr made.2)
 either_of index table root key d e (Err fault.Media) well made = absurd (false≢true (sym well))
@@ -278,31 +306,10 @@ module _ (tells : Bool) (Opens : List ℕ → List ℕ → Type 0) (index : Inde
 
   pub moved_by_insert : IsFalse (is_insert_failed r) → Moved tells Opens index t old new
   moved_by_insert well =
-      let kept = does.kept well in
       let made = λ (told : IsTrue tells). either_of index table root key old.store.state.bytes new.store.state.bytes r well (does.made told alive) in
       let keeps = λ (told : IsTrue tells). insertion_keeps index laws table root key name old.store.state.bytes new.store.state.bytes (called told) (rests.tied told).sound (named told) (absent told) (made told).0 reads (made told).1 in
-      record {
-        shape = does.shape;
-        depth = does.depth;
-        mirrors = does.mirrors;
-        dead = kept.dead;
-        faults = kept.faults;
-        counts = does.saves;
-        tops = kept.tops;
-        ranges = kept.ranges;
-        others = does.others;
-        version = λ told two. (made told).0.version ∙ two;
-        tables = λ told. (made told).0.tables;
-        state = λ told i. record {
-          table = (keeps told).0 i;
-          logs = λ u. log_kept old.store.state.bytes new.store.state.bytes (made told).0.tables _ _ (kept.logs told u) _ _ (λ j. does.saves j u) i;
-        };
-        tied = λ told. record {
-          sound = (made told).0.sound;
-          parts = λ u. subst (AreSlotParts index new.store.state.bytes) (sym (kept.logs told u)) ((keeps told).1 (listed (old.store.state.logs u)) ((rests.tied told).parts u));
-        };
-        time = insert_time;
-      }
+      moved_so tells Opens index t old new does.shape does.mirrors (does.kept well) does.saves does.others (λ told. (made told).0.sound) (λ told two. (made told).0.version ∙ two) (λ told. (made told).0.tables)
+      (λ told. (keeps told).0) (λ told u. (keeps told).1 (listed (old.store.state.logs u)) ((rests.tied told).parts u)) insert_time
 
   pub failed_by_insert : IsTrue (is_insert_failed r) → Failed tells Opens index t old new
   failed_by_insert failed = record { shape = does.shape; depth = does.depth; mirrors = does.mirrors; dies = does.dies failed; counts = does.saves; others = does.others; time = insert_time }

@@ -28,9 +28,8 @@ use Rattle.record_table.specs.Removing.{IsAbsent, IsUnwritten, Takes, RemoveCaus
 use Rattle.record_table.specs.Shown.{table_of, writes_of, state_of}
 use Rattle.record_table.specs.Names.{IsCalled}
 use Rattle.record_table.specs.declared.fault.TableFault.TheVariants as refusal
-use Rattle.record_table.proofs.Moving.{Moved, Failed, opens_with, rests_moved}
+use Rattle.record_table.proofs.Moving.{Moved, Failed, moved_so, opens_with, rests_moved}
 use Rattle.record_table.proofs.Sharing.{Laws}
-use Rattle.record_table.proofs.SlotParts.{log_kept}
 use Rattle.record_table.proofs.Lost.{has_absent, records_same, parts_kept, loses}
 use Rattle.eaw_face.proofs.Mirroring.{none_sent}
 
@@ -94,31 +93,9 @@ module _ (tells : Bool) (Opens : List ℕ → List ℕ → Type 0) (index : Inde
 
       moved_by_remove : IsFalse (is_failed r) → Moved tells Opens index t old new
       moved_by_remove well =
-          let kept = does.kept well in
           let same = λ (told : IsTrue tells). alike told r well (does.made told alive) in
-          record {
-            shape = does.shape;
-            depth = does.depth;
-            mirrors = does.mirrors;
-            dead = kept.dead;
-            faults = kept.faults;
-            counts = does.saves;
-            tops = kept.tops;
-            ranges = kept.ranges;
-            others = does.others;
-            version = λ told two. (same told).version ∙ two;
-            tables = λ told. (same told).tables;
-            state = λ told i. record {
-              table = (same told).records i;
-              logs = λ u. log_kept old.store.state.bytes new.store.state.bytes (same told).tables _ _ (kept.logs told u) _ _ (λ j. does.saves j u) i;
-            };
-            tied = λ told. record {
-              sound = (same told).sound;
-              parts = λ u. subst (AreSlotParts index new.store.state.bytes) (sym (kept.logs told u))
-                  ((same told).parts (listed (old.store.state.logs u)) (((holds alive).tied told).parts u) (unwritten told alive u));
-            };
-            time = remove_time;
-          }
+          moved_so tells Opens index t old new does.shape does.mirrors (does.kept well) does.saves does.others (λ told. (same told).sound) (λ told two. (same told).version ∙ two) (λ told. (same told).tables)
+          (λ told. (same told).records) (λ told u. (same told).parts (listed (old.store.state.logs u)) (((holds alive).tied told).parts u) (unwritten told alive u)) remove_time
 
       failed_by_remove : IsTrue (is_failed r) → Failed tells Opens index t old new
       failed_by_remove failed = record { shape = does.shape; depth = does.depth; mirrors = does.mirrors; dies = does.dies failed; counts = does.saves; others = does.others; time = remove_time }

@@ -19,10 +19,11 @@ use Rattle.record_slots.specs.declared.super_page.Super.{Super}
 use Rattle.page_store.specs.Command as page
 use Rattle.page_store.specs.Does as page_does
 use Rattle.page_store.specs.Index.{Index, IsTable}
+use Rattle.page_store.specs.Inserts.{KeepsLogs}
 use Rattle.page_store.specs.Looks.{LookCause}
 use Rattle.page_store.specs.Looks as look
 use Rattle.page_store.specs.Outline.{Outline}
-use Rattle.page_store.specs.Shown.{PagesView, saved_of}
+use Rattle.page_store.specs.Shown.{PagesView}
 use Rattle.page_store.specs.Shown as pages
 use Rattle.page_store.specs.State.{PagesState, log_of}
 use Rattle.page_store.specs.declared.fault.PageFault.{PageFault}
@@ -32,12 +33,11 @@ use Rattle.record_table.specs.Faults.{as_table, told_as}
 use Rattle.record_table.specs.Invariant.{AreSlotParts, Rests, Holds}
 use Rattle.record_table.specs.Names.{names_of}
 use Rattle.record_table.specs.Shown.{table_of, state_of, shown_by, keys_of}
-use Rattle.record_table.proofs.States.{logs_same}
 use Rattle.record_table.specs.Sought.{LooksAs}
 use Rattle.record_table.specs.Upgrading.{upgraded, OpensUpgraded, Upgrades, UpgradeCause}
 use Rattle.record_table.specs.declared.fault.TableFault.{TableFault}
 use Rattle.record_table.specs.declared.fault.TableFault.TheVariants as refusal
-use Rattle.record_table.proofs.Moving.{Moved, Failed, opens_with, moved_by_look, failed_by_look, moved_then, failed_then, rests_moved}
+use Rattle.record_table.proofs.Moving.{Moved, Failed, opens_with, moved_by_look, moved_so, failed_by_look, moved_then, failed_then, rests_moved}
 use Rattle.record_table.proofs.Sharing.{Laws, called_same}
 use Rattle.record_table.proofs.SlotParts.{parts_carry}
 use Rattle.record_table.proofs.Upgraded.{Upgraded, front_of, two_upgraded, older_upgraded, is_upgraded}
@@ -272,26 +272,21 @@ module _ (tells : Bool) (Opens : List ℕ → List ℕ → Type 0) (index : Inde
     done does =
         let out = does.done.outline in
         let now = λ (told : IsTrue tells). does.done.state told in
-        record {
-          shape = does.shape;
-          depth = does.depth;
-          mirrors = does.mirrors;
+        let kept : KeepsLogs tells mid new = record {
           dead = does.done.alive ∙ sym living;
           faults = does.kept;
-          counts = ap (λ (o : Outline). o.counts) out;
           tops = ap (λ (o : Outline). o.top) out;
           ranges = λ u. ap (λ (o : Outline). listed (o.ranges u)) out;
-          others = λ u ne. ap (λ (o : Outline). o.ranges u) out;
-          version = λ told two. ap (λ (s : PagesState). version_of s.store.bytes) (now told) ∙ (facts told).version;
-          tables = λ told. ap (λ (s : PagesState). tables_of s.store.bytes) (now told) ∙ (facts told).tables;
-          state = λ told. ap (shown_by index) (now told) ∙ (λ i. record { table = (facts told).records i; logs = logs_same mid.store.state.bytes (put mid.store.state.bytes 0 bytes) (facts told).tables mid.store.state.logs (λ u. saved_of (listed (mid.store.state.logs u)) (mid.counts u)) i });
-          tied = λ told. record {
-            sound = subst (λ (s : PagesState). index.sound s.store.bytes) (sym (now told)) (facts told).sound;
-            parts = λ u. subst (λ (s : PagesState). AreSlotParts index s.store.bytes (log_of s u)) (sym (now told))
-                (parts_carry index laws mid.store.state.bytes (put mid.store.state.bytes 0 bytes) (called_same mid.store.state.bytes (put mid.store.state.bytes 0 bytes) (facts told).tables) (facts told).pairs (facts told).size (listed (mid.store.state.logs u)) ((rests.tied told).parts u));
-          };
-          time = time_of (Ok tt) does;
-        }
+          logs = λ told u. ap (λ (s : PagesState). log_of s u) (now told);
+        } in
+        moved_so tells Opens index 0 mid new does.shape does.mirrors kept (ap (λ (o : Outline). o.counts) out) (λ u ne. ap (λ (o : Outline). o.ranges u) out)
+        (λ told. subst (λ (s : PagesState). index.sound s.store.bytes) (sym (now told)) (facts told).sound)
+        (λ told two. ap (λ (s : PagesState). version_of s.store.bytes) (now told) ∙ (facts told).version)
+        (λ told. ap (λ (s : PagesState). tables_of s.store.bytes) (now told) ∙ (facts told).tables)
+        (λ told. ap (λ (s : PagesState). table_of index s.store.bytes) (now told) ∙ (facts told).records)
+        (λ told u. subst (λ (s : PagesState). AreSlotParts index s.store.bytes (listed (mid.store.state.logs u))) (sym (now told))
+        (parts_carry index laws mid.store.state.bytes (put mid.store.state.bytes 0 bytes) (called_same mid.store.state.bytes (put mid.store.state.bytes 0 bytes) (facts told).tables) (facts told).pairs (facts told).size (listed (mid.store.state.logs u)) ((rests.tied told).parts u)))
+        (time_of (Ok tt) does)
 
     broken : page_does.Does {T = Unit {0}} tells Opens (page.atomic_write 0 0 bytes) mid new (Err fault.Media) → Failed tells Opens index 0 mid new
     broken does = record {

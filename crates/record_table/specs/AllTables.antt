@@ -7,10 +7,7 @@ use Rattle.eaw_face.specs.Causes.{IsAlive}
 use Rattle.history.specs.Rows.{NamedRows}
 use Rattle.page_store.specs.Index.{Index}
 use Rattle.page_store.specs.declared.index_fault.CheckFault.{CheckFault}
-use Rattle.page_store.specs.declared.index_fault.CheckFault.TheVariants as check
-use Rattle.record_table.specs.Attached.{AttachCause, is_refused_by_media}
-use Rattle.record_table.specs.declared.fault.AttachRecords.{AttachRecords}
-use Rattle.record_table.specs.declared.fault.AttachRecords.TheVariants.{Damaged, Media, Dead, NoMemory}
+use Rattle.record_table.specs.Attached.{AttachCause}
 
 -- the place of a name among tables by rising name, and such tables with one more
 abbrev pub is_before : List ℕ → List ℕ → Bool
@@ -29,18 +26,7 @@ abbrev pub by_name : List NamedRows → List NamedRows
 by_name [] = []
 by_name (table ∷ tables) = put_in table (by_name tables)
 
--- the fault that a test of the index met
-abbrev pub as_unread : CheckFault → AttachRecords
-as_unread (check.Damaged page) = Damaged page
-as_unread check.Media = Media
-as_unread check.Dead = Dead
-as_unread check.NoMemory = NoMemory
-
-abbrev pub is_unread : {T : Type 0} → Result T AttachRecords → Bool
-is_unread (Err fault) = is_refused_by_media fault
-is_unread (Ok read) = false
-
 -- over a store that tells its data records are read exactly if the index is sound
-abbrev pub ReadCause : {T : Type 0} → Bool → Index → StoreView → Result T AttachRecords → Type 0
+abbrev pub ReadCause : {T : Type 0} → Bool → Index → StoreView → Result T CheckFault → Type 0
 ReadCause tells index old (Ok read) = IsAlive old × (IsTrue tells → index.sound old.state.bytes)
 ReadCause tells index old (Err fault) = AttachCause tells index old fault

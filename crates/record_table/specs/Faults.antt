@@ -6,8 +6,6 @@ use Rattle.page_store.specs.declared.fault.PageFault.{PageFault}
 use Rattle.page_store.specs.declared.fault.PageFault.TheVariants as page
 use Rattle.page_store.specs.declared.index_fault.IndexFault.{IndexFault}
 use Rattle.page_store.specs.declared.index_fault.IndexFault.TheVariants as insert
-use Rattle.record_table.specs.declared.fault.AttachRecords.{AttachRecords}
-use Rattle.record_table.specs.declared.fault.AttachRecords.TheVariants as attach
 use Rattle.record_table.specs.declared.fault.TableFault.{TableFault}
 use Rattle.record_table.specs.declared.fault.TableFault.TheVariants.{SlotsFull, PagesFull, SavesFull, LogFull, Media, Dead, Damaged, NoMemory}
 
@@ -41,14 +39,3 @@ reply_to Media = reply.Media
 reply_to Dead = reply.Dead
 reply_to (Damaged page) = reply.Damaged page
 reply_to NoMemory = reply.NoMemory
-
--- a refusal of a read, to which records were to be attached
-abbrev pub IsOfAttach : PageFault → Type 0
-IsOfAttach (page.LogFull g h n) = ⊥
-IsOfAttach page.SavesFull = ⊥
-IsOfAttach _ = Unit {0}
-
-abbrev pub as_attach : PageFault → AttachRecords
-as_attach page.Media = attach.Media
-as_attach (page.Damaged bad) = attach.Damaged bad
-as_attach _ = attach.Dead

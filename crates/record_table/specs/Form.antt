@@ -1,13 +1,13 @@
 -- Which index the data has, and how that is found.
-use Rattle.std.specs.Prelude.{ℕ, ◌≡◌, Bool, true, false, IsTrue, IsFalse, List, Result, Ok, Err}
+use Rattle.std.specs.Prelude.{ℕ, ◌≡◌, Bool, true, IsTrue, IsFalse, List, Result, Ok, Err}
 use Rattle.mars_base.specs.Causes.{Rose}
 use Rattle.eaw_face.specs.StoreView.{StoreView, LeavesOnly}
 use Rattle.eaw_face.specs.Causes.{IsAlive}
 use Rattle.eaw_face.specs.Mirroring.{Mirrors}
 use Rattle.page_store.specs.Looks.{IsStill}
 use Rattle.record_slots.specs.Places.{IsSuper}
-use Rattle.record_table.specs.declared.fault.AttachRecords.{AttachRecords}
-use Rattle.record_table.specs.declared.fault.AttachRecords.TheVariants.{Damaged, Media, Dead, NoMemory}
+use Rattle.page_store.specs.declared.index_fault.CheckFault.{CheckFault}
+use Rattle.page_store.specs.declared.index_fault.CheckFault.TheVariants.{Damaged, Media, Dead, NoMemory}
 use Rattle.record_table.specs.declared.form.Form.{Form}
 use Rattle.record_table.specs.declared.form.Form.TheVariants.{Chain, Tree}
 
@@ -16,13 +16,8 @@ abbrev pub form_number : Form → ℕ
 form_number Chain = 0
 form_number Tree = 1
 
--- the medium failed
-abbrev pub is_form_failed : Result Form AttachRecords → Bool
-is_form_failed (Err Media) = true
-is_form_failed _ = false
-
 -- The super page says this form and is sound for it. Page 0 is damaged exactly when it is sound for neither form.
-abbrev pub FormCause : Bool → StoreView → Result Form AttachRecords → Type 0
+abbrev pub FormCause : Bool → StoreView → Result Form CheckFault → Type 0
 FormCause tells old (Ok form) = IsAlive old × (IsTrue tells → IsSuper (form_number form) old.state.bytes)
 FormCause tells old (Err (Damaged page)) = IsAlive old × (page ≡ 0) × (IsTrue tells → ¬ IsSuper 0 old.state.bytes × ¬ IsSuper 1 old.state.bytes)
 FormCause tells old (Err Media) = IsAlive old

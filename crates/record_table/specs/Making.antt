@@ -30,11 +30,6 @@ as_make page.Media = Media
 as_make (page.Damaged bad) = Damaged bad
 as_make _ = Dead
 
-abbrev pub IsOfMake : PageFault → Type 0
-IsOfMake (page.LogFull g h n) = ⊥
-IsOfMake page.SavesFull = ⊥
-IsOfMake _ = Unit {0}
-
 -- the medium failed
 abbrev pub is_make_failed : Result ℕ MakeFault → Bool
 is_make_failed (Err Media) = true

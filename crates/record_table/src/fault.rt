@@ -1,10 +1,7 @@
 // Why calls on records are refused.
-ghost use Rattle.std.specs.Prelude.{◌≡◌};
-ghost use Rattle.record_table.specs.Faults.{IsOfAttach, as_attach};
-
 use history::Reply;
 use mars_base::NoMemory;
-use page_store::{CheckFault, IndexFault, PageFault};
+use page_store::{IndexFault, PageFault};
 use thiserror::Error;
 
 /// Why a call on records was refused. `Dead` goes first, then the kinds in their order: a later one comes only if no earlier one does.
@@ -124,63 +121,5 @@ impl From<TableFault> for Reply {
             TableFault::Damaged { page } => Reply::Damaged { page },
             TableFault::NoMemory => Reply::NoMemory,
         }
-    }
-}
-
-/// Why pages could not be taken for records.
-#[derive(Clone, Copy, Debug, PartialEq, Eq, Error)]
-pub enum AttachRecords {
-    /// The index is not sound, and this page is the first to fail.
-    #[error("page {page} is damaged")]
-    Damaged { page: u32 },
-    /// The medium failed in this call.
-    #[error("the medium failed")]
-    Media,
-    /// An earlier call has met a fault of the medium.
-    #[error("the array is dead")]
-    Dead,
-    /// There was no memory for the records.
-    #[error("no memory")]
-    NoMemory,
-}
-
-/// Why the records are not read whose index was not tested to its end.
-impl From<CheckFault> for AttachRecords {
-    ghost use Rattle.std.specs.Prelude.{◌≡◌};
-    ghost use Rattle.record_table.specs.AllTables.{as_unread};
-
-    ghost from_gives = { λ below fault. fault ≡ as_unread below };
-
-    fn from(below: CheckFault) -> Self {
-        match below {
-            CheckFault::Damaged { page } => AttachRecords::Damaged { page },
-            CheckFault::Media => AttachRecords::Media,
-            CheckFault::Dead => AttachRecords::Dead,
-            CheckFault::NoMemory => AttachRecords::NoMemory,
-        }
-    }
-}
-
-impl From<NoMemory> for AttachRecords {
-    ghost use Rattle.std.specs.Prelude.{◌≡◌};
-    ghost use Rattle.record_table.specs.declared.fault.AttachRecords.TheVariants as attach;
-
-    ghost from_gives = { λ _ fault. fault ≡ attach.NoMemory };
-
-    fn from(_none: NoMemory) -> Self {
-        AttachRecords::NoMemory
-    }
-}
-
-/// A refusal of pages, to which records were to be attached.
-pub fn unattached(fault: PageFault) -> AttachRecords
-    requires { IsOfAttach fault }
-    ensures { result ≡ as_attach fault }
-{
-    match fault {
-        PageFault::Media => AttachRecords::Media,
-        PageFault::Dead => AttachRecords::Dead,
-        PageFault::Damaged { page } => AttachRecords::Damaged { page },
-        PageFault::LogFull { .. } | PageFault::SavesFull => unreachable!(),
     }
 }

@@ -1,11 +1,12 @@
 // Which index the data of a store has.
 ghost use Rattle.std.specs.Prelude.{◌≡◌, ◌≢◌, ◌*◌, ◌≤◌, ◌↔◌, IfSome, IfNone, IsErrOf, IsTrue};
 ghost use Rattle.array_shape.specs.Places.{page_count};
-ghost use Rattle.record_table.specs.Form.{form_number, FormCause, LooksAt, is_form_failed};
+ghost use Rattle.page_store.specs.Looks.{is_check_failed};
+ghost use Rattle.record_table.specs.Form.{form_number, FormCause, LooksAt};
 
-use crate::fault::AttachRecords;
 use array_shape::Shape;
 use eaw_face::{EawFault, EawStore};
+use page_store::CheckFault;
 use record_slots::{Super, has_tables, read_super};
 
 const PAGE_LEN: usize = 512;
@@ -21,30 +22,30 @@ pub enum Form {
 
 /// Which index the data of a store has, as its super page says. Page 0 is damaged if it is sound for neither form. The pages of the index
 /// itself are not read.
-pub fn form_of<S: EawStore>(store: &mut S) -> Result<Form, AttachRecords>
-    ensures looks { LooksAt S.tells (S.opens (S.view store.old).shape) (is_form_failed result) (S.view store.old) (S.view store.new) }
+pub fn form_of<S: EawStore>(store: &mut S) -> Result<Form, CheckFault>
+    ensures looks { LooksAt S.tells (S.opens (S.view store.old).shape) (is_check_failed result) (S.view store.old) (S.view store.new) }
     ensures cause { FormCause S.tells (S.view store.old) result }
-    ensures dead { IsErrOf result AttachRecords.Dead → store.new ≡ store.old }
+    ensures dead { IsErrOf result CheckFault.Dead → store.new ≡ store.old }
 {
     let shape = store.shape();
     let mut bytes = [0; PAGE_LEN];
     match store.read(0, &mut bytes) {
         Ok(()) => {}
-        Err(EawFault::Media) => return Err(AttachRecords::Media),
-        Err(_) => return Err(AttachRecords::Dead),
+        Err(EawFault::Media) => return Err(CheckFault::Media),
+        Err(_) => return Err(CheckFault::Dead),
     }
     let Some(front) = read_super(&bytes) else {
-        return Err(AttachRecords::Damaged { page: 0 });
+        return Err(CheckFault::Damaged { page: 0 });
     };
     if !has_counts(&front, &shape) {
-        return Err(AttachRecords::Damaged { page: 0 });
+        return Err(CheckFault::Damaged { page: 0 });
     }
     if !has_tables(&front) {
-        return Err(AttachRecords::Damaged { page: 0 });
+        return Err(CheckFault::Damaged { page: 0 });
     }
     match numbered(front.form) {
         Some(form) => Ok(form),
-        None => Err(AttachRecords::Damaged { page: 0 }),
+        None => Err(CheckFault::Damaged { page: 0 }),
     }
 }
 

@@ -20,7 +20,7 @@ mod slots;
 mod told;
 mod upgrading;
 
-pub use fault::{AttachRecords, TableFault};
+pub use fault::TableFault;
 pub use form::{Form, form_of};
 pub use laws::version_two_keeps;
 pub use making::MakeFault;

@@ -10,7 +10,7 @@ ghost use Rattle.record_slots.specs.Super.{super_bytes};
 ghost use Rattle.record_slots.specs.Places.{next_page};
 ghost use Rattle.record_table.specs.Blames.{BlamesFrontMade};
 ghost use Rattle.record_table.specs.Invariant.{Holds};
-ghost use Rattle.record_table.specs.Making.{IsOfMake, Makes, PlaceCause, as_make};
+ghost use Rattle.record_table.specs.Making.{Makes, PlaceCause};
 
 use crate::upgrading::{read_front, upgrade};
 use eaw_face::EawStore;
@@ -52,16 +52,19 @@ pub enum MakeFault {
     Damaged { page: u32 },
 }
 
-// A refusal of pages.
-fn refusal(fault: PageFault) -> MakeFault
-    requires { IsOfMake fault }
-    ensures { result ≡ as_make fault }
-{
-    match fault {
-        PageFault::Media => MakeFault::Media,
-        PageFault::Dead => MakeFault::Dead,
-        PageFault::Damaged { page } => MakeFault::Damaged { page },
-        PageFault::LogFull { .. } | PageFault::SavesFull => unreachable!(),
+// A table is made by a number that is not live, which has room.
+impl From<PageFault> for MakeFault {
+    ghost use Rattle.std.specs.Prelude.{◌≡◌};
+    ghost use Rattle.record_table.specs.Making.{as_make};
+
+    ghost from_gives = { λ below fault. fault ≡ as_make below };
+
+    fn from(below: PageFault) -> Self {
+        match below {
+            PageFault::Media => MakeFault::Media,
+            PageFault::Damaged { page } => MakeFault::Damaged { page },
+            PageFault::Dead | PageFault::LogFull { .. } | PageFault::SavesFull => MakeFault::Dead,
+        }
     }
 }
 
@@ -132,24 +135,11 @@ pub fn make<S: EawStore, K: KeyIndex>(
     ensures number { IfOk result (λ number. number < 8) }
     ensures dead { IsErrOf result MakeFault.Dead → pages.new ≡ pages.old }
 {
-    match upgrade::<S, K>(pages) {
-        Ok(()) => {}
-        Err(fault) => return Err(refusal(fault)),
-    }
-    let front = match read_front::<S, K>(pages) {
-        Ok(front) => front,
-        Err(fault) => return Err(refusal(fault)),
-    };
+    upgrade::<S, K>(pages)?;
+    let front = read_front::<S, K>(pages)?;
     let number = place_for(&front, name, index_page_count(pages))?;
-    match write_table(pages, &with_table(&front, name), front.next_page) {
-        Ok(()) => {}
-        Err(fault) => return Err(refusal(fault)),
-    }
-    match pages.end(MAKER, false) {
-        Ok(()) => {
-            *root = front.next_page;
-            Ok(number)
-        }
-        Err(fault) => Err(refusal(fault)),
-    }
+    write_table(pages, &with_table(&front, name), front.next_page)?;
+    pages.end(MAKER, false)?;
+    *root = front.next_page;
+    Ok(number)
 }

@@ -3,21 +3,20 @@ ghost use Rattle.std.specs.Prelude.{◌≡◌, ◌≤◌, IfErr, IfOk, IsErrOf, 
 ghost use Rattle.std.specs.FinMap.{entries};
 ghost use Rattle.std.specs.List.{zip};
 ghost use Rattle.array_shape.specs.Places.{page_count};
-ghost use Rattle.page_store.specs.Looks.{Looks};
+ghost use Rattle.page_store.specs.Looks.{Looks, is_check_failed};
 ghost use Rattle.record_table.specs.Attached.{BlamesTested};
 ghost use Rattle.record_table.specs.Names.{names_of, AreRootsOf, ArePages, BeginsWithMain};
 ghost use Rattle.page_store.specs.Shown.{pages_of};
-ghost use Rattle.record_table.specs.AllTables.{place, by_name, ReadCause, is_unread};
+ghost use Rattle.record_table.specs.AllTables.{place, by_name, ReadCause};
 ghost use Rattle.history.specs.Rows.{records_in};
 ghost use Rattle.record_table.specs.Shown.{table_of};
 
-use crate::fault::{AttachRecords, unattached};
 use crate::names::{Roots, names_and_roots};
 use eaw_face::EawStore;
 use history::Rows;
 use mars_base::NoMemory;
 use noted::{Keeper, KeepsAll, NotedRows};
-use page_store::{KeyIndex, Pages, TableRows};
+use page_store::{CheckFault, KeyIndex, Pages, TableRows};
 use record_slots::{Name, Names};
 use std::alloc::Global;
 
@@ -34,7 +33,7 @@ pub struct Whole<H: Keeper> {
 pub fn read_whole<S: EawStore, K: KeyIndex, H: Keeper>(
     alloc: Global,
     pages: &mut Pages<S>,
-) -> Result<Whole<H>, AttachRecords>
+) -> Result<Whole<H>, CheckFault>
     ensures records { IsTrue S.tells → IfOk result (λ whole. records_in whole.tables.items ≡ entries (table_of K.index (S.view pages.old.store).state.bytes)) }
     ensures names { IsTrue S.tells → IfOk result (λ whole. whole.names ≡ names_of (S.view pages.old.store).state.bytes) }
     ensures main { IfOk result (λ whole. BeginsWithMain whole.names) }
@@ -43,20 +42,17 @@ pub fn read_whole<S: EawStore, K: KeyIndex, H: Keeper>(
     ensures inside { IfOk result (λ whole. ArePages (page_count (S.view pages.old.store).shape) whole.roots.at) }
     ensures cause { ReadCause S.tells K.index (S.view pages.old.store) result }
     ensures blames { IfErr result (BlamesTested S.tells (S.calls pages.old.store) K.index (S.view pages.old.store)) }
-    ensures looks { Looks S.tells (S.opens (S.view pages.old.store).shape) (is_unread result)
+    ensures looks { Looks S.tells (S.opens (S.view pages.old.store).shape) (is_check_failed result)
         (pages_of (S.view pages.old.store) pages.old) (pages_of (S.view pages.new.store) pages.new) }
-    ensures dead { IsErrOf result AttachRecords.Dead → pages.new ≡ pages.old }
+    ensures dead { IsErrOf result CheckFault.Dead → pages.new ≡ pages.old }
 {
     let mut tables = TableRows::new(alloc);
     K::check(alloc, pages, &mut tables)?;
-    let (names, roots) = match names_and_roots(pages) {
-        Ok(read) => read,
-        Err(fault) => return Err(unattached(fault)),
-    };
+    let (names, roots) = names_and_roots(pages)?;
     let rows = tables.into_rows();
     // The super page was read twice. A store that tells its data says the same both times.
     if usize::from(names.count()) != rows.len() {
-        return Err(AttachRecords::Damaged { page: 0 });
+        return Err(CheckFault::Damaged { page: 0 });
     }
     let tables = with_names(alloc, &names, rows)?;
     Ok(Whole {
@@ -71,13 +67,13 @@ pub fn read_whole<S: EawStore, K: KeyIndex, H: Keeper>(
 pub fn read_tables<S: EawStore, K: KeyIndex>(
     alloc: Global,
     pages: &mut Pages<S>,
-) -> Result<Vec<(Name, Rows)>, AttachRecords>
+) -> Result<Vec<(Name, Rows)>, CheckFault>
     ensures records { IsTrue S.tells → IfOk result (λ tables. records_in tables.items ≡ entries (table_of K.index (S.view pages.old.store).state.bytes)) }
     ensures cause { ReadCause S.tells K.index (S.view pages.old.store) result }
     ensures blames { IfErr result (BlamesTested S.tells (S.calls pages.old.store) K.index (S.view pages.old.store)) }
-    ensures looks { Looks S.tells (S.opens (S.view pages.old.store).shape) (is_unread result)
+    ensures looks { Looks S.tells (S.opens (S.view pages.old.store).shape) (is_check_failed result)
         (pages_of (S.view pages.old.store) pages.old) (pages_of (S.view pages.new.store) pages.new) }
-    ensures dead { IsErrOf result AttachRecords.Dead → pages.new ≡ pages.old }
+    ensures dead { IsErrOf result CheckFault.Dead → pages.new ≡ pages.old }
 {
     let whole = read_whole::<S, K, KeepsAll>(alloc, pages)?;
     Ok(kept_rows(alloc, whole.tables)?)

@@ -32,7 +32,7 @@ ghost use Rattle.record_table.specs.Names.{BeginsWithMain, IsNew, IsCalled, name
 
 mod taped;
 
-use crate::fault::{AttachRecords, TableFault};
+use crate::fault::TableFault;
 use crate::hearings::Hearings;
 use crate::making::{MakeFault, make};
 use crate::names::Roots;
@@ -47,7 +47,7 @@ use array_shape::{NumberSet, Shape};
 use eaw_face::EawStore;
 use history::Rows;
 use noted::{Keeper, NotedRows};
-use page_store::{KeyIndex, Pages};
+use page_store::{CheckFault, KeyIndex, Pages};
 use record_slots::{Name, Names, Slot, Value};
 use std::alloc::Global;
 use std::marker::{Model, PhantomData};
@@ -84,7 +84,7 @@ impl<S: EawStore, K: KeyIndex> Records<S, K> {
     pub fn attach<H: Keeper>(
         alloc: Global,
         pages: Pages<S>,
-    ) -> Result<(Records<S, K>, Vec<(Name, NotedRows<H>)>), (AttachRecords, Pages<S>)>
+    ) -> Result<(Records<S, K>, Vec<(Name, NotedRows<H>)>), (CheckFault, Pages<S>)>
         requires idle { IsAlive (S.view pages.store) → (t : ℕ) → listed ((S.view pages.store).ranges t) ≡ [] }
         requires closed { IsAlive (S.view pages.store) → (t : ℕ) → top_in pages.marks t ≡ None }
         ensures attached { IfOk result (λ attached. Attached S.tells (S.opens (S.view pages.store).shape) K.index
@@ -94,7 +94,7 @@ impl<S: EawStore, K: KeyIndex> Records<S, K> {
         ensures blames { IfErr result (λ failed. BlamesTested S.tells (S.calls pages.store) K.index (S.view pages.store) failed.0) }
         ensures looks { IfErr result (λ failed. Looks S.tells (S.opens (S.view pages.store).shape) (is_refused_by_media failed.0)
             (pages_of (S.view pages.store) pages) (pages_of (S.view failed.1.store) failed.1)) }
-        ensures dead { IfErr result (λ failed. failed.0 ≡ AttachRecords.Dead → failed.1 ≡ pages) }
+        ensures dead { IfErr result (λ failed. failed.0 ≡ CheckFault.Dead → failed.1 ≡ pages) }
     {
         let mut pages = pages;
         match read_whole::<S, K, H>(alloc, &mut pages) {

@@ -18,8 +18,8 @@ use Rattle.record_table.proofs.Blaming.{front_made, acted_front}
 use Rattle.std.proofs.lemmas.Result.{err_from_is_err_and}
 use Rattle.record_table.proofs.making.make.Goals as goal
 
-pub returns-in-Err-clause-makes : goal.returns-in-Err-clause-makes
-returns-in-Err-clause-makes g c =
+pub returns-in_err-upgrade-clause-makes : goal.returns-in_err-upgrade-clause-makes
+returns-in_err-upgrade-clause-makes g c =
     let V = g.S.EawStore.view in
     let T = g.S.EawStore.tells in
     let E = g.S.EawStore.opens in
@@ -30,10 +30,11 @@ returns-in-Err-clause-makes g c =
     let O = g.S.EawStore.opens (V c.args.pages.now.store).shape in
     let v0 = pages_of (V old.store) old in
     let v1 = pages_of (V mid.store) mid in
-    rw c.refusal.ensures (not_upgraded T O I name v0 v1 c.in-Err.fault c.in-Err.ensures.upgrades (λ e. ap (λ p. pages_of (V p.store) p) (c.in-Err.ensures.dead (ap (λ (f : PageFault). let r : Result (Unit {0}) PageFault = Err f in r) e))))
+    let exit = err_from_is_err_and c.from_residual.result c.from_residual.ensures.1 in
+    rw (exit.1, exit.2) ((not_upgraded T O I name v0 v1 c.in_err-upgrade.field-0.0 c.in_err-upgrade.ensures.upgrades (λ e. ap (λ p. pages_of (V p.store) p) (c.in_err-upgrade.ensures.dead (ap (λ (f : PageFault). let r : Result (Unit {0}) PageFault = Err f in r) e)))))
 
-pub returns-in-Err-read_front-clause-makes : goal.returns-in-Err-read_front-clause-makes
-returns-in-Err-read_front-clause-makes g c =
+pub returns-in_err-front-clause-makes : goal.returns-in_err-front-clause-makes
+returns-in_err-front-clause-makes g c =
     let V = g.S.EawStore.view in
     let T = g.S.EawStore.tells in
     let E = g.S.EawStore.opens in
@@ -46,13 +47,14 @@ returns-in-Err-read_front-clause-makes g c =
     let v1 = pages_of (V mid.store) mid in
     let now = c.read_front.new.pages in
     let v2 = pages_of (V now.store) now in
-    let up = c.in-Ok.ensures.upgrades in
-    let failed = subst (λ (s : Shape). (let r : Result Super PageFault = Err c.in-Err-read_front.fault in LooksAs T (E s) 0 (is_failed r) v1 v2)) up.shape c.in-Err-read_front.ensures.looks in
-    let both = not_read T O I name v0 v1 v2 up c.in-Ok.ensures.holds c.in-Err-read_front.fault (failed, c.in-Err-read_front.ensures.cause) in
-    rw c.refusal-in-Err-read_front.ensures both.0
+    let up = c.in_ok-upgrade.ensures.upgrades in
+    let failed = subst (λ (s : Shape). (let r : Result Super PageFault = Err c.in_err-front.field-0.0 in LooksAs T (E s) 0 (is_failed r) v1 v2)) up.shape c.in_err-front.ensures.looks in
+    let both = not_read T O I name v0 v1 v2 up c.in_ok-upgrade.ensures.holds c.in_err-front.field-0.0 (failed, c.in_err-front.ensures.cause) in
+    let exit = err_from_is_err_and c.from_residual-in_err-front.result c.from_residual-in_err-front.ensures.1 in
+    rw (exit.1, exit.2) (both.0)
 
-pub returns-in-Err-read_front-clause-holds : goal.returns-in-Err-read_front-clause-holds
-returns-in-Err-read_front-clause-holds g c =
+pub returns-in_err-front-clause-holds : goal.returns-in_err-front-clause-holds
+returns-in_err-front-clause-holds g c =
     let V = g.S.EawStore.view in
     let T = g.S.EawStore.tells in
     let E = g.S.EawStore.opens in
@@ -65,14 +67,14 @@ returns-in-Err-read_front-clause-holds g c =
     let v1 = pages_of (V mid.store) mid in
     let now = c.read_front.new.pages in
     let v2 = pages_of (V now.store) now in
-    let up = c.in-Ok.ensures.upgrades in
-    let failed = subst (λ (s : Shape). (let r : Result Super PageFault = Err c.in-Err-read_front.fault in LooksAs T (E s) 0 (is_failed r) v1 v2)) up.shape c.in-Err-read_front.ensures.looks in
-    let both = not_read T O I name v0 v1 v2 up c.in-Ok.ensures.holds c.in-Err-read_front.fault (failed, c.in-Err-read_front.ensures.cause) in
+    let up = c.in_ok-upgrade.ensures.upgrades in
+    let failed = subst (λ (s : Shape). (let r : Result Super PageFault = Err c.in_err-front.field-0.0 in LooksAs T (E s) 0 (is_failed r) v1 v2)) up.shape c.in_err-front.ensures.looks in
+    let both = not_read T O I name v0 v1 v2 up c.in_ok-upgrade.ensures.holds c.in_err-front.field-0.0 (failed, c.in_err-front.ensures.cause) in
     both.1
 
 pub returns-in_err-number-clause-makes : goal.returns-in_err-number-clause-makes
 returns-in_err-number-clause-makes g c =
-    let exit = err_from_is_err_and c.from_residual.result c.from_residual.ensures.1 in
+    let exit = err_from_is_err_and c.from_residual-in_err-number.result c.from_residual-in_err-number.ensures.1 in
     rw (exit.1, exit.2) (
     let V = g.S.EawStore.view in
     let T = g.S.EawStore.tells in
@@ -88,11 +90,11 @@ returns-in_err-number-clause-makes g c =
     let laws : Laws g.K.KeyIndex.index = record { rises = K.rises; given = K.given; counts = K.counts; rests = K.rests; extends = K.extends } in
     let now = c.read_front.new.pages in
     let v2 = pages_of (V now.store) now in
-    let up = c.in-Ok.ensures.upgrades in
-    let front = c.in-Ok-read_front.front in
-    let looks = subst (λ (s : Shape). LooksAs T (E s) 0 false v1 v2) up.shape c.in-Ok-read_front.ensures.looks in
-    let ready = ready_of T O I name v0 v1 v2 up c.in-Ok.ensures.holds looks in
-    let says = λ (told : IsTrue T). subst (λ (s : State). SaysSuper (page_bytes s.bytes 0) front) (sym ((looks.same refl).still.state told)) (c.in-Ok-read_front.ensures.says told) in
+    let up = c.in_ok-upgrade.ensures.upgrades in
+    let front = c.in_ok-front.front in
+    let looks = subst (λ (s : Shape). LooksAs T (E s) 0 false v1 v2) up.shape c.in_ok-front.ensures.looks in
+    let ready = ready_of T O I name v0 v1 v2 up c.in_ok-upgrade.ensures.holds looks in
+    let says = λ (told : IsTrue T). subst (λ (s : State). SaysSuper (page_bytes s.bytes 0) front) (sym ((looks.same refl).still.state told)) (c.in_ok-front.ensures.says told) in
     let long = λ (told : IsTrue T). g.met.S.EawStore.long now.store told in
     not_placed T O I name laws v0 v2 ready front c.index_page_count.result says c.index_page_count.ensures.count long c.in_err-number.field-0.0 c.in_err-number.ensures.cause)
 
@@ -112,11 +114,11 @@ returns-in_err-number-clause-holds g c =
     let laws : Laws g.K.KeyIndex.index = record { rises = K.rises; given = K.given; counts = K.counts; rests = K.rests; extends = K.extends } in
     let now = c.read_front.new.pages in
     let v2 = pages_of (V now.store) now in
-    let up = c.in-Ok.ensures.upgrades in
-    let front = c.in-Ok-read_front.front in
-    let looks = subst (λ (s : Shape). LooksAs T (E s) 0 false v1 v2) up.shape c.in-Ok-read_front.ensures.looks in
-    let ready = ready_of T O I name v0 v1 v2 up c.in-Ok.ensures.holds looks in
-    let says = λ (told : IsTrue T). subst (λ (s : State). SaysSuper (page_bytes s.bytes 0) front) (sym ((looks.same refl).still.state told)) (c.in-Ok-read_front.ensures.says told) in
+    let up = c.in_ok-upgrade.ensures.upgrades in
+    let front = c.in_ok-front.front in
+    let looks = subst (λ (s : Shape). LooksAs T (E s) 0 false v1 v2) up.shape c.in_ok-front.ensures.looks in
+    let ready = ready_of T O I name v0 v1 v2 up c.in_ok-upgrade.ensures.holds looks in
+    let says = λ (told : IsTrue T). subst (λ (s : State). SaysSuper (page_bytes s.bytes 0) front) (sym ((looks.same refl).still.state told)) (c.in_ok-front.ensures.says told) in
     let long = λ (told : IsTrue T). g.met.S.EawStore.long now.store told in
     ready.holds
 
@@ -136,16 +138,16 @@ write_table-requires-clause-closed g c =
     let laws : Laws g.K.KeyIndex.index = record { rises = K.rises; given = K.given; counts = K.counts; rests = K.rests; extends = K.extends } in
     let now = c.read_front.new.pages in
     let v2 = pages_of (V now.store) now in
-    let up = c.in-Ok.ensures.upgrades in
-    let front = c.in-Ok-read_front.front in
-    let looks = subst (λ (s : Shape). LooksAs T (E s) 0 false v1 v2) up.shape c.in-Ok-read_front.ensures.looks in
-    let ready = ready_of T O I name v0 v1 v2 up c.in-Ok.ensures.holds looks in
-    let says = λ (told : IsTrue T). subst (λ (s : State). SaysSuper (page_bytes s.bytes 0) front) (sym ((looks.same refl).still.state told)) (c.in-Ok-read_front.ensures.says told) in
+    let up = c.in_ok-upgrade.ensures.upgrades in
+    let front = c.in_ok-front.front in
+    let looks = subst (λ (s : Shape). LooksAs T (E s) 0 false v1 v2) up.shape c.in_ok-front.ensures.looks in
+    let ready = ready_of T O I name v0 v1 v2 up c.in_ok-upgrade.ensures.holds looks in
+    let says = λ (told : IsTrue T). subst (λ (s : State). SaysSuper (page_bytes s.bytes 0) front) (sym ((looks.same refl).still.state told)) (c.in_ok-front.ensures.says told) in
     let long = λ (told : IsTrue T). g.met.S.EawStore.long now.store told in
     λ living. (ready.holds living).closed 0
 
-pub returns-in-Err-write_table-clause-makes : goal.returns-in-Err-write_table-clause-makes
-returns-in-Err-write_table-clause-makes g c =
+pub returns-in_err-write_table-clause-makes : goal.returns-in_err-write_table-clause-makes
+returns-in_err-write_table-clause-makes g c =
     let V = g.S.EawStore.view in
     let T = g.S.EawStore.tells in
     let E = g.S.EawStore.opens in
@@ -160,11 +162,11 @@ returns-in-Err-write_table-clause-makes g c =
     let laws : Laws g.K.KeyIndex.index = record { rises = K.rises; given = K.given; counts = K.counts; rests = K.rests; extends = K.extends } in
     let now = c.read_front.new.pages in
     let v2 = pages_of (V now.store) now in
-    let up = c.in-Ok.ensures.upgrades in
-    let front = c.in-Ok-read_front.front in
-    let looks = subst (λ (s : Shape). LooksAs T (E s) 0 false v1 v2) up.shape c.in-Ok-read_front.ensures.looks in
-    let ready = ready_of T O I name v0 v1 v2 up c.in-Ok.ensures.holds looks in
-    let says = λ (told : IsTrue T). subst (λ (s : State). SaysSuper (page_bytes s.bytes 0) front) (sym ((looks.same refl).still.state told)) (c.in-Ok-read_front.ensures.says told) in
+    let up = c.in_ok-upgrade.ensures.upgrades in
+    let front = c.in_ok-front.front in
+    let looks = subst (λ (s : Shape). LooksAs T (E s) 0 false v1 v2) up.shape c.in_ok-front.ensures.looks in
+    let ready = ready_of T O I name v0 v1 v2 up c.in_ok-upgrade.ensures.holds looks in
+    let says = λ (told : IsTrue T). subst (λ (s : State). SaysSuper (page_bytes s.bytes 0) front) (sym ((looks.same refl).still.state told)) (c.in_ok-front.ensures.says told) in
     let long = λ (told : IsTrue T). g.met.S.EawStore.long now.store told in
     let far = c.write_table.new.pages in
     let v3 = pages_of (V far.store) far in
@@ -180,8 +182,9 @@ returns-in-Err-write_table-clause-makes g c =
       free_slots = omega arith;
       free_pages = omega arith;
     } in
-    let acts = subst (λ (s : Shape). (let r : Result (Unit {0}) PageFault = Err c.in-Err-write_table.fault in Acts T (E s) 0 (front.next_page ∷ 0 ∷ []) ((512 * front.next_page + 0, fresh_page 1) ∷ (512 * 0 + 0, super_bytes after) ∷ []) v2 v3 r)) ready.shape c.in-Err-write_table.ensures.acts in
-    rw c.refusal-in-Err-write_table.ensures (not_written T O I name laws v0 v2 ready front half says c.index_page_count.ensures.count long number c.in_ok-number.ensures.cause after c.with_table.ensures.said c.with_table.ensures.tables c.with_table.ensures.has whole v3 (g.met.S.EawStore.shaped now.store).some_entries c.requires.free c.in-Err-write_table.fault acts).0
+    let acts = subst (λ (s : Shape). (let r : Result (Unit {0}) PageFault = Err c.in_err-write_table.field-0.0 in Acts T (E s) 0 (front.next_page ∷ 0 ∷ []) ((512 * front.next_page + 0, fresh_page 1) ∷ (512 * 0 + 0, super_bytes after) ∷ []) v2 v3 r)) ready.shape c.in_err-write_table.ensures.acts in
+    let exit = err_from_is_err_and c.from_residual-in_err-write_table.result c.from_residual-in_err-write_table.ensures.1 in
+    rw (exit.1, exit.2) ((not_written T O I name laws v0 v2 ready front half says c.index_page_count.ensures.count long number c.in_ok-number.ensures.cause after c.with_table.ensures.said c.with_table.ensures.tables c.with_table.ensures.has whole v3 (g.met.S.EawStore.shaped now.store).some_entries c.requires.free c.in_err-write_table.field-0.0 acts).0)
 
 pub end-requires-clause-closed : goal.end-requires-clause-closed
 end-requires-clause-closed g c =
@@ -199,11 +202,11 @@ end-requires-clause-closed g c =
     let laws : Laws g.K.KeyIndex.index = record { rises = K.rises; given = K.given; counts = K.counts; rests = K.rests; extends = K.extends } in
     let now = c.read_front.new.pages in
     let v2 = pages_of (V now.store) now in
-    let up = c.in-Ok.ensures.upgrades in
-    let front = c.in-Ok-read_front.front in
-    let looks = subst (λ (s : Shape). LooksAs T (E s) 0 false v1 v2) up.shape c.in-Ok-read_front.ensures.looks in
-    let ready = ready_of T O I name v0 v1 v2 up c.in-Ok.ensures.holds looks in
-    let says = λ (told : IsTrue T). subst (λ (s : State). SaysSuper (page_bytes s.bytes 0) front) (sym ((looks.same refl).still.state told)) (c.in-Ok-read_front.ensures.says told) in
+    let up = c.in_ok-upgrade.ensures.upgrades in
+    let front = c.in_ok-front.front in
+    let looks = subst (λ (s : Shape). LooksAs T (E s) 0 false v1 v2) up.shape c.in_ok-front.ensures.looks in
+    let ready = ready_of T O I name v0 v1 v2 up c.in_ok-upgrade.ensures.holds looks in
+    let says = λ (told : IsTrue T). subst (λ (s : State). SaysSuper (page_bytes s.bytes 0) front) (sym ((looks.same refl).still.state told)) (c.in_ok-front.ensures.says told) in
     let long = λ (told : IsTrue T). g.met.S.EawStore.long now.store told in
     let far = c.write_table.new.pages in
     let v3 = pages_of (V far.store) far in
@@ -219,11 +222,11 @@ end-requires-clause-closed g c =
       free_slots = omega arith;
       free_pages = omega arith;
     } in
-    let acts = subst (λ (s : Shape). (let r : Result (Unit {0}) PageFault = Ok tt in Acts T (E s) 0 (front.next_page ∷ 0 ∷ []) ((512 * front.next_page + 0, fresh_page 1) ∷ (512 * 0 + 0, super_bytes after) ∷ []) v2 v3 r)) ready.shape c.in-Ok-write_table.ensures.acts in
+    let acts = subst (λ (s : Shape). (let r : Result (Unit {0}) PageFault = Ok tt in Acts T (E s) 0 (front.next_page ∷ 0 ∷ []) ((512 * front.next_page + 0, fresh_page 1) ∷ (512 * 0 + 0, super_bytes after) ∷ []) v2 v3 r)) ready.shape c.in_ok-write_table.ensures.acts in
     λ living. (far_holds T O I name laws v0 v2 ready front half says c.index_page_count.ensures.count long number c.in_ok-number.ensures.cause after c.with_table.ensures.said c.with_table.ensures.tables c.with_table.ensures.has whole v3 acts living).closed 0
 
-pub returns-in-Ok-end-clause-makes : goal.returns-in-Ok-end-clause-makes
-returns-in-Ok-end-clause-makes g c =
+pub returns-clause-makes : goal.returns-clause-makes
+returns-clause-makes g c =
     let V = g.S.EawStore.view in
     let T = g.S.EawStore.tells in
     let E = g.S.EawStore.opens in
@@ -238,11 +241,11 @@ returns-in-Ok-end-clause-makes g c =
     let laws : Laws g.K.KeyIndex.index = record { rises = K.rises; given = K.given; counts = K.counts; rests = K.rests; extends = K.extends } in
     let now = c.read_front.new.pages in
     let v2 = pages_of (V now.store) now in
-    let up = c.in-Ok.ensures.upgrades in
-    let front = c.in-Ok-read_front.front in
-    let looks = subst (λ (s : Shape). LooksAs T (E s) 0 false v1 v2) up.shape c.in-Ok-read_front.ensures.looks in
-    let ready = ready_of T O I name v0 v1 v2 up c.in-Ok.ensures.holds looks in
-    let says = λ (told : IsTrue T). subst (λ (s : State). SaysSuper (page_bytes s.bytes 0) front) (sym ((looks.same refl).still.state told)) (c.in-Ok-read_front.ensures.says told) in
+    let up = c.in_ok-upgrade.ensures.upgrades in
+    let front = c.in_ok-front.front in
+    let looks = subst (λ (s : Shape). LooksAs T (E s) 0 false v1 v2) up.shape c.in_ok-front.ensures.looks in
+    let ready = ready_of T O I name v0 v1 v2 up c.in_ok-upgrade.ensures.holds looks in
+    let says = λ (told : IsTrue T). subst (λ (s : State). SaysSuper (page_bytes s.bytes 0) front) (sym ((looks.same refl).still.state told)) (c.in_ok-front.ensures.says told) in
     let long = λ (told : IsTrue T). g.met.S.EawStore.long now.store told in
     let far = c.write_table.new.pages in
     let v3 = pages_of (V far.store) far in
@@ -258,14 +261,14 @@ returns-in-Ok-end-clause-makes g c =
       free_slots = omega arith;
       free_pages = omega arith;
     } in
-    let acts = subst (λ (s : Shape). (let r : Result (Unit {0}) PageFault = Ok tt in Acts T (E s) 0 (front.next_page ∷ 0 ∷ []) ((512 * front.next_page + 0, fresh_page 1) ∷ (512 * 0 + 0, super_bytes after) ∷ []) v2 v3 r)) ready.shape c.in-Ok-write_table.ensures.acts in
+    let acts = subst (λ (s : Shape). (let r : Result (Unit {0}) PageFault = Ok tt in Acts T (E s) 0 (front.next_page ∷ 0 ∷ []) ((512 * front.next_page + 0, fresh_page 1) ∷ (512 * 0 + 0, super_bytes after) ∷ []) v2 v3 r)) ready.shape c.in_ok-write_table.ensures.acts in
     let new = c.end.new.self in
     let v4 = pages_of (V new.store) new in
-    let does = subst (λ (s : Shape). (let r : Result (Unit {0}) PageFault = Ok tt in page_does.Does T (E s) (page.end 0 false) v3 v4 r)) (acts.shape ∙ ready.shape) c.in-Ok-end.ensures.does in
+    let does = subst (λ (s : Shape). (let r : Result (Unit {0}) PageFault = Ok tt in page_does.Does T (E s) (page.end 0 false) v3 v4 r)) (acts.shape ∙ ready.shape) c.in_ok-end.ensures.does in
     (written T O I name laws v0 v2 ready front half says c.index_page_count.ensures.count long number c.in_ok-number.ensures.cause after c.with_table.ensures.said c.with_table.ensures.tables c.with_table.ensures.has whole v3 acts v4 does).0
 
-pub returns-in-Ok-end-clause-holds : goal.returns-in-Ok-end-clause-holds
-returns-in-Ok-end-clause-holds g c =
+pub returns-clause-holds : goal.returns-clause-holds
+returns-clause-holds g c =
     let V = g.S.EawStore.view in
     let T = g.S.EawStore.tells in
     let E = g.S.EawStore.opens in
@@ -280,11 +283,11 @@ returns-in-Ok-end-clause-holds g c =
     let laws : Laws g.K.KeyIndex.index = record { rises = K.rises; given = K.given; counts = K.counts; rests = K.rests; extends = K.extends } in
     let now = c.read_front.new.pages in
     let v2 = pages_of (V now.store) now in
-    let up = c.in-Ok.ensures.upgrades in
-    let front = c.in-Ok-read_front.front in
-    let looks = subst (λ (s : Shape). LooksAs T (E s) 0 false v1 v2) up.shape c.in-Ok-read_front.ensures.looks in
-    let ready = ready_of T O I name v0 v1 v2 up c.in-Ok.ensures.holds looks in
-    let says = λ (told : IsTrue T). subst (λ (s : State). SaysSuper (page_bytes s.bytes 0) front) (sym ((looks.same refl).still.state told)) (c.in-Ok-read_front.ensures.says told) in
+    let up = c.in_ok-upgrade.ensures.upgrades in
+    let front = c.in_ok-front.front in
+    let looks = subst (λ (s : Shape). LooksAs T (E s) 0 false v1 v2) up.shape c.in_ok-front.ensures.looks in
+    let ready = ready_of T O I name v0 v1 v2 up c.in_ok-upgrade.ensures.holds looks in
+    let says = λ (told : IsTrue T). subst (λ (s : State). SaysSuper (page_bytes s.bytes 0) front) (sym ((looks.same refl).still.state told)) (c.in_ok-front.ensures.says told) in
     let long = λ (told : IsTrue T). g.met.S.EawStore.long now.store told in
     let far = c.write_table.new.pages in
     let v3 = pages_of (V far.store) far in
@@ -300,22 +303,28 @@ returns-in-Ok-end-clause-holds g c =
       free_slots = omega arith;
       free_pages = omega arith;
     } in
-    let acts = subst (λ (s : Shape). (let r : Result (Unit {0}) PageFault = Ok tt in Acts T (E s) 0 (front.next_page ∷ 0 ∷ []) ((512 * front.next_page + 0, fresh_page 1) ∷ (512 * 0 + 0, super_bytes after) ∷ []) v2 v3 r)) ready.shape c.in-Ok-write_table.ensures.acts in
+    let acts = subst (λ (s : Shape). (let r : Result (Unit {0}) PageFault = Ok tt in Acts T (E s) 0 (front.next_page ∷ 0 ∷ []) ((512 * front.next_page + 0, fresh_page 1) ∷ (512 * 0 + 0, super_bytes after) ∷ []) v2 v3 r)) ready.shape c.in_ok-write_table.ensures.acts in
     let new = c.end.new.self in
     let v4 = pages_of (V new.store) new in
-    let does = subst (λ (s : Shape). (let r : Result (Unit {0}) PageFault = Ok tt in page_does.Does T (E s) (page.end 0 false) v3 v4 r)) (acts.shape ∙ ready.shape) c.in-Ok-end.ensures.does in
+    let does = subst (λ (s : Shape). (let r : Result (Unit {0}) PageFault = Ok tt in page_does.Does T (E s) (page.end 0 false) v3 v4 r)) (acts.shape ∙ ready.shape) c.in_ok-end.ensures.does in
     (written T O I name laws v0 v2 ready front half says c.index_page_count.ensures.count long number c.in_ok-number.ensures.cause after c.with_table.ensures.said c.with_table.ensures.tables c.with_table.ensures.has whole v3 acts v4 does).1
 
-pub returns-in-Err-clause-blames : goal.returns-in-Err-clause-blames
-returns-in-Err-clause-blames g c = rw c.refusal.ensures (front_made (Unit {0}) c.in-Err.fault c.in-Err.ensures.blames)
+pub returns-in_err-upgrade-clause-blames : goal.returns-in_err-upgrade-clause-blames
+returns-in_err-upgrade-clause-blames g c =
+    let exit = err_from_is_err_and c.from_residual.result c.from_residual.ensures.1 in
+    rw (exit.1, exit.2) ((front_made (Unit {0}) c.in_err-upgrade.field-0.0 c.in_err-upgrade.ensures.blames))
 
-pub returns-in-Err-read_front-clause-blames : goal.returns-in-Err-read_front-clause-blames
-returns-in-Err-read_front-clause-blames g c = rw c.refusal-in-Err-read_front.ensures (front_made Super c.in-Err-read_front.fault c.in-Err-read_front.ensures.blames)
+pub returns-in_err-front-clause-blames : goal.returns-in_err-front-clause-blames
+returns-in_err-front-clause-blames g c =
+    let exit = err_from_is_err_and c.from_residual-in_err-front.result c.from_residual-in_err-front.ensures.1 in
+    rw (exit.1, exit.2) ((front_made Super c.in_err-front.field-0.0 c.in_err-front.ensures.blames))
 
 pub returns-in_err-number-clause-blames : goal.returns-in_err-number-clause-blames
 returns-in_err-number-clause-blames g c =
-    let exit = err_from_is_err_and c.from_residual.result c.from_residual.ensures.1 in
+    let exit = err_from_is_err_and c.from_residual-in_err-number.result c.from_residual-in_err-number.ensures.1 in
     rw (exit.1, exit.2) (c.in_err-number.ensures.blames)
 
-pub returns-in-Err-write_table-clause-blames : goal.returns-in-Err-write_table-clause-blames
-returns-in-Err-write_table-clause-blames g c = rw c.refusal-in-Err-write_table.ensures (front_made (Unit {0}) c.in-Err-write_table.fault (acted_front _ _ _ _ _ _ c.in-Err-write_table.fault c.in-Err-write_table.ensures.acts))
+pub returns-in_err-write_table-clause-blames : goal.returns-in_err-write_table-clause-blames
+returns-in_err-write_table-clause-blames g c =
+    let exit = err_from_is_err_and c.from_residual-in_err-write_table.result c.from_residual-in_err-write_table.ensures.1 in
+    rw (exit.1, exit.2) ((front_made (Unit {0}) c.in_err-write_table.field-0.0 (acted_front _ _ _ _ _ _ c.in_err-write_table.field-0.0 c.in_err-write_table.ensures.acts)))
