@@ -48,7 +48,7 @@ use Rattle.mars_core.specs.Over.{index_of}
 use Rattle.record_slots.specs.Names.{names_in, number_of}
 use Rattle.record_table.specs.Names.{IsCalled, names_of, key_in}
 use Rattle.index_keys.specs.Keys.{LosesKey}
-use Rattle.mars_core.specs.Purging.{Keeps, IsTouchedIn, AreFreeIn, Tried, Trail, Cleared, IsReady, ClearCause, Spares, Tries, Clears}
+use Rattle.mars_core.specs.Purging.{Keeps, IsTouchedIn, AreFreeIn, Tried, Trail, Cleared, IsReady, MayPurge, ClearCause, Spares, Tries, Clears}
 use Rattle.mars_core.specs.Seats.{Seats, calls_at, bare}
 use Rattle.mars_core.proofs.Unwritten.{unwritten}
 
@@ -368,6 +368,18 @@ going_spares tells Opens index seats t old Passed n mid going = record {
   sound = λ told _. (going.ready told).sound;
   time = going.time;
   mirrors = going.mirrors;
+}
+
+-- and its caller may go on
+pub still_may : (tells : Bool) (Opens : List ℕ → List ℕ → Type 0) (index : below.Index) (seats : Seats) (t : ℕ) (old : PagesView) (Passed : Key → Type 0) (n : ℕ) (mid : PagesView)
+    → Going tells Opens index seats t Passed n old mid → MayPurge tells index seats t old → MayPurge tells index seats t mid
+still_may tells Opens index seats t old Passed n mid going may = record {
+  inside = subst (λ (s : Shape). t < s.numbers) (sym going.shape) may.inside;
+  few = may.few;
+  alive = going.dead ∙ may.alive;
+  idle = may.idle;
+  unheld = going.ranges t ∙ may.unheld;
+  ready = going.ready;
 }
 
 -- a further refusal

@@ -91,6 +91,15 @@ pub record IsReady (index : Index) (seats : Seats) (t : ℕ) (p : PagesView) : T
   pub logs : (caller : ℕ) → (state_of index p).logs caller ≡ log_of (calls_at seats caller)
   pub slots : used_slots p.store.state.bytes ≤ slots_of p.store.shape
 
+-- a caller that may purge: it has no live transaction, nothing is logged of it, and the store is not dead
+pub record MayPurge (tells : Bool) (index : Index) (seats : Seats) (t : ℕ) (p : PagesView) : Type 0 where
+  pub inside : t < p.store.shape.numbers
+  pub few : length seats.places ≤ 64
+  pub alive : IsAlive p.store
+  pub idle : calls_at seats t ≡ []
+  pub unheld : listed (p.store.ranges t) ≡ []
+  pub ready : IsTrue tells → IsReady index seats t p
+
 -- what may stop it: a fault of the medium, or a page that breaks the layout, where the store does not tell its data
 abbrev pub ClearCause : {T : Type 0} → Bool → Result T TableFault → Type 0
 ClearCause tells (Ok n) = Unit {0}
