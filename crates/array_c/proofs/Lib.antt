@@ -1,2 +1,2 @@
-pub mod AsBox
+pub mod Parts
 pub mod Answering

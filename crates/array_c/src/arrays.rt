@@ -8,6 +8,7 @@ ghost use Rattle.taped_array.specs.Shown.{store_in};
 ghost use Rattle.array_c.specs.Opens.{Opens};
 
 use crate::kept::Kept;
+use box_parts::ask;
 use std::alloc::Global;
 use taped_array::{IS_OPEN, OK, close, format_bytes, open_bytes, text_of};
 use taped_calls::{array_size, put_out};
@@ -71,12 +72,7 @@ pub extern "C" fn mars_array_close(alloc: Global, a: &mut Kept)
 pub extern "C" fn mars_array_len(alloc: Global, a: &mut Kept) -> u64
     ensures { Looks (λ array. result ≡ data_len (store_in array).shape) (result ≡ 0) a.old.held.array a.new.held.array }
 {
-    let Some(array) = a.take(alloc) else {
-        return 0;
-    };
-    let len = array.len();
-    a.put(array);
-    len
+    ask!(a, alloc, array => array.len(), else 0)
 }
 
 /// What a status means: as much of the text as there is room for, and its length.

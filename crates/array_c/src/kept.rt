@@ -1,14 +1,49 @@
 // What C keeps of an open array, or of a closed one.
 ghost use Rattle.std.specs.Prelude.{◌≡◌, Option, Some, None, is_some, MatchOption};
-
-mod held;
+ghost use Rattle.taped_array.specs.declared.open_array.OpenArray.{OpenArray as Inside};
+ghost use Rattle.array_c.specs.Held.{held_coded, held_owns};
 
 use box_parts::Parts;
-pub use held::Held;
 use std::alloc::Global;
+use std::marker::Model;
 use std::mem::replace;
 use std::ptr::null_mut;
 use taped_array::OpenArray;
+
+/// A `Box<OpenArray>` as a pointer that C keeps, or none: a type that names no type with memory of its own.
+#[repr(C)]
+#[derive(Drop)]
+pub struct Held {
+    at: *mut u8,
+    alloc: Global,
+    pub ghost array: { Option Inside } by { held_coded },
+}
+
+impl Model for Held {
+    ghost also_owns = { λ h. held_owns h.alloc h.at h.array };
+}
+
+impl Held {
+    pub fn of_parts(parts: Parts<OpenArray, Global>) -> Held
+        ensures { result.array ≡ parts.value }
+    {
+        let Parts { ptr, alloc } = parts;
+        Held {
+            at: ptr.cast::<u8>(),
+            alloc,
+        }
+    }
+
+    pub fn into_parts(self) -> Parts<OpenArray, Global>
+        ensures { result.value ≡ self.array }
+    {
+        let Held { at, alloc } = self;
+        Parts {
+            ptr: at.cast::<OpenArray>(),
+            alloc,
+        }
+    }
+}
 
 /// An array, open or closed, as C keeps it.
 #[repr(C)]
@@ -24,9 +59,8 @@ impl Kept {
         ensures { result.held.array ≡ None }
     {
         let at: *mut u8 = null_mut();
-        let held = Held::nothing(at, alloc);
         Kept {
-            held,
+            held: Held::of_parts(Parts::none(at, alloc)),
             is_open: false,
         }
     }

@@ -2,7 +2,7 @@
 //! device. The library computes, and makes no call of the system but for memory.
 //!
 //! Read first `commands.rt`, `arrays.rt` and `tape.rt`, the functions that C calls, beside `mars_array.h`: each takes the array out of what C keeps,
-//! asks it (`taped_array`), and puts it back. `specs/Asks` says what that is to an array, open or closed. `kept/held.rt` is the one place with a raw
+//! asks it (`taped_array`), and puts it back. `specs/Asks` says what that is to an array, open or closed. `kept.rt` is the one place with a raw
 //! pointer, over `box_parts`.
 #![tactic(auto)]
 

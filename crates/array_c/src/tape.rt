@@ -8,6 +8,7 @@ ghost use Rattle.taped_array.specs.Status.{is_closed, no_piece};
 ghost use Rattle.taped_array.specs.Tells.{IsDone, IsMoment, IsDoneUpTo, GoesOn};
 
 use crate::kept::Kept;
+use box_parts::ask;
 use std::alloc::Global;
 use taped_array::{IS_CLOSED, OK};
 use taped_calls::NOTHING;
@@ -18,12 +19,7 @@ pub extern "C" fn mars_array_piece(alloc: Global, a: &mut Kept, at: &mut u64, le
     ensures { Looks (λ array. IsPiece (next_of (tape_of array)) result at.old at.new len.old len.new)
         (IsPiece None result at.old at.new len.old len.new) a.old.held.array a.new.held.array }
 {
-    let Some(array) = a.take(alloc) else {
-        return NOTHING;
-    };
-    let kind = array.piece(at, len);
-    a.put(array);
-    kind
+    ask!(a, alloc, array => array.piece(at, len), else NOTHING)
 }
 
 /// The bytes of the next write from `skip` on: as many as there is room for, and how many there are.
@@ -38,12 +34,7 @@ pub extern "C" fn mars_array_piece_bytes(
     ensures { Looks (λ array. IsWrite no_piece (next_of (tape_of array)) skip result room.old room.new len.old len.new)
         ((result ≡ is_closed) × IsPutOut None room.old room.new len.old len.new) a.old.held.array a.new.held.array }
 {
-    let Some(array) = a.take(alloc) else {
-        return IS_CLOSED;
-    };
-    let status = array.piece_bytes(skip, room, len);
-    a.put(array);
-    status
+    ask!(a, alloc, array => array.piece_bytes(skip, room, len), else IS_CLOSED)
 }
 
 /// The next piece was done on the device. It is forgotten.
@@ -51,12 +42,7 @@ pub extern "C" fn mars_array_piece_bytes(
 pub extern "C" fn mars_array_piece_done(alloc: Global, a: &mut Kept) -> i32
     ensures { Changes (λ old new. IsDone (next_of (tape_of old)) old new result) (result ≡ is_closed) a.old.held.array a.new.held.array }
 {
-    let Some(mut array) = a.take(alloc) else {
-        return IS_CLOSED;
-    };
-    let status = array.piece_done();
-    a.put(array);
-    status
+    ask!(a, alloc, array => array.piece_done(), else IS_CLOSED)
 }
 
 /// The next piece failed on the device. From now on each call that writes fails, and no piece is given out.
@@ -65,12 +51,10 @@ pub extern "C" fn mars_array_piece_failed(alloc: Global, a: &mut Kept) -> i32
     ensures { Changes (λ old new. (result ≡ pos 0) × GoesOn (record (tape_of old) { has_failed = true }) old new) (result ≡ is_closed)
         a.old.held.array a.new.held.array }
 {
-    let Some(mut array) = a.take(alloc) else {
-        return IS_CLOSED;
-    };
-    array.piece_failed();
-    a.put(array);
-    OK
+    ask!(a, alloc, array => {
+        array.piece_failed();
+        OK
+    }, else IS_CLOSED)
 }
 
 /// The moment of the last call.
@@ -78,12 +62,7 @@ pub extern "C" fn mars_array_piece_failed(alloc: Global, a: &mut Kept) -> i32
 pub extern "C" fn mars_array_moment(alloc: Global, a: &mut Kept) -> u64
     ensures { Looks (IsMoment result) (result ≡ 0) a.old.held.array a.new.held.array }
 {
-    let Some(array) = a.take(alloc) else {
-        return 0;
-    };
-    let moment = array.moment();
-    a.put(array);
-    moment
+    ask!(a, alloc, array => array.moment(), else 0)
 }
 
 /// The moment up to which the pieces of all calls were done.
@@ -91,10 +70,5 @@ pub extern "C" fn mars_array_moment(alloc: Global, a: &mut Kept) -> u64
 pub extern "C" fn mars_array_done_up_to(alloc: Global, a: &mut Kept) -> u64
     ensures { Looks (IsDoneUpTo result) (result ≡ 0) a.old.held.array a.new.held.array }
 {
-    let Some(array) = a.take(alloc) else {
-        return 0;
-    };
-    let moment = array.done_up_to();
-    a.put(array);
-    moment
+    ask!(a, alloc, array => array.done_up_to(), else 0)
 }

@@ -118,16 +118,21 @@ impl<'a> Holds<'a> {
             }
         }
     }
+
+    // Holds whoever has come to this place, where that is due.
+    fn hold(&self, place: Place) {
+        for hold in self.holds {
+            if hold.is_due(place) {
+                self.keep(hold.held);
+            }
+        }
+    }
 }
 
 impl Gate for Holds<'_> {
     ghost told = { λ holds place. Unit {0} };
 
     fn at(&self, place: Place) {
-        for hold in self.holds {
-            if hold.is_due(place) {
-                self.keep(hold.held);
-            }
-        }
+        self.hold(place);
     }
 }

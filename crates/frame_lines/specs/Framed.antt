@@ -1,5 +1,5 @@
 -- Lines that are answered, with a line for each frame that was sent before the answer.
-use Rattle.std.specs.Prelude.{ℕ, ◌≡◌, ◌⊎◌, Bool, true, false, IsTrue, List, [], ◌∷◌, ◌++◌, length, flat_map, All}
+use Rattle.std.specs.Prelude.{ℕ, ◌≡◌, ◌<◌, ◌⊎◌, Bool, true, false, IsTrue, List, [], ◌∷◌, ◌++◌, length, flat_map, All}
 use Rattle.array_shape.specs.declared.shape.Shape.{Shape}
 use Rattle.hex.specs.Hex.{encode_lower as hex_of}
 use Rattle.eaw_face.specs.Frame.{Frame, frame_bytes, IsFrameIn}
@@ -53,6 +53,11 @@ pub record IsSending (store : StoreView) : Type 0 where
   pub told : IsTrue store.sending.told
   pub up : store.sending.is_down ≡ false
   pub none : store.sending.frames ≡ []
+
+-- the store tells what it sends, and each frame that it keeps has bytes
+pub record KeepsFrames (store : StoreView) : Type 0 where
+  pub told : IsTrue store.sending.told
+  pub some : All (λ (frame : List ℕ). 0 < length frame) store.sending.frames
 
 -- the store has sent the frames that were written, and its data is that which was opened with them applied
 pub record HasSent {State : Type 0} (store : StoreView) (state : Framed State) : Type 0 where

@@ -4,7 +4,7 @@ ghost use Rattle.texts.specs.Written.{Wrote};
 ghost use Rattle.script_run.specs.Lines.{lines_of};
 ghost use Rattle.script_run.specs.Answers.{ending};
 ghost use Rattle.script_run.specs.Counts.{Counts};
-ghost use Rattle.frame_lines.specs.Framed.{Framed as FramedState, HasSent, IsBut, StandsOn};
+ghost use Rattle.frame_lines.specs.Framed.{Framed as FramedState, HasSent, IsBut, KeepsFrames, StandsOn};
 ghost use Rattle.frame_lines.specs.Begun.{HasBegun, FrontWritten, RanFramed};
 
 use crate::framed::{Framed, write_frames};
@@ -54,8 +54,7 @@ fn write_begun<K: Sink, R: Mirrored>(
     responder: &mut R,
 ) -> Result<(), Ended>
     requires ready { R.is_ready responder.old }
-    requires told { IsTrue (R.view responder.old).sending.told }
-    requires some { All (λ frame. 0 < length frame) (R.view responder.old).sending.frames }
+    requires frames { KeepsFrames (R.view responder.old) }
     ensures stands { StandsOn R.tells R.is_ready R.stands R.comes R.faults responder.old responder.new }
     ensures is_but { IsBut (R.view responder.old) (R.view responder.new) }
     ensures none { OnOk result ((R.view responder.new).sending.frames ≡ []) }

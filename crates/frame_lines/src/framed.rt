@@ -1,6 +1,6 @@
 // Answers with the lines of frames before them.
-ghost use Rattle.std.specs.Prelude.{◌≡◌, ◌<◌, ◌++◌, [], All, IsTrue, OnOk, length, flat_map};
-ghost use Rattle.frame_lines.specs.Framed.{bytes_line, StandsOn, IsBut};
+ghost use Rattle.std.specs.Prelude.{◌≡◌, ◌++◌, [], OnOk, flat_map};
+ghost use Rattle.frame_lines.specs.Framed.{bytes_line, KeepsFrames, StandsOn, IsBut};
 
 use crate::mirrored::Mirrored;
 use mars_base::NoMemory;
@@ -73,8 +73,7 @@ fn write_answer<R: Mirrored>(
     reply: &[u8],
     out: &mut Vec<u8>,
 ) -> Result<(), NoMemory>
-    requires told { IsTrue (R.view responder.old).sending.told }
-    requires some { All (λ frame. 0 < length frame) (R.view responder.old).sending.frames }
+    requires frames { KeepsFrames (R.view responder.old) }
     requires ready { R.is_ready responder.old }
     ensures stands { StandsOn R.tells R.is_ready R.stands R.comes R.faults responder.old responder.new }
     ensures is_but { IsBut (R.view responder.old) (R.view responder.new) }
@@ -91,8 +90,7 @@ pub(crate) fn write_frames<R: Mirrored>(
     responder: &mut R,
     out: &mut Vec<u8>,
 ) -> Result<(), NoMemory>
-    requires told { IsTrue (R.view responder.old).sending.told }
-    requires some { All (λ frame. 0 < length frame) (R.view responder.old).sending.frames }
+    requires frames { KeepsFrames (R.view responder.old) }
     requires ready { R.is_ready responder.old }
     ensures stands { StandsOn R.tells R.is_ready R.stands R.comes R.faults responder.old responder.new }
     ensures is_but { IsBut (R.view responder.old) (R.view responder.new) }

@@ -9,7 +9,8 @@ module _ (at n : ℕ) (out piece : List ℕ) (inside : at + 512 ≤ length out) 
   pub piece_long : length (take at out ++ (piece ++ drop n (drop at out))) ≡ length out
   piece_long =
       let end : at + n ≡ at + length piece = omega (arith, long, size) in
-      ap (λ (l : List ℕ). length (take at out ++ (piece ++ l))) (drop-drop n at out ∙ ap (λ (m : ℕ). drop m out) end) ∙ length-put out at piece (omega (arith, inside, long))
+      ap length (sym (append_assoc (take at out) piece (drop n (drop at out))))
+      ∙ ap (λ (l : List ℕ). length ((take at out ++ piece) ++ l)) (drop-drop n at out ∙ ap (λ (m : ℕ). drop m out) end) ∙ length-put out at piece (omega (arith, inside, long))
 
   pub piece_in : take (at + 512) (take at out ++ (piece ++ drop n (drop at out))) ≡ take at out ++ piece
   piece_in =

@@ -132,6 +132,23 @@ module _ (tells : Bool) (Opens : List ℕ → List ℕ → Type 0) (t : ℕ) whe
   acting_data old now parts left acting told =
       ap (λ (s : PagesState). s.store.bytes) (acting.state told) ∙ played_data t parts (after (top_begin t) (state_of old))
 
+  -- the medium failed in a call of an action
+  acting_broken : (old now new : PagesView) (parts : List Part) (left : List ℕ) → Acting old now parts left → IsAlive old.store → (pages : List ℕ) (all : List Part) (call : PageCommand) → (let r : Result (Unit {0}) PageFault = Err Media in Does tells Opens call now new r)
+      → ((u : ℕ) → u ≢ t → new.store.ranges u ≡ now.store.ranges u) → (IsTrue tells → LeavesOnly (λ image. Opens image old.store.state.bytes ⊎ Opens image (applied all old.store.state.bytes)) old.store new.store)
+      → (let r : Result (Unit {0}) PageFault = Err Media in Acts tells Opens t pages all old new r)
+  acting_broken old now new parts left acting alive pages all call does others time = record {
+    shape = does.shape ∙ acting.shape;
+    depth = does.depth ∙ acting.depth;
+    mirrors = sent_then tells old.store now.store new.store acting.mirrors does.mirrors;
+    cause = alive;
+    saves = does.marks.0 ∙ acting.saves;
+    others = λ u ne. others u ne ∙ acting.others u ne;
+    kept = λ well. absurd (false≢true (sym well));
+    made = λ told living. tt;
+    dies = λ failed. (does.dies refl, subst (λ (n : ℕ). Rose n new.store.faults) acting.faults does.cause.2);
+    time = λ told living. time told;
+  }
+
   module _ (old now new : PagesView) (parts : List Part) (page : ℕ) (left : List ℕ) (at : ℕ) (bytes : List ℕ) (within : at < 512) (acting : Acting old now parts (page ∷ left)) where
     part : Part
     part = (address page at, bytes)
@@ -184,19 +201,10 @@ module _ (tells : Bool) (Opens : List ℕ → List ℕ → Type 0) (t : ℕ) whe
     -- a part was not written: the medium failed
     pub acting_fail : (fault : PageFault) → IsAlive old.store → (pages : List ℕ) (all : List Part)
         → (let r : Result (Unit {0}) PageFault = Err fault in Does tells Opens (write_as t (address page at) bytes) now new r) → (let r : Result (Unit {0}) PageFault = Err fault in Acts tells Opens t pages all old new r)
-    acting_fail Media alive pages all does = record {
-      shape = does.shape ∙ acting.shape;
-      depth = does.depth ∙ acting.depth;
-      mirrors = sent_then tells old.store now.store new.store acting.mirrors does.mirrors;
-      cause = alive;
-      saves = does.marks.0 ∙ acting.saves;
-      others = λ u ne. does.others u ne ∙ acting.others u ne;
-      kept = λ well. absurd (false≢true (sym well));
-      made = λ told living. tt;
-      dies = λ failed. (does.dies refl, subst (λ (n : ℕ). Rose n new.store.faults) acting.faults does.cause.2);
-      time = λ told living. (then) (weaker (λ image opens. inl opens) (acting.time told))
-          (weaker (λ image either. elim either [ inl before ↦ inl (subst (λ (b : List ℕ). Opens image b) (acting_data old now parts (page ∷ left) acting told) before) | inr behind ↦ inl (subst (λ (b : List ℕ). Opens image b) (acting_data old now parts (page ∷ left) acting told) behind) ]) (does.time told acting.alive));
-    }
+    acting_fail Media alive pages all does =
+        acting_broken old now new parts (page ∷ left) acting alive pages all (write_as t (address page at) bytes) does (λ u ne. does.others u ne)
+        (λ told. (then) (weaker (λ image opens. inl opens) (acting.time told))
+        (weaker (λ image either. elim either [ inl before ↦ inl (subst (λ (b : List ℕ). Opens image b) (acting_data old now parts (page ∷ left) acting told) before) | inr behind ↦ inl (subst (λ (b : List ℕ). Opens image b) (acting_data old now parts (page ∷ left) acting told) behind) ]) (does.time told acting.alive)))
     acting_fail Dead alive pages all does = absurd (false≢true (sym acting.alive ∙ does.cause))
     acting_fail (LogFull g h n) alive pages all does =
         let full = does.cause.1.1 in
@@ -266,18 +274,7 @@ module _ (tells : Bool) (Opens : List ℕ → List ℕ → Type 0) (t : ℕ) whe
           dies = λ failed. absurd (false≢true failed);
           time = λ told living. passes told (does.time told acting.alive);
         }
-    acting_end (Err Media) does = record {
-      shape = does.shape ∙ acting.shape;
-      depth = does.depth ∙ acting.depth;
-      mirrors = sent_then tells old.store now.store new.store acting.mirrors does.mirrors;
-      cause = alive;
-      saves = does.marks.0 ∙ acting.saves;
-      others = λ u ne. does.others u ne ∙ acting.others u ne;
-      kept = λ well. absurd (false≢true (sym well));
-      made = λ told living. tt;
-      dies = λ failed. (does.dies refl, subst (λ (n : ℕ). Rose n new.store.faults) acting.faults does.cause.2);
-      time = λ told living. passes told (does.time told acting.alive);
-    }
+    acting_end (Err Media) does = acting_broken old now new parts [] acting alive pages parts (top_end t mark) does (λ u ne. does.others u ne) (λ told. passes told (does.time told acting.alive))
     acting_end (Err Dead) does = absurd (false≢true (sym acting.alive ∙ does.cause))
     acting_end (Err (LogFull g h n)) does = absurd does.cause.1
     acting_end (Err SavesFull) does = absurd does.cause.1

@@ -1,6 +1,7 @@
 -- What looks read and what they cost: one read, none, and one after another.
 use Rattle.std.proofs.Common.{◌≡◌, ◌≢◌, ℕ, ◌+◌, ◌<◌, ◌≤◌, Bool, true, false, List, [], ◌∷◌, ◌++◌, length, Option, Some, Result, Ok, Err, refl, sym, ◌∙◌, ap, subst, arith}
 use Rattle.std.specs.Prelude.{IsTrue, IsFalse, OnOk, IfErr}
+use Rattle.std.specs.List.{AllByRecursion}
 use Rattle.std.proofs.lemmas.Bool.{false≢true}
 use Rattle.mars_base.specs.Costs.{Costs}
 use Rattle.array_shape.specs.declared.shape.Shape.{Shape}
@@ -54,13 +55,10 @@ reads_one tells calls calls_now old new page said (Err (LogFull g h k)) n is_n t
 reads_one tells calls calls_now old new page said (Err SavesFull) n is_n there cause costs steady is same = absurd cause
 reads_one tells calls calls_now old new page said (Err (Damaged bad)) n is_n there cause costs steady is same = absurd cause
 
-there_append : (count : ℕ) (later first : List Reading) → AreThere count later → AreThere count first → AreThere count (later ++ first)
-there_append count [] first are are' = are'
-there_append count (r ∷ rs) first are are' = (are.0, there_append count rs first are.1 are')
-
-said_append : (bytes : List ℕ) (later first : List Reading) → AreSaid bytes later → AreSaid bytes first → AreSaid bytes (later ++ first)
-said_append bytes [] first are are' = are'
-said_append bytes (r ∷ rs) first are are' = (are.0, said_append bytes rs first are.1 are')
+-- what holds of all of two lists
+pub every_append : {A : Type 0} (P : A → Type 0) (xs ys : List A) → AllByRecursion P xs → AllByRecursion P ys → AllByRecursion P (xs ++ ys)
+every_append P [] ys are are' = are'
+every_append P (x ∷ xs) ys are are' = (are.0, every_append P xs ys are.1 are')
 
 cost_append : (calls : Command → ℕ) (later first : List Reading) → reads_cost calls (later ++ first) ≡ reads_cost calls later + reads_cost calls first
 cost_append calls [] first = omega arith
@@ -77,8 +75,8 @@ reads_then tells failed calls calls_mid calls_now old mid new first later still 
     let all = cost_append calls later first in
     let same = cost_same calls calls_mid later (one.steady refl) in
     record {
-      there = there_append (page_count old.shape) later first (subst (λ (s : Shape). AreThere (page_count s) later) shape two.there) one.there;
-      said = λ told. said_append old.state.bytes later first (subst (λ (s : State). AreSaid s.bytes later) (still.state told) (two.said told)) (one.said told);
+      there = every_append (λ (r : Reading). r.0 < page_count old.shape) later first (subst (λ (s : Shape). AreThere (page_count s) later) shape two.there) one.there;
+      said = λ told. every_append (λ (r : Reading). r.1 ≡ page_bytes old.state.bytes r.0) later first (subst (λ (s : State). AreSaid s.bytes later) (still.state told) (two.said told)) (one.said told);
       most = omega (arith, all, same, one.exact refl, two.most);
       exact = λ well. omega (arith, all, same, one.exact refl, two.exact well);
       steady = λ well command. two.steady well command ∙ one.steady refl command;

@@ -13,24 +13,31 @@ use Rattle.index_pages.proofs.Tabled.{root_in}
 pub named_kept : (old new : List ℕ) → tables_of new ≡ tables_of old → (table root : ℕ) → IsTable new table root → IsTable old table root
 named_kept old new same table root named = subst (λ (ts : List TableEntry). root_in ts table ≡ Some root) same named
 
+-- What an index makes of data does not depend on which of it is called sound, nor on what is left to be done.
+pub grows_so : (up : Index) (sound so_sound : List ℕ → Type 0) (acts so_acts : List ℕ → ℕ → ℕ → List Action) (root : ℕ) (a b : List ℕ) → Grows (record up { sound = sound; actions = acts }) root a b → so_sound b → Grows (record up { sound = so_sound; actions = so_acts }) root a b
+grows_so up sound so_sound acts so_acts root a b g is_sound = record {
+  sound = is_sound;
+  size = g.size;
+  version = g.version;
+  tables = g.tables;
+  others = λ table other is ne. let u = g.others table other is ne in record { pairs = u.pairs; level = u.level; pages = u.pages };
+  slots = g.slots;
+  later = g.later;
+  few = g.few;
+  free_pages_fall = g.free_pages_fall;
+  named = g.named;
+  taken = g.taken;
+  kept = g.kept;
+  levels = g.levels;
+}
+
 module _ (up : Index) (most : ℕ) (acts : List ℕ → ℕ → ℕ → List Action) (root : ℕ) where
-  -- an action, if so few pages are given out
+  -- an action, if so few pages are given out, and the other way round
   pub grows_within : (a b : List ℕ) → Grows up root a b → next_page b ≤ most → Grows (within up most acts) root a b
-  grows_within a b g few = record {
-    sound = (g.sound, few);
-    size = g.size;
-    version = g.version;
-    tables = g.tables;
-    others = λ table other is ne. let u = g.others table other is ne in record { pairs = u.pairs; level = u.level; pages = u.pages };
-    slots = g.slots;
-    later = g.later;
-    few = g.few;
-    free_pages_fall = g.free_pages_fall;
-    named = g.named;
-    taken = g.taken;
-    kept = g.kept;
-    levels = g.levels;
-  }
+  grows_within a b g few = grows_so up up.sound (within up most acts).sound up.actions acts root a b g (g.sound, few)
+
+  pub grows_without : (a b : List ℕ) → Grows (within up most acts) root a b → Grows up root a b
+  grows_without a b g = grows_so up (within up most acts).sound up.sound acts up.actions root a b g g.sound.0
 
   pub gains_within : (table key : ℕ) (a b : List ℕ) → Gains up root table key a b → Gains (within up most acts) root table key a b
   gains_within table key a b g = record { pairs = g.pairs; slots = g.slots; fresh = g.fresh }

@@ -113,28 +113,12 @@ module _ (front after : Super) (number : ℕ) (free : Free) (is : IsWritable fro
 pub slot_given_rest : (front after : Super) (slot : ℕ) (free : Free) → GivesSlot front slot free after
     → (after.version ≡ front.version) × (after.form ≡ front.form) × (after.entries ≡ front.entries) × (after.next_slot ≡ front.next_slot) × (after.next_page ≡ front.next_page)
     × (after.free_page ≡ front.free_page) × (after.free_pages ≡ front.free_pages)
-slot_given_rest front after slot free gives = (
-  ap (λ (f : Super). f.version) gives.after_is,
-  ap (λ (f : Super). f.form) gives.after_is,
-  ap (λ (f : Super). f.entries) gives.after_is,
-  ap (λ (f : Super). f.next_slot) gives.after_is,
-  ap (λ (f : Super). f.next_page) gives.after_is,
-  ap (λ (f : Super). f.free_page) gives.after_is,
-  ap (λ (f : Super). f.free_pages) gives.after_is,
-)
+slot_given_rest front after slot free gives = rw gives.after_is (refl, refl, refl, refl, refl, refl, refl)
 
 pub page_given_rest : (front after : Super) (page : ℕ) (free : Free) → GivesPage front page free after
     → (after.version ≡ front.version) × (after.form ≡ front.form) × (after.entries ≡ front.entries) × (after.next_slot ≡ front.next_slot) × (after.next_page ≡ front.next_page)
     × (after.free_slot ≡ front.free_slot) × (after.free_slots ≡ front.free_slots)
-page_given_rest front after page free gives = (
-  ap (λ (f : Super). f.version) gives.after_is,
-  ap (λ (f : Super). f.form) gives.after_is,
-  ap (λ (f : Super). f.entries) gives.after_is,
-  ap (λ (f : Super). f.next_slot) gives.after_is,
-  ap (λ (f : Super). f.next_page) gives.after_is,
-  ap (λ (f : Super). f.free_slot) gives.after_is,
-  ap (λ (f : Super). f.free_slots) gives.after_is,
-)
+page_given_rest front after page free gives = rw gives.after_is (refl, refl, refl, refl, refl, refl, refl)
 
 -- The data says that it was given back: `after` was written, which says of its list what `given` does.
 pub slot_frees : (old new : List ℕ) (front given after : Super) (slot : ℕ) (free : Free) → SaysSuper (page_bytes old 0) front → SaysSuper (page_bytes new 0) after → GivesSlot front slot free given

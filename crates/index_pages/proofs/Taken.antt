@@ -196,15 +196,6 @@ pub record IsAfter (old new : List ℕ) (n : ℕ) : Type 0 where
 module _ (old new : List ℕ) (n : ℕ) (after : Super) (slots : FreeSlots old) (pages : FreePages old) (took : HasTaken old n after) (says : SaysSuper (page_bytes new 0) after)
     (left : (i : ℕ) → n ≤ i → i < free_pages old → page_bytes new (page_due old i) ≡ page_bytes old (page_due old i))
     (free : (slot : ℕ) → free_slot_of old slot ≢ None → slot_of new slot ≡ slot_of old slot) where
-  slot_next : next_slot new ≡ next_slot old
-  slot_next = sym says.next_slot ∙ took.slot_next
-
-  slot_first : free_slot new ≡ free_slot old
-  slot_first = sym says.free_slot ∙ took.slot_first
-
-  slots_many : free_slots new ≡ free_slots old
-  slots_many = sym says.free_slots ∙ took.slots_free
-
   page_next : next_page new ≡ next_page old + (n - free_pages old)
   page_next = sym says.next_page ∙ took.page_next
 
@@ -213,11 +204,11 @@ module _ (old new : List ℕ) (n : ℕ) (after : Super) (slots : FreeSlots old) 
 
   slots_list : FreeSlots new
   slots_list =
-      let kept = list_kept (free_slot_of old) 0 (next_slot old) (free_slot_of new) (next_slot new) (free_slots old) (free_slot old) (omega (arith, slot_next)) slots
+      let kept = list_kept (free_slot_of old) 0 (next_slot old) (free_slot_of new) (next_slot new) (free_slots old) (free_slot old) (omega (arith, says.next_slot, took.slot_next)) slots
       (λ i lt.
       let m = member_is (free_slot_of old) 0 (next_slot old) (free_slots old) i (free_slot old) slots lt in
       ap slot_says (free (member_at (free_slot_of old) (free_slot old) i - 1) (rank_some (free_slot_of old (member_at (free_slot_of old) (free_slot old) i - 1)) (free_slots old - i) m.1))) in
-      subst (λ (k : ℕ). IsList (free_slot_of new) 0 (next_slot new) (free_slots new) k) (sym slot_first) (subst (λ (k : ℕ). IsList (free_slot_of new) 0 (next_slot new) k (free_slot old)) (sym slots_many) kept)
+      subst (λ (k : ℕ). IsList (free_slot_of new) 0 (next_slot new) (free_slots new) k) (sym took.slot_first ∙ says.free_slot) (subst (λ (k : ℕ). IsList (free_slot_of new) 0 (next_slot new) k (free_slot old)) (sym took.slots_free ∙ says.free_slots) kept)
     where
       slot_says : List ℕ → Option Free
       slot_says b = free_slot_said b
@@ -269,9 +260,9 @@ module _ (old new : List ℕ) (n : ℕ) (after : Super) (slots : FreeSlots old) 
 
   pub is_after : IsAfter old new n
   is_after = record {
-    slots_next = slot_next;
-    slot_first = slot_first;
-    slots_free = slots_many;
+    slots_next = sym says.next_slot ∙ took.slot_next;
+    slot_first = sym says.free_slot ∙ took.slot_first;
+    slots_free = sym says.free_slots ∙ took.slots_free;
     pages_next = page_next;
     pages_free = pages_many;
     slots = slots_list;

@@ -36,6 +36,7 @@ use Rattle.record_slots.specs.Free.{free_slot_said, free_page_said, next_of}
 use Rattle.index_pages.specs.Slots.{Names, HasRank}
 use Rattle.std.proofs.Common.{drop}
 use Rattle.index_pages.proofs.Causing.{still_same}
+use Rattle.index_pages.proofs.Courses.{every_append}
 use Rattle.index_pages.proofs.Tabled.{root_in}
 use Rattle.index_pages.proofs.Tables.{entry_at, none_at, none_left}
 use Rattle.page_store.specs.Tested.{IsReadFrom, Tests, blamed_check}
@@ -45,14 +46,6 @@ use Rattle.record_slots.specs.declared.free.Free.{Free}
 use Rattle.record_slots.specs.Super.{tables_in}
 use Rattle.index_pages.specs.declared.held.HeldPage.{HeldPage}
 use Rattle.index_pages.specs.Plans.{Tries, Holds, one_excerpt, whether, with_page, held_of, slot_plan, slots_plan, list_plan, free_slot_plan, free_page_plan, free_slots_plan, free_pages_plan, tables_plan, lists_plan, index_plan, front_said, IsFrontOf, IsFrontSaid, IsTested}
-
-array_append : (count : ℕ) (first later : List Excerpt) → AreOfArray count first → AreOfArray count later → AreOfArray count (first ++ later)
-array_append count [] later are are' = are'
-array_append count (e ∷ es) later are are' = (are.0, array_append count es later are.1 are')
-
-data_append : (bytes : List ℕ) (first later : List Excerpt) → AreOfData bytes first → AreOfData bytes later → AreOfData bytes (first ++ later)
-data_append bytes [] later are are' = are'
-data_append bytes (e ∷ es) later are are' = (are.0, data_append bytes es later are.1 are')
 
 cost_append : (calls : Command → ℕ) (first later : List Excerpt) → excerpts_cost calls (first ++ later) ≡ excerpts_cost calls first + excerpts_cost calls later
 cost_append calls [] later = omega arith
@@ -73,8 +66,8 @@ bytes_then {tells} {failed} {calls} {calls_mid} {calls_now} {old} {mid} {new} fi
     let all = cost_append calls first later in
     let same = cost_same calls calls_mid later (one.steady refl) in
     record {
-      there = array_append (page_count old.shape) first later one.there (subst (λ (s : Shape). AreOfArray (page_count s) later) shape two.there);
-      said = λ told. data_append old.state.bytes first later (one.said told) (subst (λ (s : State). AreOfData s.bytes later) (still.state told) (two.said told));
+      there = every_append (λ (e : Excerpt). e.page < page_count old.shape) first later one.there (subst (λ (s : Shape). AreOfArray (page_count s) later) shape two.there);
+      said = λ told. every_append (λ (e : Excerpt). e.said ≡ range old.state.bytes (address e.page e.at) e.len) first later (one.said told) (subst (λ (s : State). AreOfData s.bytes later) (still.state told) (two.said told));
       most = omega (arith, all, same, one.exact refl, two.most);
       exact = λ well. omega (arith, all, same, one.exact refl, two.exact well);
       steady = λ well command. two.steady well command ∙ one.steady refl command;

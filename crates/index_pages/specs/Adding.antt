@@ -35,15 +35,16 @@ abbrev pub with_page_taken : Option Free → Super → Super
 with_page_taken None front = record front { next_page = front.next_page + 1 }
 with_page_taken (Some free) front = record front { free_page = free.next; free_pages = front.free_pages - 1 }
 
--- the slot, absent under the key of the table; the page with the pair; the super page as it is then
+-- An action in a page of level 0: a slot, the page with its pairs, and the super page as it is then. A pair is added: the slot is absent under
+-- the key of the table, and the page has the pair.
 abbrev pub adding_pages : ℕ → ℕ → ℕ → List ℕ
 adding_pages half slot page = (half + slot / 8) ∷ page ∷ 0 ∷ []
 
+abbrev pub leaf_parts : ℕ → Super → ℕ → List ℕ → ℕ → ℕ → List Pair → List Part
+leaf_parts half after slot said page link pairs = (address (half + slot / 8) (slot % 8 * 64), said) ∷ (address page 0, written_page 0 link pairs) ∷ (address 0 8, part_bytes after) ∷ []
+
 abbrev pub adding_parts : ℕ → Super → ℕ → ℕ → ℕ → List Pair → ℕ → ℕ → List Part
-adding_parts half after slot page link pairs table key =
-    (address (half + slot / 8) (slot % 8 * 64), slot_bytes (Absent table key))
-    ∷ (address page 0, written_page 0 link (inserted pairs key slot))
-    ∷ (address 0 8, part_bytes after) ∷ []
+adding_parts half after slot page link pairs table key = leaf_parts half after slot (slot_bytes (Absent table key)) page link (inserted pairs key slot)
 
 -- a slot, or a page, is taken by this super page, over this data: which one, and what the super page says then
 pub record TakesSlot (bytes : List ℕ) (front : Super) (slot : ℕ) (after : Super) : Type 0 where

@@ -1,13 +1,11 @@
 -- A slot and a page that are given back, and the parts of the action that takes a pair out.
-use Rattle.std.specs.Prelude.{ℕ, ◌≡◌, ◌+◌, ◌*◌, ◌/◌, ◌%◌, ◌<◌, List, [], ◌∷◌}
+use Rattle.std.specs.Prelude.{ℕ, ◌≡◌, ◌+◌, ◌/◌, ◌<◌, List, [], ◌∷◌}
 use Rattle.array_shape.specs.Logged.{Part}
 use Rattle.record_slots.specs.Free.{free_slot_bytes}
-use Rattle.record_slots.specs.Super.{part_bytes}
 use Rattle.record_slots.specs.declared.free.Free.{Free}
 use Rattle.record_slots.specs.declared.super_page.Super.{Super}
 use Rattle.page_store.specs.Pairs.{Pair, removed}
-use Rattle.page_store.specs.Shown.{address}
-use Rattle.index_pages.specs.Written.{written_page}
+use Rattle.index_pages.specs.Adding.{leaf_parts}
 
 -- what a slot, or a page, says that is given back to this super page: the one that was the first follows it, and it ranks above them all
 abbrev pub slot_freed : Super → Free
@@ -40,12 +38,9 @@ pub record GivesPage (front : Super) (page : ℕ) (free : Free) (after : Super) 
   pub free_is : free ≡ page_freed front
   pub after_is : after ≡ with_page_given page front
 
--- a pair is taken out of a page of level 0: the slot, which is free; the page without the pair; the super page as it is then
+-- a pair is taken out of a page of level 0: the slot is free, and the page lacks the pair
 abbrev pub removing_pages : ℕ → ℕ → ℕ → List ℕ
 removing_pages half slot page = (half + slot / 8) ∷ page ∷ 0 ∷ []
 
 abbrev pub removing_parts : ℕ → Super → ℕ → Free → ℕ → ℕ → List Pair → ℕ → List Part
-removing_parts half after slot free page link pairs key =
-    (address (half + slot / 8) (slot % 8 * 64), free_slot_bytes free)
-    ∷ (address page 0, written_page 0 link (removed pairs key))
-    ∷ (address 0 8, part_bytes after) ∷ []
+removing_parts half after slot free page link pairs key = leaf_parts half after slot (free_slot_bytes free) page link (removed pairs key)

@@ -5,17 +5,4 @@ use Rattle.page_store.specs.Index.{Action, Index}
 
 -- sound data has at most this many pages given out, and these actions are left
 abbrev pub within : Index → ℕ → (List ℕ → ℕ → ℕ → List Action) → Index
-within index most actions = record {
-  sound = λ bytes. index.sound bytes × (next_page bytes ≤ most);
-  fails = index.fails;
-  pairs = index.pairs;
-  level = index.level;
-  has_page = index.has_page;
-  actions = actions;
-  fits = index.fits;
-  removal = index.removal;
-  finding = index.finding;
-  nexting = index.nexting;
-  placing = index.placing;
-  testing = index.testing;
-}
+within index most actions = record index { sound = λ bytes. index.sound bytes × (next_page bytes ≤ most); actions = actions }

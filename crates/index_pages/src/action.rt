@@ -1,9 +1,9 @@
 // Nested top actions of an index.
-ghost use Rattle.std.specs.Prelude.{◌≡◌, ◌<◌, ◌≤◌, [], ◌∷◌, None, IsErrOf, length};
+ghost use Rattle.std.specs.Prelude.{◌≡◌, ◌<◌, ◌≤◌, None, IsErrOf, length};
 ghost use Rattle.eaw_face.specs.Causes.{IsAlive};
 ghost use Rattle.eaw_face.specs.StoreView.{log_len};
 ghost use Rattle.page_store.specs.Runs.{Runs, acting_of};
-ghost use Rattle.page_store.specs.Shown.{IsInPage, address, pages_of, top_in};
+ghost use Rattle.page_store.specs.Shown.{pages_of, top_in};
 ghost use Rattle.index_pages.specs.Acts.{Acts};
 ghost use Rattle.index_pages.specs.Parts.{AreInPages, pages_named, parts_named};
 

@@ -7,7 +7,7 @@ ghost use Rattle.page_store.specs.Pairs.{inserted};
 ghost use Rattle.page_store.specs.Runs.{Runs, acting_of};
 ghost use Rattle.page_store.specs.Shown.{pages_of, top_in};
 ghost use Rattle.index_pages.specs.Acts.{Acts};
-ghost use Rattle.index_pages.specs.Adding.{adding_pages, adding_parts};
+ghost use Rattle.index_pages.specs.Adding.{adding_pages, adding_parts, leaf_parts};
 
 use crate::action::{PagePart, act_all};
 use crate::fetch::{SLOTS_IN_PAGE, index_page_count};
@@ -16,7 +16,7 @@ use crate::place::place_of;
 use crate::taking::Claim;
 use eaw_face::EawStore;
 use page_store::{LeafPage, PageFault, Pages};
-use record_slots::{PART_AT, PART_LEN, SLOT_LEN, Slot, write_slot, write_super_part};
+use record_slots::{PART_AT, PART_LEN, SLOT_LEN, Slot, Super, write_slot, write_super_part};
 
 /// Adds a pair of the key of a table and a slot that is taken to a page of level 0 that has room, as one nested top action of three parts:
 /// the slot, which is absent under the key, the page, and the super page, which says that the slot is in use.
@@ -42,21 +42,41 @@ pub fn add_pair<S: EawStore>(
         (S.view pages.old.store) (S.view pages.new.store) result }
     ensures dead { IsErrOf result PageFault.Dead → pages.new ≡ pages.old }
 {
-    let LeafPage {
-        page,
-        link,
-        mut pairs,
-    } = leaf;
-    insert_pair(&mut pairs, key, taken.number);
+    let mut leaf = leaf;
+    insert_pair(&mut leaf.pairs, key, taken.number);
     let mut slot = [0; SLOT_LEN];
     write_slot(&Slot::Absent { table, key }, &mut slot);
+    act_on_leaf(pages, tid, taken.number, &slot, &leaf, &taken.front)
+}
+
+/// Writes a slot, a page of level 0, and the part of the super page that changes, as one nested top action.
+pub fn act_on_leaf<S: EawStore>(
+    pages: &mut Pages<S>,
+    tid: u8,
+    number: u32,
+    slot: &[u8; SLOT_LEN],
+    leaf: &LeafPage,
+    front: &Super,
+) -> Result<(), PageFault>
+    requires tid { tid < (S.view pages.old.store).shape.numbers }
+    requires closed { IsAlive (S.view pages.old.store) → top_in pages.old.marks tid ≡ None }
+    requires inside { leaf.now.page < index_pages_of (S.view pages.old.store).shape }
+    requires slot { number < slots_of (S.view pages.old.store).shape }
+    ensures acts { Acts S.tells (S.opens (S.view pages.old.store).shape) tid (adding_pages (index_pages_of (S.view pages.old.store).shape) number leaf.now.page)
+        (leaf_parts (index_pages_of (S.view pages.old.store).shape) front.now number slot.now leaf.now.page leaf.now.link leaf.now.pairs.items)
+        (pages_of (S.view pages.old.store) pages.old) (pages_of (S.view pages.new.store) pages.new) result }
+    ensures runs { Runs S.tells S.view S.calls (acting_of tid (log_len (S.view pages.old.store) tid)
+        (leaf_parts (index_pages_of (S.view pages.old.store).shape) front.now number slot.now leaf.now.page leaf.now.link leaf.now.pairs.items))
+        (S.view pages.old.store) (S.view pages.new.store) result }
+    ensures dead { IsErrOf result PageFault.Dead → pages.new ≡ pages.old }
+{
     let mut bytes = [0; PAGE_LEN];
-    write_page(0, link, pairs.as_slice(), &mut bytes);
+    write_page(0, leaf.link, leaf.pairs.as_slice(), &mut bytes);
     let mut part = [0; PART_LEN];
-    write_super_part(&taken.front, &mut part);
+    write_super_part(front, &mut part);
     let parts = [
-        slot_part(pages, taken.number, &slot),
-        whole_page(page, &bytes),
+        slot_part(pages, number, slot),
+        whole_page(leaf.page, &bytes),
         front_part(&part),
     ];
     act_all(pages, tid, &parts)

@@ -1,5 +1,5 @@
 // The slot and the page that a removal gives back, and the action that takes a pair out.
-ghost use Rattle.std.specs.Prelude.{◌≡◌, ◌<◌, ◌↔◌, IsTrue, None, Some, IfSome, IfNone, IsErrOf, length};
+ghost use Rattle.std.specs.Prelude.{◌≡◌, ◌<◌, ◌↔◌, IsTrue, None, Some, IfSome, IfNone, IsErrOf};
 ghost use Rattle.eaw_face.specs.Causes.{IsAlive};
 ghost use Rattle.eaw_face.specs.StoreView.{log_len};
 ghost use Rattle.page_store.specs.Index.{slots_of, index_pages_of};
@@ -9,13 +9,12 @@ ghost use Rattle.page_store.specs.Shown.{pages_of, top_in};
 ghost use Rattle.index_pages.specs.Acts.{Acts};
 ghost use Rattle.index_pages.specs.Giving.{MayGive, GivesSlot, GivesPage, removing_pages, removing_parts, with_slot_given, with_page_given};
 
-use crate::action::act_all;
-use crate::adding::{front_part, slot_part, whole_page};
-use crate::page::{PAGE_LEN, Pairs, write_page};
+use crate::adding::act_on_leaf;
+use crate::page::Pairs;
 use crate::place::place_found;
 use eaw_face::EawStore;
 use page_store::{LeafPage, PageFault, Pages};
-use record_slots::{Free, PART_LEN, SLOT_LEN, Super, VERSION, write_free_slot, write_super_part};
+use record_slots::{Free, SLOT_LEN, Super, VERSION, write_free_slot};
 
 /// A slot or a page that is given back: its number, what it is to say, and what the super page is to say then.
 #[derive(Clone, Copy, Debug)]
@@ -113,20 +112,11 @@ pub fn remove_pair<S: EawStore>(
         (S.view pages.old.store) (S.view pages.new.store) result }
     ensures dead { IsErrOf result PageFault.Dead → pages.new ≡ pages.old }
 {
-    let LeafPage { page, link, pairs } = leaf;
-    let pairs = without_pair(pairs, key);
+    let mut leaf = leaf;
+    remove_of(&mut leaf.pairs, key);
     let mut slot = [0; SLOT_LEN];
     write_free_slot(&released.free, &mut slot);
-    let mut bytes = [0; PAGE_LEN];
-    write_page(0, link, pairs.as_slice(), &mut bytes);
-    let mut part = [0; PART_LEN];
-    write_super_part(&released.front, &mut part);
-    let parts = [
-        slot_part(pages, released.number, &slot),
-        whole_page(page, &bytes),
-        front_part(&part),
-    ];
-    act_all(pages, tid, &parts)
+    act_on_leaf(pages, tid, released.number, &slot, &leaf, &released.front)
 }
 
 /// The pairs of a page without that of a key.
@@ -134,8 +124,15 @@ pub fn without_pair(pairs: Pairs, key: u64) -> Pairs
     ensures { result.items ≡ removed pairs.items key }
 {
     let mut pairs = pairs;
+    remove_of(&mut pairs, key);
+    pairs
+}
+
+// Takes the pair of a key out of those of a page.
+fn remove_of(pairs: &mut Pairs, key: u64)
+    ensures { pairs.new.items ≡ removed pairs.old.items key }
+{
     if let Some(place) = place_found(pairs.as_slice(), key) {
         pairs.remove(place);
     }
-    pairs
 }

@@ -21,6 +21,13 @@ use transactions::{Refusal, Stop, back, calls_join, save, value_of};
 /// The most bytes of a long value.
 pub const LONG_MAX: usize = 16_384;
 
+// Where the records of a value lie: in this table, from this key on.
+#[derive(Clone, Copy)]
+struct Place {
+    table: Name,
+    first: u64,
+}
+
 /// Puts the bytes under the key of a table of long values, in the place of those that were there, within the caller's transaction. A put that
 /// is refused leaves what was there: it goes back to a save that it made, one of the 32 of a transaction.
 pub fn put<C: Core>(
@@ -50,7 +57,11 @@ pub fn put<C: Core>(
     if bytes.len() > LONG_MAX {
         return Err(Stop::GivenUp(Unkept::TooLong));
     }
-    match write(core, caller, table, key.first(), bytes) {
+    let at = Place {
+        table,
+        first: key.first(),
+    };
+    match write(core, caller, &at, bytes) {
         Ok(()) => Ok(()),
         Err(refusal) => Err(undo(core, caller, saved, refusal)),
     }
@@ -79,85 +90,83 @@ pub fn del<C: Core>(
 {
     calls_join::<C, Unkept>();
     let saved = save(core, caller)?;
-    match erase(core, caller, table, key.first()) {
+    let at = Place {
+        table,
+        first: key.first(),
+    };
+    match erase(core, caller, &at) {
         Ok(there) => Ok(there),
         Err(refusal) => Err(undo(core, caller, saved, refusal)),
     }
 }
 
 // Writes the records of the bytes, and removes those of a longer value that was there.
-fn write<C: Core>(
-    core: &mut C,
-    caller: u8,
-    table: Name,
-    first: u64,
-    bytes: &[u8],
-) -> Result<(), Refusal>
+fn write<C: Core>(core: &mut C, caller: u8, at: &Place, bytes: &[u8]) -> Result<(), Refusal>
     requires inside { caller < (C.view core.old).limits.callers }
     requires sound { IsTrue C.tells → IsSound (C.view core.old).state }
-    requires room { first + 512 ≤ 2 ^ 64 }
+    requires room { at.now.first + 512 ≤ 2 ^ 64 }
     requires short { length bytes.now ≤ 16384 }
     ensures limits { (C.view core.new).limits ≡ (C.view core.old).limits }
-    ensures changes { IsTrue C.tells → Changes caller table first (first + 512) (C.view core.old) (C.view core.new) }
+    ensures changes { IsTrue C.tells → Changes caller at.now.table at.now.first (at.now.first + 512) (C.view core.old) (C.view core.new) }
     ensures stays { IsTrue C.tells → Stays caller (C.view core.old) (C.view core.new) }
     ensures refused { IsTrue C.tells → IfErr result (Refuses caller (C.view core.old) (C.view core.new)) }
-    ensures kept { IsTrue C.tells → OnOk result ((was : Option (List ℕ)) → IsKeptFrom table first was (seen_by caller (C.view core.old)) → IsKeptFrom table first (Some bytes.now) (seen_by caller (C.view core.new))) }
+    ensures kept { IsTrue C.tells → OnOk result ((was : Option (List ℕ)) → IsKeptFrom at.now.table at.now.first was (seen_by caller (C.view core.old)) → IsKeptFrom at.now.table at.now.first (Some bytes.now) (seen_by caller (C.view core.new))) }
 {
     calls_join::<C, Unkept>();
-    transactions::put(core, caller, table, first, value_of(bytes.len() as u64))?;
-    write_parts(core, caller, table, first, bytes)?;
-    clear(core, caller, table, first, part_count(bytes) as u64 + 1)?;
+    transactions::put(
+        core,
+        caller,
+        at.table,
+        at.first,
+        value_of(bytes.len() as u64),
+    )?;
+    write_parts(core, caller, at, bytes)?;
+    clear(core, caller, at, part_count(bytes) as u64 + 1)?;
     Ok(())
 }
 
 // Writes the records of the parts.
-fn write_parts<C: Core>(
-    core: &mut C,
-    caller: u8,
-    table: Name,
-    first: u64,
-    bytes: &[u8],
-) -> Result<(), Refusal>
+fn write_parts<C: Core>(core: &mut C, caller: u8, at: &Place, bytes: &[u8]) -> Result<(), Refusal>
     requires inside { caller < (C.view core.old).limits.callers }
     requires sound { IsTrue C.tells → IsSound (C.view core.old).state }
-    requires room { first + 512 ≤ 2 ^ 64 }
+    requires room { at.now.first + 512 ≤ 2 ^ 64 }
     requires short { length bytes.now ≤ 16384 }
     ensures limits { (C.view core.new).limits ≡ (C.view core.old).limits }
-    ensures changes { IsTrue C.tells → Changes caller table (first + 1) (first + 1 + part_count bytes.now) (C.view core.old) (C.view core.new) }
+    ensures changes { IsTrue C.tells → Changes caller at.now.table (at.now.first + 1) (at.now.first + 1 + part_count bytes.now) (C.view core.old) (C.view core.new) }
     ensures stays { (start : C) → IsTrue C.tells → Stays caller (C.view start) (C.view core.old) → Stays caller (C.view start) (C.view core.new) }
     ensures refused { (start : C) → IsTrue C.tells → Stays caller (C.view start) (C.view core.old) → IfErr result (Refuses caller (C.view start) (C.view core.new)) }
-    ensures written { IsTrue C.tells → OnOk result ((n : ℕ) → n < part_count bytes.now → map.get (seen_by caller (C.view core.new)) (of_table table (first + 1 + n)) ≡ Some (text_at bytes.now (suc n))) }
+    ensures written { IsTrue C.tells → OnOk result ((n : ℕ) → n < part_count bytes.now → map.get (seen_by caller (C.view core.new)) (of_table at.now.table (at.now.first + 1 + n)) ≡ Some (text_at bytes.now (suc n))) }
 {
     calls_join::<C, Unkept>();
     for n in 0..part_count(bytes) {
-        transactions::put(core, caller, table, first + 1 + n as u64, part(bytes, n))?;
+        transactions::put(
+            core,
+            caller,
+            at.table,
+            at.first + 1 + n as u64,
+            part(bytes, n),
+        )?;
     }
     Ok(())
 }
 
 // Removes the records from number `from` on, up to one that is not there.
-fn clear<C: Core>(
-    core: &mut C,
-    caller: u8,
-    table: Name,
-    first: u64,
-    from: u64,
-) -> Result<(), Refusal>
+fn clear<C: Core>(core: &mut C, caller: u8, at: &Place, from: u64) -> Result<(), Refusal>
     requires inside { caller < (C.view core.old).limits.callers }
     requires sound { IsTrue C.tells → IsSound (C.view core.old).state }
     requires below { from ≤ 512 }
-    requires room { first + 512 ≤ 2 ^ 64 }
+    requires room { at.now.first + 512 ≤ 2 ^ 64 }
     ensures limits { (C.view core.new).limits ≡ (C.view core.old).limits }
-    ensures changes { IsTrue C.tells → Changes caller table (first + from) (first + 512) (C.view core.old) (C.view core.new) }
+    ensures changes { IsTrue C.tells → Changes caller at.now.table (at.now.first + from) (at.now.first + 512) (C.view core.old) (C.view core.new) }
     ensures stays { (start : C) → IsTrue C.tells → Stays caller (C.view start) (C.view core.old) → Stays caller (C.view start) (C.view core.new) }
     ensures refused { (start : C) → IsTrue C.tells → Stays caller (C.view start) (C.view core.old) → IfErr result (Refuses caller (C.view start) (C.view core.new)) }
     // If those that were there are the last of a value, none is left.
-    ensures gone { IsTrue C.tells → OnOk result ((was : Option (List ℕ)) → ((n : ℕ) → from ≤ n → n < 512 → map.get (seen_by caller (C.view core.old)) (of_table table (first + n)) ≡ record_at was n)
-        → (n : ℕ) → from ≤ n → n < 512 → map.get (seen_by caller (C.view core.new)) (of_table table (first + n)) ≡ None) }
+    ensures gone { IsTrue C.tells → OnOk result ((was : Option (List ℕ)) → ((n : ℕ) → from ≤ n → n < 512 → map.get (seen_by caller (C.view core.old)) (of_table at.now.table (at.now.first + n)) ≡ record_at was n)
+        → (n : ℕ) → from ≤ n → n < 512 → map.get (seen_by caller (C.view core.new)) (of_table at.now.table (at.now.first + n)) ≡ None) }
 {
     calls_join::<C, Unkept>();
     for n in from..STRIDE {
-        let was_there = transactions::del(core, caller, table, first + n)?;
+        let was_there = transactions::del(core, caller, at.table, at.first + n)?;
         if !was_there {
             return Ok(());
         }
@@ -166,22 +175,22 @@ fn clear<C: Core>(
 }
 
 // Removes all records of a value. It answers whether there was one.
-fn erase<C: Core>(core: &mut C, caller: u8, table: Name, first: u64) -> Result<bool, Refusal>
+fn erase<C: Core>(core: &mut C, caller: u8, at: &Place) -> Result<bool, Refusal>
     requires inside { caller < (C.view core.old).limits.callers }
     requires sound { IsTrue C.tells → IsSound (C.view core.old).state }
-    requires room { first + 512 ≤ 2 ^ 64 }
+    requires room { at.now.first + 512 ≤ 2 ^ 64 }
     ensures limits { (C.view core.new).limits ≡ (C.view core.old).limits }
-    ensures changes { IsTrue C.tells → Changes caller table first (first + 512) (C.view core.old) (C.view core.new) }
+    ensures changes { IsTrue C.tells → Changes caller at.now.table at.now.first (at.now.first + 512) (C.view core.old) (C.view core.new) }
     ensures stays { IsTrue C.tells → Stays caller (C.view core.old) (C.view core.new) }
     ensures refused { IsTrue C.tells → IfErr result (Refuses caller (C.view core.old) (C.view core.new)) }
-    ensures gone { IsTrue C.tells → IfOk result (λ there. (was : Option (List ℕ)) → IsKeptFrom table first was (seen_by caller (C.view core.old)) → IsKeptFrom table first None (seen_by caller (C.view core.new)) × (IsTrue there ↔ IsSome was)) }
+    ensures gone { IsTrue C.tells → IfOk result (λ there. (was : Option (List ℕ)) → IsKeptFrom at.now.table at.now.first was (seen_by caller (C.view core.old)) → IsKeptFrom at.now.table at.now.first None (seen_by caller (C.view core.new)) × (IsTrue there ↔ IsSome was)) }
 {
     calls_join::<C, Unkept>();
-    let was_there = transactions::del(core, caller, table, first)?;
+    let was_there = transactions::del(core, caller, at.table, at.first)?;
     if !was_there {
         return Ok(false);
     }
-    clear(core, caller, table, first, 1)?;
+    clear(core, caller, at, 1)?;
     Ok(true)
 }
 

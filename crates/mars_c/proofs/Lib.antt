@@ -1,3 +1,3 @@
-pub mod AsBox
+pub mod Parts
 pub mod Answering
 pub mod NewTable

@@ -3,7 +3,7 @@
 //!
 //! Read first `calls.rt`, `seeking.rt`, `long_bytes.rt`, `arrays.rt`, `making.rt` and `tape.rt`, the functions that C calls, beside `mars.h`: each
 //! takes the array out of what C keeps, asks it (`taped_records`), and puts it back. `specs/Calls` says what that is to an array, open or closed.
-//! `kept/held.rt` is the one place with a raw pointer, over `box_parts`.
+//! `kept.rt` is the one place with a raw pointer, over `box_parts`.
 #![tactic(auto)]
 
 mod arrays;

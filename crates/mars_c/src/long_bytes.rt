@@ -6,6 +6,7 @@ ghost use Rattle.taped_records.specs.Long.{AsksToPut, AsksToGet, AsksToDel, Asks
 ghost use Rattle.taped_records.specs.Status.{is_closed};
 
 use crate::kept::Kept;
+use box_parts::ask;
 use std::alloc::Global;
 use taped_records::IS_CLOSED;
 
@@ -21,12 +22,7 @@ pub extern "C" fn mars_put_bytes(
 ) -> i32
     ensures { Changes (λ was now. AsksToPut table.now key bytes.now caller was now result) (result ≡ is_closed) m.old.held.array m.new.held.array }
 {
-    let Some(mut array) = m.take(alloc) else {
-        return IS_CLOSED;
-    };
-    let status = array.put_bytes(caller, table, key, bytes);
-    m.put(array);
-    status
+    ask!(m, alloc, array => array.put_bytes(caller, table, key, bytes), else IS_CLOSED)
 }
 
 /// The bytes under the key: as many as there is room for, and how many there are.
@@ -43,12 +39,7 @@ pub extern "C" fn mars_get_bytes(
     ensures { Changes (λ was now. AsksToGet table.now key caller room.old room.new len.old len.new was now result)
         ((result ≡ is_closed) × IsPutOut None room.old room.new len.old len.new) m.old.held.array m.new.held.array }
 {
-    let Some(mut array) = m.take(alloc) else {
-        return IS_CLOSED;
-    };
-    let status = array.get_bytes(alloc, caller, table, key, room, len);
-    m.put(array);
-    status
+    ask!(m, alloc, array => array.get_bytes(alloc, caller, table, key, room, len), else IS_CLOSED)
 }
 
 /// Removes them.
@@ -62,12 +53,7 @@ pub extern "C" fn mars_del_bytes(
 ) -> i32
     ensures { Changes (λ was now. AsksToDel table.now key caller was now result) (result ≡ is_closed) m.old.held.array m.new.held.array }
 {
-    let Some(mut array) = m.take(alloc) else {
-        return IS_CLOSED;
-    };
-    let status = array.del_bytes(caller, table, key);
-    m.put(array);
-    status
+    ask!(m, alloc, array => array.del_bytes(caller, table, key), else IS_CLOSED)
 }
 
 /// How many there are.
@@ -83,10 +69,5 @@ pub extern "C" fn mars_bytes_length(
     ensures { Changes (λ was now. AsksLength table.now key caller len.old len.new was now result)
         ((result ≡ is_closed) × (len.new ≡ len.old)) m.old.held.array m.new.held.array }
 {
-    let Some(mut array) = m.take(alloc) else {
-        return IS_CLOSED;
-    };
-    let status = array.bytes_length(caller, table, key, len);
-    m.put(array);
-    status
+    ask!(m, alloc, array => array.bytes_length(caller, table, key, len), else IS_CLOSED)
 }

@@ -6,6 +6,7 @@ ghost use Rattle.taped_records.specs.Cursor.{AsksNext};
 ghost use Rattle.taped_records.specs.Status.{is_closed};
 
 use crate::kept::Kept;
+use box_parts::ask;
 use std::alloc::Global;
 use taped_records::IS_CLOSED;
 
@@ -25,10 +26,5 @@ pub extern "C" fn mars_next(
     ensures { Changes (λ was now. AsksNext table.now from to caller key.old key.new room.old room.new len.old len.new was now result)
         ((result ≡ is_closed) × (key.new ≡ key.old) × IsPutOut None room.old room.new len.old len.new) m.old.held.array m.new.held.array }
 {
-    let Some(mut array) = m.take(alloc) else {
-        return IS_CLOSED;
-    };
-    let status = array.next(caller, table, from, to, key, room, len);
-    m.put(array);
-    status
+    ask!(m, alloc, array => array.next(caller, table, from, to, key, room, len), else IS_CLOSED)
 }

@@ -8,6 +8,7 @@ ghost use Rattle.taped_records.specs.Status.{is_closed, no_piece};
 ghost use Rattle.taped_records.specs.Tells.{IsRow, IsTold, IsDone, IsDoneUpTo, GoesOn};
 
 use crate::kept::Kept;
+use box_parts::ask;
 use std::alloc::Global;
 use taped_calls::NOTHING;
 use taped_records::{IS_CLOSED, OK};
@@ -25,12 +26,7 @@ pub extern "C" fn mars_row(
     ensures { Looks (λ array. IsRow (slice_get array.rows at) result key.old key.new room.old room.new len.old len.new)
         ((result ≡ is_closed) × (key.new ≡ key.old) × IsPutOut None room.old room.new len.old len.new) m.old.held.array m.new.held.array }
 {
-    let Some(array) = m.take(alloc) else {
-        return IS_CLOSED;
-    };
-    let status = array.row(at, key, room, len);
-    m.put(array);
-    status
+    ask!(m, alloc, array => array.row(at, key, room, len), else IS_CLOSED)
 }
 
 /// The name of a table by its number, counted from 0: as much of it as there is room for, and its length.
@@ -45,12 +41,7 @@ pub extern "C" fn mars_table(
     ensures { Looks (λ array. IsTold (slice_get (core_in array).state.names number) result room.old room.new len.old len.new)
         ((result ≡ is_closed) × IsPutOut None room.old room.new len.old len.new) m.old.held.array m.new.held.array }
 {
-    let Some(array) = m.take(alloc) else {
-        return IS_CLOSED;
-    };
-    let status = array.table(number, room, len);
-    m.put(array);
-    status
+    ask!(m, alloc, array => array.table(number, room, len), else IS_CLOSED)
 }
 
 /// What is to be done next on the device: nothing (0), a write of `len` bytes at the place `at` (1), or a barrier (2).
@@ -59,12 +50,7 @@ pub extern "C" fn mars_piece(alloc: Global, m: &mut Kept, at: &mut u64, len: &mu
     ensures { Looks (λ array. IsPiece (next_of (tape_of array)) result at.old at.new len.old len.new)
         (IsPiece None result at.old at.new len.old len.new) m.old.held.array m.new.held.array }
 {
-    let Some(array) = m.take(alloc) else {
-        return NOTHING;
-    };
-    let kind = array.piece(at, len);
-    m.put(array);
-    kind
+    ask!(m, alloc, array => array.piece(at, len), else NOTHING)
 }
 
 /// The bytes of the next write from `skip` on: as many as there is room for, and how many there are.
@@ -79,12 +65,7 @@ pub extern "C" fn mars_piece_bytes(
     ensures { Looks (λ array. IsWrite no_piece (next_of (tape_of array)) skip result room.old room.new len.old len.new)
         ((result ≡ is_closed) × IsPutOut None room.old room.new len.old len.new) m.old.held.array m.new.held.array }
 {
-    let Some(array) = m.take(alloc) else {
-        return IS_CLOSED;
-    };
-    let status = array.piece_bytes(skip, room, len);
-    m.put(array);
-    status
+    ask!(m, alloc, array => array.piece_bytes(skip, room, len), else IS_CLOSED)
 }
 
 /// The next piece was done on the device. It is forgotten.
@@ -92,12 +73,7 @@ pub extern "C" fn mars_piece_bytes(
 pub extern "C" fn mars_piece_done(alloc: Global, m: &mut Kept) -> i32
     ensures { Changes (λ old new. IsDone (next_of (tape_of old)) old new result) (result ≡ is_closed) m.old.held.array m.new.held.array }
 {
-    let Some(mut array) = m.take(alloc) else {
-        return IS_CLOSED;
-    };
-    let status = array.piece_done();
-    m.put(array);
-    status
+    ask!(m, alloc, array => array.piece_done(), else IS_CLOSED)
 }
 
 /// The next piece failed on the device. From now on each call that writes fails, and no piece is given out.
@@ -106,12 +82,10 @@ pub extern "C" fn mars_piece_failed(alloc: Global, m: &mut Kept) -> i32
     ensures { Changes (λ old new. (result ≡ pos 0) × GoesOn (record (tape_of old) { has_failed = true }) old new) (result ≡ is_closed)
         m.old.held.array m.new.held.array }
 {
-    let Some(mut array) = m.take(alloc) else {
-        return IS_CLOSED;
-    };
-    array.piece_failed();
-    m.put(array);
-    OK
+    ask!(m, alloc, array => {
+        array.piece_failed();
+        OK
+    }, else IS_CLOSED)
 }
 
 /// The moment of the last call.
@@ -119,12 +93,7 @@ pub extern "C" fn mars_piece_failed(alloc: Global, m: &mut Kept) -> i32
 pub extern "C" fn mars_moment(alloc: Global, m: &mut Kept) -> u64
     ensures { Looks (λ array. result ≡ (core_in array).moment) (result ≡ 0) m.old.held.array m.new.held.array }
 {
-    let Some(array) = m.take(alloc) else {
-        return 0;
-    };
-    let moment = array.moment();
-    m.put(array);
-    moment
+    ask!(m, alloc, array => array.moment(), else 0)
 }
 
 /// The moment up to which the pieces of all calls were done.
@@ -132,10 +101,5 @@ pub extern "C" fn mars_moment(alloc: Global, m: &mut Kept) -> u64
 pub extern "C" fn mars_done_up_to(alloc: Global, m: &mut Kept) -> u64
     ensures { Looks (IsDoneUpTo result) (result ≡ 0) m.old.held.array m.new.held.array }
 {
-    let Some(array) = m.take(alloc) else {
-        return 0;
-    };
-    let moment = array.done_up_to();
-    m.put(array);
-    moment
+    ask!(m, alloc, array => array.done_up_to(), else 0)
 }

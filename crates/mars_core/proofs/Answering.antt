@@ -52,6 +52,7 @@ use Rattle.mars_core.specs.Over.{limits_of, index_of, index_with, OpensWithTable
 use Rattle.mars_core.specs.Held.{core_over}
 use Rattle.mars_core.specs.Kept.{Mirrors, HasHeld, IsTied, IsKept}
 use Rattle.mars_core.specs.Works.{HasSaves, IsShown}
+use Rattle.mars_core.proofs.Keeping.{dead_keeps, still_keeps}
 use Rattle.mars_core.proofs.Indexing.{IsWithin, InsertsNone, is_within, indexes_granted, indexes_refused, indexes_slots}
 use Rattle.mars_core.proofs.Mirroring.{scan_after, mirrors_granted, answers}
 use Rattle.mars_core.proofs.Rooming.{fits_is, log_lacks, slot_lacks, page_lacks, named_is}
@@ -307,15 +308,10 @@ module _ (tells : Bool) (Opens : Shape → List ℕ → List ℕ → Type 0) (in
       safe_new = safe_alive tells Opens index q new_laws new told living tied_new
 
     pub granted_keeps : IsKept tells Opens index q count' rows new
-    granted_keeps = record {
-      seats = same_count ∙ kept.seats ∙ sym (ap (λ (h : Shape). h.numbers) works.shape);
-      in_order = kept.in_order;
-      idle = λ _. idle_after p.store.ranges q.store.ranges s.live new.live t works.others (kept.idle alive) (Some (calls ++ (call, answer) ∷ [])) live (λ e. absurd (no_calls (calls ++ (call, answer) ∷ []) e));
-      saves = λ _. saves_one p.counts q.counts s new t (Some (calls ++ (call, answer) ∷ [])) works.apart live (λ table. saves_granted (length (p.counts t)) (length (q.counts t)) table calls call answer
-          (kept.saves alive t table ∙ ap (λ (o : Option Granted). saves_in table (unwrap_or o [])) is) saves works.grown) (kept.saves alive);
-      tied = λ told _. tied_new told;
-      safe = safe_new;
-    }
+    granted_keeps = still_keeps tells Opens index p q s new count count' same_count rows kept works.shape safe_new
+        (idle_after p.store.ranges q.store.ranges s.live new.live t works.others (kept.idle alive) (Some (calls ++ (call, answer) ∷ [])) live (λ e. absurd (no_calls (calls ++ (call, answer) ∷ []) e)))
+        (saves_one p.counts q.counts s new t (Some (calls ++ (call, answer) ∷ [])) works.apart live (λ table. saves_granted (length (p.counts t)) (length (q.counts t)) table calls call answer
+        (kept.saves alive t table ∙ ap (λ (o : Option Granted). saves_in table (unwrap_or o [])) is) saves works.grown) (kept.saves alive)) tied_new
 
     pub granted_steps : Steps tells t (OnTable call) (core_over Opens index p.store s) (core_over Opens index q.store new) answer
     granted_steps = steps_of tells Opens index p q s new t (OnTable call) answer works.shape works.depth
@@ -399,14 +395,8 @@ module _ (tells : Bool) (Opens : Shape → List ℕ → List ℕ → Type 0) (in
         safe_still = safe_alive tells Opens index q new_laws new told living_still tied_still
 
       well_keeps : IsKept tells Opens index q count' rows new
-      well_keeps = record {
-        seats = same_count ∙ kept.seats ∙ sym (ap (λ (h : Shape). h.numbers) works.shape);
-        in_order = kept.in_order;
-        idle = λ _. idle_still p.store.ranges q.store.ranges s.live new.live t works.others (kept.idle alive) calls is live;
-        saves = λ _. saves_same p.counts q.counts s new works.counts live (kept.saves alive);
-        tied = λ told _. tied_still told;
-        safe = safe_still;
-      }
+      well_keeps = still_keeps tells Opens index p q s new count count' same_count rows kept works.shape safe_still
+          (idle_still p.store.ranges q.store.ranges s.live new.live t works.others (kept.idle alive) calls is live) (saves_same p.counts q.counts s new works.counts live (kept.saves alive)) tied_still
 
       well_steps : Steps tells t (OnTable call) (core_over Opens index p.store s) (core_over Opens index q.store new) (reply_to f)
       well_steps = steps_of tells Opens index p q s new t (OnTable call) (reply_to f) works.shape works.depth
@@ -428,14 +418,7 @@ module _ (tells : Bool) (Opens : Shape → List ℕ → List ℕ → Type 0) (in
     safe_failed told = safe_dead tells Opens index one p q old_laws new_laws told works.shape alive (tied told).index_sound s new (tied told) names base history (time told (Err Media) works)
 
     media_keeps : IsKept tells Opens index q count' rows new
-    media_keeps = record {
-      seats = same_count ∙ kept.seats ∙ sym (ap (λ (h : Shape). h.numbers) works.shape);
-      in_order = kept.in_order;
-      idle = λ living. absurd (false≢true (sym living ∙ (works.dies refl).0));
-      saves = λ living. absurd (false≢true (sym living ∙ (works.dies refl).0));
-      tied = λ told living. absurd (false≢true (sym living ∙ (works.dies refl).0));
-      safe = safe_failed;
-    }
+    media_keeps = dead_keeps tells Opens index p q s new count count' same_count rows kept works.shape safe_failed (works.dies refl).0
 
     media_steps : Steps tells t (OnTable call) (core_over Opens index p.store s) (core_over Opens index q.store new) reply.Media
     media_steps = steps_of tells Opens index p q s new t (OnTable call) reply.Media works.shape works.depth
@@ -443,29 +426,22 @@ module _ (tells : Bool) (Opens : Shape → List ℕ → List ℕ → Type 0) (in
         (λ _. (works.dies refl).1) (λ kept. absurd (false≢true (sym kept))) step_failed (λ told. time told (Err Media) works) safe_failed (inr (λ told living. absurd (false≢true (sym living ∙ died))))
 
   module _ (f : TableFault) (works : Did tells (Opens p.store.shape) index table t call p q (Err f)) (due : (let r : Result Reply TableFault = Err f in IsErrOf r Media → IsTrue (uses_index call))) (live : new.live ≡ s.live) where
-    pub refused_keeps : IsKept tells Opens index q count' rows new
-    refused_keeps = go f works due
-      where
-        go : (f : TableFault) → Did tells (Opens p.store.shape) index table t call p q (Err f) → (let r : Result Reply TableFault = Err f in IsErrOf r Media → IsTrue (uses_index call)) → IsKept tells Opens index q count' rows new
-        go Media works due = media_keeps works (due refl) live
-        go (SlotsFull n) works due = well_keeps (SlotsFull n) works live refl
-        go (PagesFull n) works due = well_keeps (PagesFull n) works live refl
-        go SavesFull works due = well_keeps SavesFull works live refl
-        go (LogFull g h n) works due = well_keeps (LogFull g h n) works live refl
-        go Dead works due = well_keeps Dead works live refl
-        go (Damaged page) works due = well_keeps (Damaged page) works live refl
-        go NoMemory works due = well_keeps NoMemory works live refl
-
-    pub refused_steps : Steps tells t (OnTable call) (core_over Opens index p.store s) (core_over Opens index q.store new) (reply_to f)
-    refused_steps = go f works due
+    refused_both : IsKept tells Opens index q count' rows new × Steps tells t (OnTable call) (core_over Opens index p.store s) (core_over Opens index q.store new) (reply_to f)
+    refused_both = go f works due
       where
         go : (f : TableFault) → Did tells (Opens p.store.shape) index table t call p q (Err f) → (let r : Result Reply TableFault = Err f in IsErrOf r Media → IsTrue (uses_index call))
-            → Steps tells t (OnTable call) (core_over Opens index p.store s) (core_over Opens index q.store new) (reply_to f)
-        go Media works due = media_steps works (due refl) live
-        go (SlotsFull n) works due = well_steps (SlotsFull n) works live refl
-        go (PagesFull n) works due = well_steps (PagesFull n) works live refl
-        go SavesFull works due = well_steps SavesFull works live refl
-        go (LogFull g h n) works due = well_steps (LogFull g h n) works live refl
-        go Dead works due = well_steps Dead works live refl
-        go (Damaged page) works due = well_steps (Damaged page) works live refl
-        go NoMemory works due = well_steps NoMemory works live refl
+            → IsKept tells Opens index q count' rows new × Steps tells t (OnTable call) (core_over Opens index p.store s) (core_over Opens index q.store new) (reply_to f)
+        go Media works due = (media_keeps works (due refl) live, media_steps works (due refl) live)
+        go (SlotsFull n) works due = (well_keeps (SlotsFull n) works live refl, well_steps (SlotsFull n) works live refl)
+        go (PagesFull n) works due = (well_keeps (PagesFull n) works live refl, well_steps (PagesFull n) works live refl)
+        go SavesFull works due = (well_keeps SavesFull works live refl, well_steps SavesFull works live refl)
+        go (LogFull g h n) works due = (well_keeps (LogFull g h n) works live refl, well_steps (LogFull g h n) works live refl)
+        go Dead works due = (well_keeps Dead works live refl, well_steps Dead works live refl)
+        go (Damaged page) works due = (well_keeps (Damaged page) works live refl, well_steps (Damaged page) works live refl)
+        go NoMemory works due = (well_keeps NoMemory works live refl, well_steps NoMemory works live refl)
+
+    pub refused_keeps : IsKept tells Opens index q count' rows new
+    refused_keeps = refused_both.0
+
+    pub refused_steps : Steps tells t (OnTable call) (core_over Opens index p.store s) (core_over Opens index q.store new) (reply_to f)
+    refused_steps = refused_both.1

@@ -48,7 +48,7 @@ use Rattle.mars_core.specs.Over.{index_of}
 use Rattle.record_slots.specs.Names.{names_in, number_of}
 use Rattle.record_table.specs.Names.{IsCalled, names_of, key_in}
 use Rattle.index_keys.specs.Keys.{LosesKey}
-use Rattle.mars_core.specs.Purging.{Keeps, IsTouchedIn, AreFreeIn, Tried, Trail, Cleared, IsReady, ClearCause, Tries, Clears}
+use Rattle.mars_core.specs.Purging.{Keeps, IsTouchedIn, AreFreeIn, Tried, Trail, Cleared, IsReady, MayPurge, ClearCause, Spares, Tries, Clears}
 use Rattle.mars_core.specs.Seats.{Seats, calls_at, bare}
 use Rattle.mars_core.proofs.Unwritten.{unwritten}
 
@@ -258,22 +258,24 @@ module _ (tells : Bool) (Opens : List ℕ → List ℕ → Type 0) (index : belo
   -- another caller's live transaction touches it
   pub busy_tries : (holder : ℕ) → IsBusyWith (bare seats) t (Del key.table key.key) holder → Tries tells Opens index seats table key old old (Ok false)
   busy_tries holder busy = record {
-    shape = refl;
-    depth = refl;
-    mirrors = none_sent tells old.store old.store refl refl refl refl (λ fine. fine) (λ told mirrors fine. refl);
+    spares = record {
+      shape = refl;
+      depth = refl;
+      faults = λ _. (refl, refl);
+      dies = λ failed. absurd (false≢true failed);
+      state = λ told _. refl;
+      ranges = λ _ u. refl;
+      saves = λ _. refl;
+      sound = λ told _. (ready told).sound;
+      time = λ told. stays old.store.moment old.store.left_since _;
+      mirrors = none_sent tells old.store old.store refl refl refl refl (λ fine. fine) (λ told mirrors fine. refl);
+    };
     cause = tt;
-    faults = λ _. (refl, refl);
-    dies = λ failed. absurd (false≢true failed);
-    state = λ told _. refl;
     version = λ told _. refl;
     tables = λ told _. refl;
     called = called;
     small = small;
-    ranges = λ _ u. refl;
-    saves = λ _. refl;
-    sound = λ told _. (ready told).sound;
     tried = λ told. (refl, inl (holder, busy.0.1));
-    time = λ told. stays old.store.moment old.store.left_since _;
   }
 
   module _ (idle : calls_at seats t ≡ []) (free : IsFree (bare seats) t (Del key.table key.key)) where
@@ -317,22 +319,24 @@ module _ (tells : Bool) (Opens : List ℕ → List ℕ → Type 0) (index : belo
 
       pub removed_tries : (new : PagesView) (r : Result Bool TableFault) → Removes tells Opens index table t key.key old new r → Tries tells Opens index seats table key old new r
       removed_tries new r removes = record {
-        shape = removes.shape;
-        depth = removes.depth;
-        mirrors = removes.mirrors;
+        spares = record {
+          shape = removes.shape;
+          depth = removes.depth;
+          faults = removes.faults;
+          dies = removes.dies;
+          state = removes.state;
+          ranges = removes.ranges;
+          saves = λ _. removes.saves;
+          sound = removes.sound;
+          time = λ told. removes.named told alive;
+          mirrors = removes.mirrors;
+        };
         cause = cause_so new r removes;
-        faults = removes.faults;
-        dies = removes.dies;
-        state = removes.state;
         version = removes.version;
         tables = removes.tables;
         called = called;
         small = small;
-        ranges = removes.ranges;
-        saves = λ _. removes.saves;
-        sound = removes.sound;
         tried = λ told. tried_so new r told removes;
-        time = λ told. removes.named told alive;
       }
 
 -- A purge that has passed some keys, and has taken n keys out.
@@ -349,6 +353,34 @@ pub record Going (tells : Bool) (Opens : List ℕ → List ℕ → Type 0) (inde
   pub cleared : IsTrue tells → Cleared index seats Passed n old.store.state.bytes now.store.state.bytes
   pub time : IsTrue tells → LeavesOnly (λ image. OpensAs Opens index image old.store.state.bytes (state_of index old).table) old.store now.store
   pub mirrors : Mirrors tells old.store now.store
+
+-- what it has spared
+going_spares : (tells : Bool) (Opens : List ℕ → List ℕ → Type 0) (index : below.Index) (seats : Seats) (t : ℕ) (old : PagesView) (Passed : Key → Type 0) (n : ℕ) (mid : PagesView)
+    → Going tells Opens index seats t Passed n old mid → Spares tells Opens index old mid false
+going_spares tells Opens index seats t old Passed n mid going = record {
+  shape = going.shape;
+  depth = going.depth;
+  faults = λ _. (going.dead, going.faults);
+  dies = λ failed. absurd (false≢true failed);
+  state = λ told _. going.state told;
+  ranges = λ _. going.ranges;
+  saves = λ _. going.saves;
+  sound = λ told _. (going.ready told).sound;
+  time = going.time;
+  mirrors = going.mirrors;
+}
+
+-- and its caller may go on
+pub still_may : (tells : Bool) (Opens : List ℕ → List ℕ → Type 0) (index : below.Index) (seats : Seats) (t : ℕ) (old : PagesView) (Passed : Key → Type 0) (n : ℕ) (mid : PagesView)
+    → Going tells Opens index seats t Passed n old mid → MayPurge tells index seats t old → MayPurge tells index seats t mid
+still_may tells Opens index seats t old Passed n mid going may = record {
+  inside = subst (λ (s : Shape). t < s.numbers) (sym going.shape) may.inside;
+  few = may.few;
+  alive = going.dead ∙ may.alive;
+  idle = may.idle;
+  unheld = going.ranges t ∙ may.unheld;
+  ready = going.ready;
+}
 
 -- a further refusal
 abbrev refusal : TableFault → Result ℕ TableFault
@@ -418,35 +450,28 @@ module _ (tells : Bool) (Opens : List ℕ → List ℕ → Type 0) (index : belo
     pub look_refused : (Wanted : Key → Type 0) (new : PagesView) (fault : TableFault) → (let r : Result (Option ℕ) TableFault = Err fault in Looks tells Opens (is_failed r) mid new × SearchCause tells mid r)
         → Clears tells Opens index seats t Wanted old new (Err fault)
     look_refused Wanted new Media both = record {
-      shape = both.0.shape ∙ going.shape;
-      depth = both.0.depth ∙ going.depth;
-      mirrors = sent_then tells old.store mid.store new.store going.mirrors both.0.mirrors;
+      spares = record {
+        shape = both.0.shape ∙ going.shape;
+        depth = both.0.depth ∙ going.depth;
+        faults = λ well. absurd (false≢true (sym well));
+        dies = λ _. let dies = both.0.dies refl in (dies.0, subst (λ (k : ℕ). Rose k new.store.faults) going.faults dies.1);
+        state = λ told well. absurd (false≢true (sym well));
+        ranges = λ well. absurd (false≢true (sym well));
+        saves = λ well. absurd (false≢true (sym well));
+        sound = λ told live. absurd (false≢true (sym live ∙ (both.0.dies refl).0));
+        time = look_time new true both.0;
+        mirrors = sent_then tells old.store mid.store new.store going.mirrors both.0.mirrors;
+      };
       cause = tt;
-      faults = λ well. absurd (false≢true (sym well));
-      dies = λ _. let dies = both.0.dies refl in (dies.0, subst (λ (k : ℕ). Rose k new.store.faults) going.faults dies.1);
-      state = λ told well. absurd (false≢true (sym well));
-      ranges = λ well. absurd (false≢true (sym well));
-      saves = λ well. absurd (false≢true (sym well));
-      sound = λ told live. absurd (false≢true (sym live ∙ (both.0.dies refl).0));
       ready = λ told. tt;
       cleared = λ told. tt;
-      time = look_time new true both.0;
     }
-    look_refused Wanted new (Damaged page) both = (let now = going_look new both.0 in record {
-      shape = now.shape;
-      depth = now.depth;
-      mirrors = now.mirrors;
+    look_refused Wanted new (Damaged page) both = record {
+      spares = going_spares tells Opens index seats t old Passed n new (going_look new both.0);
       cause = both.1.1;
-      faults = λ _. (now.dead, now.faults);
-      dies = λ failed. absurd (false≢true failed);
-      state = λ told _. now.state told;
-      ranges = λ _. now.ranges;
-      saves = λ _. now.saves;
-      sound = λ told _. (now.ready told).sound;
       ready = λ told. tt;
       cleared = λ told. tt;
-      time = now.time;
-    })
+    }
     look_refused Wanted new Dead both = absurd (false≢true (sym living ∙ both.1))
     look_refused Wanted new (SlotsFull k) both = absurd both.1
     look_refused Wanted new (PagesFull k) both = absurd both.1
@@ -458,19 +483,10 @@ module _ (tells : Bool) (Opens : List ℕ → List ℕ → Type 0) (index : belo
     pub all_tried : (Wanted : Key → Type 0) → (IsTrue tells → (key : Key) → Wanted key → IsAbsent index mid.store.state.bytes key → Passed key) → (IsTrue tells → (key : Key) → Passed key → Wanted key)
         → Clears tells Opens index seats t Wanted old mid (Ok n)
     all_tried Wanted passed among = record {
-      shape = going.shape;
-      depth = going.depth;
-      mirrors = going.mirrors;
+      spares = going_spares tells Opens index seats t old Passed n mid going;
       cause = tt;
-      faults = λ _. (going.dead, going.faults);
-      dies = λ failed. absurd (false≢true failed);
-      state = λ told _. going.state told;
-      ranges = λ _. going.ranges;
-      saves = λ _. going.saves;
-      sound = λ told _. (going.ready told).sound;
       ready = λ told. going.ready told;
       cleared = λ told. cleared_as index seats old.store.state.bytes mid.store.state.bytes Passed n (going.cleared told) Wanted (passed told) (among told);
-      time = going.time;
     }
 
     later_time : (new : PagesView) → (IsTrue tells → LeavesOnly (λ image. OpensAs Opens index image mid.store.state.bytes (state_of index mid).table) mid.store new.store) → IsTrue tells
@@ -483,6 +499,21 @@ module _ (tells : Bool) (Opens : List ℕ → List ℕ → Type 0) (index : belo
       named = opens.named ∙ going.named told;
       shows = opens.shows ∙ same_table told;
     }) (time told))
+
+    -- and what is spared still
+    spares_then : (new : PagesView) (failed : Bool) → Spares tells Opens index mid new failed → Spares tells Opens index old new failed
+    spares_then new failed spares = record {
+      shape = spares.shape ∙ going.shape;
+      depth = spares.depth ∙ going.depth;
+      faults = λ well. let kept = spares.faults well in (kept.0 ∙ going.dead, kept.1 ∙ going.faults);
+      dies = λ ill. let dies = spares.dies ill in (dies.0, subst (λ (k : ℕ). Rose k new.store.faults) going.faults dies.1);
+      state = λ told well. spares.state told well ∙ going.state told;
+      ranges = λ well u. spares.ranges well u ∙ going.ranges u;
+      saves = λ well. spares.saves well ∙ going.saves;
+      sound = spares.sound;
+      time = later_time new spares.time;
+      mirrors = sent_then tells old.store mid.store new.store going.mirrors spares.mirrors;
+    }
 
     cause_of : (T : Type 0) (f : TableFault) → (let r : Result T TableFault = Err f in ClearCause tells r) → ClearCause tells (refusal f)
     cause_of T Media cause = tt
@@ -505,7 +536,7 @@ module _ (tells : Bool) (Opens : List ℕ → List ℕ → Type 0) (index : belo
         one_more told = tried_clears index seats mid.store.state.bytes new.store.state.bytes table key (going.ready told).sound (tries.called told) (ap names_in (tries.tables told refl)) (absent told) was (tries.tried told)
 
         table_still : IsTrue tells → table_of index new.store.state.bytes ≡ table_of index mid.store.state.bytes
-        table_still told = ap (λ (s : TableState). s.table) (tries.state told refl)
+        table_still told = ap (λ (s : TableState). s.table) (tries.spares.state told refl)
 
         -- a key that is absent then was so before
         pub was_absent : IsTrue tells → (one : Key) → IsAbsent index new.store.state.bytes one → IsAbsent index mid.store.state.bytes one
@@ -516,27 +547,27 @@ module _ (tells : Bool) (Opens : List ℕ → List ℕ → Type 0) (index : belo
 
         pub going_on : (IsTrue tells → (one : Key) → Passed one → ComesBefore seats.names one key) → Going tells Opens index seats t (λ one. Passed one ⊎ (one ≡ key)) (n + one_if was) old new
         going_on before =
-            let well = tries.faults refl in
+            let well = tries.spares.faults refl in
             record {
-              shape = tries.shape ∙ going.shape;
-              depth = tries.depth ∙ going.depth;
-              mirrors = sent_then tells old.store mid.store new.store going.mirrors tries.mirrors;
+              shape = tries.spares.shape ∙ going.shape;
+              depth = tries.spares.depth ∙ going.depth;
+              mirrors = sent_then tells old.store mid.store new.store going.mirrors tries.spares.mirrors;
               dead = well.0 ∙ going.dead;
               faults = well.1 ∙ going.faults;
-              ranges = λ u. tries.ranges refl u ∙ going.ranges u;
-              saves = tries.saves refl ∙ going.saves;
+              ranges = λ u. tries.spares.ranges refl u ∙ going.ranges u;
+              saves = tries.spares.saves refl ∙ going.saves;
               ready = λ told. let r = going.ready told in record {
-                sound = tries.sound told (well.0 ∙ living);
+                sound = tries.spares.sound told (well.0 ∙ living);
                 version = tries.version told refl ∙ r.version;
                 named = ap names_in (tries.tables told refl) ∙ r.named;
-                logs = λ u. ap (λ (s : TableState). s.logs u) (tries.state told refl) ∙ r.logs u;
-                slots = omega (arith, r.slots, fewer_slots was (tries.tried told), ap slots_of tries.shape);
+                logs = λ u. ap (λ (s : TableState). s.logs u) (tries.spares.state told refl) ∙ r.logs u;
+                slots = omega (arith, r.slots, fewer_slots was (tries.tried told), ap slots_of tries.spares.shape);
               };
               named = λ told. ap names_in (tries.tables told refl) ∙ going.named told;
-              state = λ told. tries.state told refl ∙ going.state told;
+              state = λ told. tries.spares.state told refl ∙ going.state told;
               cleared = λ told. cleared_then index seats old.store.state.bytes mid.store.state.bytes Passed n (going.cleared told) new.store.state.bytes (λ one. one ≡ key) (one_if was) (one_more told) (same_table told) (table_still told)
                   (λ one other passed is. subst (ComesBefore seats.names one) (sym is) (before told one passed));
-              time = later_time new tries.time;
+              time = later_time new tries.spares.time;
             }
 
         -- the count has room for it
@@ -550,41 +581,32 @@ module _ (tells : Bool) (Opens : List ℕ → List ℕ → Type 0) (index : belo
       -- it was refused
       pub try_refused : (Wanted : Key → Type 0) (fault : TableFault) → Tries tells Opens index seats table key mid new (Err fault) → Clears tells Opens index seats t Wanted old new (Err fault)
       try_refused Wanted fault tries = record {
-        shape = tries.shape ∙ going.shape;
-        depth = tries.depth ∙ going.depth;
-        mirrors = sent_then tells old.store mid.store new.store going.mirrors tries.mirrors;
+        spares = spares_then new _ tries.spares;
         cause = cause_of Bool fault tries.cause;
-        faults = λ well. let kept = tries.faults well in (kept.0 ∙ going.dead, kept.1 ∙ going.faults);
-        dies = λ failed. let dies = tries.dies failed in (dies.0, subst (λ (k : ℕ). Rose k new.store.faults) going.faults dies.1);
-        state = λ told well. tries.state told well ∙ going.state told;
-        ranges = λ well u. tries.ranges well u ∙ going.ranges u;
-        saves = λ well. tries.saves well ∙ going.saves;
-        sound = tries.sound;
         ready = λ told. tt;
         cleared = λ told. tt;
-        time = later_time new tries.time;
       }
 
     -- a table was cleared
     module _ (new : PagesView) (More : Key → Type 0) where
       module _ (m : ℕ) (clears : Clears tells Opens index seats t More mid new (Ok m)) where
         table_after : IsTrue tells → table_of index new.store.state.bytes ≡ table_of index mid.store.state.bytes
-        table_after told = ap (λ (s : TableState). s.table) (clears.state told refl)
+        table_after told = ap (λ (s : TableState). s.table) (clears.spares.state told refl)
 
         pub going_more : (IsTrue tells → (one other : Key) → Passed one → More other → ComesBefore seats.names one other) → Going tells Opens index seats t (λ one. Passed one ⊎ More one) (n + m) old new
         going_more before = record {
-          shape = clears.shape ∙ going.shape;
-          depth = clears.depth ∙ going.depth;
-          mirrors = sent_then tells old.store mid.store new.store going.mirrors clears.mirrors;
-          dead = (clears.faults refl).0 ∙ going.dead;
-          faults = (clears.faults refl).1 ∙ going.faults;
-          ranges = λ u. clears.ranges refl u ∙ going.ranges u;
-          saves = clears.saves refl ∙ going.saves;
+          shape = clears.spares.shape ∙ going.shape;
+          depth = clears.spares.depth ∙ going.depth;
+          mirrors = sent_then tells old.store mid.store new.store going.mirrors clears.spares.mirrors;
+          dead = (clears.spares.faults refl).0 ∙ going.dead;
+          faults = (clears.spares.faults refl).1 ∙ going.faults;
+          ranges = λ u. clears.spares.ranges refl u ∙ going.ranges u;
+          saves = clears.spares.saves refl ∙ going.saves;
           ready = λ told. clears.ready told;
           named = λ told. (clears.ready told).named ∙ sym (going.ready told).named ∙ going.named told;
-          state = λ told. clears.state told refl ∙ going.state told;
+          state = λ told. clears.spares.state told refl ∙ going.state told;
           cleared = λ told. cleared_then index seats old.store.state.bytes mid.store.state.bytes Passed n (going.cleared told) new.store.state.bytes More m (clears.cleared told) (same_table told) (table_after told) (before told);
-          time = later_time new clears.time;
+          time = later_time new clears.spares.time;
         }
 
         pub counted_more : IsTrue tells → IsReady index seats t old → n + m < 2 ^ 32
@@ -595,19 +617,10 @@ module _ (tells : Bool) (Opens : List ℕ → List ℕ → Type 0) (index : belo
 
       pub more_refused : (Wanted : Key → Type 0) (fault : TableFault) → Clears tells Opens index seats t More mid new (Err fault) → Clears tells Opens index seats t Wanted old new (Err fault)
       more_refused Wanted fault clears = record {
-        shape = clears.shape ∙ going.shape;
-        depth = clears.depth ∙ going.depth;
-        mirrors = sent_then tells old.store mid.store new.store going.mirrors clears.mirrors;
+        spares = spares_then new _ clears.spares;
         cause = clears.cause;
-        faults = λ well. let kept = clears.faults well in (kept.0 ∙ going.dead, kept.1 ∙ going.faults);
-        dies = λ failed. let dies = clears.dies failed in (dies.0, subst (λ (k : ℕ). Rose k new.store.faults) going.faults dies.1);
-        state = λ told well. clears.state told well ∙ going.state told;
-        ranges = λ well u. clears.ranges well u ∙ going.ranges u;
-        saves = λ well. clears.saves well ∙ going.saves;
-        sound = clears.sound;
         ready = λ told. tt;
         cleared = λ told. tt;
-        time = later_time new clears.time;
       }
 
 -- the same purge, told by another count that is equal and by keys of which none more was passed

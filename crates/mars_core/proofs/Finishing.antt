@@ -9,7 +9,6 @@ use Rattle.mars_base.proofs.Going.{weaker}
 use Rattle.array_shape.specs.declared.shape.Shape.{Shape}
 use Rattle.eaw_face.specs.StoreView.{LeavesOnly}
 use Rattle.eaw_face.specs.Causes.{IsAlive}
-use Rattle.eaw_face.specs.State.{listed}
 use Rattle.page_store.specs.Index as below
 use Rattle.page_store.specs.Shown.{PagesView}
 use Rattle.history.specs.Writes.{Table, Write, all_written}
@@ -41,7 +40,6 @@ use Rattle.caller_steps.specs.Step.{Acts}
 use Rattle.caller_steps.specs.Prefix.{HasPrefix, HasPrefixOf}
 use Rattle.caller_steps.specs.Core.{IsSafe, Steps}
 use Rattle.caller_steps.proofs.Causing.{plain_cause}
-use Rattle.mars_core.proofs.Saving.{saves_one}
 use Rattle.caller_steps.proofs.Sound.{acts_sound, history_whole, one_more_whole}
 use Rattle.record_slots.specs.Names.{names_in}
 use Rattle.mars_core.specs.Over.{limits_of, index_with, OpensWithTables}
@@ -49,7 +47,7 @@ use Rattle.mars_core.specs.Held.{core_over}
 use Rattle.mars_core.specs.Kept.{Mirrors, HasHeld, IsTied, IsKept}
 use Rattle.mars_core.proofs.Mirroring.{with_one_here, mirrors_at, apart}
 use Rattle.mars_core.proofs.Entering.{room_empty}
-use Rattle.mars_core.proofs.Idle.{idle_after}
+use Rattle.mars_core.proofs.Keeping.{dead_keeps, ended_keeps}
 use Rattle.mars_core.proofs.Prefixes.{StoreLaws, opens_tied, prefix_all, prefix_more, sound_after, safe_dead, safe_alive}
 use Rattle.mars_core.proofs.Stepping.{shows_tied, ShowsPages, or_false, or_true, step_of, steps_of, steps_same, time_same}
 
@@ -190,14 +188,7 @@ module _ (tells : Bool) (Opens : Shape → List ℕ → List ℕ → Type 0) (in
       no_doubt = ap (λ (ds : List Done). new.history ++ ds) (doubt ∙ (kept.tied told alive).sound.certain living_state) ∙ append-nil new.history ∙ history
 
     pub committed_keeps : q.store.ranges t ≡ None → IsKept tells Opens index q count' rows new
-    committed_keeps free = record {
-      seats = same_count ∙ kept.seats ∙ sym (ap (λ (h : Shape). h.numbers) does.shape);
-      in_order = kept.in_order;
-      idle = λ _. idle_after p.store.ranges q.store.ranges s.live new.live t (λ u ne. (does.others u ne).0) (kept.idle alive) None live (λ _. ap (λ (o : Option (List (ℕ × ℕ))). listed o) free);
-      saves = λ _. saves_one p.counts q.counts s new t None (λ u ne. (does.others u ne).1) live (λ table. does.saves) (kept.saves alive);
-      tied = λ told _. tied_new told;
-      safe = safe_new;
-    }
+    committed_keeps free = ended_keeps tells Opens index p q s new count count' same_count rows kept does.shape safe_new alive t live does.others does.saves free tied_new
 
     pub committed_steps : (n : ℕ) → n ≡ length s.history + 1 → Steps tells t (Control Commit) (core_over Opens index p.store s) (core_over Opens index q.store new) (Committed n)
     committed_steps n n_is = subst (λ (k : ℕ). Steps tells t (Control Commit) (core_over Opens index p.store s) (core_over Opens index q.store new) (Committed k)) (sym n_is)
@@ -245,14 +236,7 @@ module _ (tells : Bool) (Opens : Shape → List ℕ → List ℕ → Type 0) (in
     safe_doubt told = let was = kept.tied told alive in safe_dead tells Opens index one p q old_laws new_laws told does.shape alive was.index_sound s new was names base history (time_doubt told)
 
     pub doubted_keeps : IsKept tells Opens index q count' rows new
-    doubted_keeps = record {
-      seats = same_count ∙ kept.seats ∙ sym (ap (λ (h : Shape). h.numbers) does.shape);
-      in_order = kept.in_order;
-      idle = λ living. absurd (false≢true (sym living ∙ (does.dies refl).0));
-      saves = λ living. absurd (false≢true (sym living ∙ (does.dies refl).0));
-      tied = λ told living. absurd (false≢true (sym living ∙ (does.dies refl).0));
-      safe = safe_doubt;
-    }
+    doubted_keeps = dead_keeps tells Opens index p q s new count count' same_count rows kept does.shape safe_doubt (does.dies refl).0
 
     pub doubted_steps : Steps tells t (Control Commit) (core_over Opens index p.store s) (core_over Opens index q.store new) reply.Media
     doubted_steps = steps_of tells Opens index p q s new t (Control Commit) reply.Media does.shape does.depth (record {
@@ -309,14 +293,7 @@ module _ (tells : Bool) (Opens : Shape → List ℕ → List ℕ → Type 0) (in
             time_same tells Opens index p q s new (state_of index p).table (state_of index p).table was does.shape was.mirrors.table was.mirrors.table names base history (does.named told alive)
 
       pub aborted_keeps : q.store.ranges t ≡ None → IsKept tells Opens index q count' rows new
-      aborted_keeps free = record {
-        seats = same_count ∙ kept.seats ∙ sym (ap (λ (h : Shape). h.numbers) does.shape);
-        in_order = kept.in_order;
-        idle = λ _. idle_after p.store.ranges q.store.ranges s.live new.live t (λ u ne. (does.others u ne).0) (kept.idle alive) None live (λ _. ap (λ (o : Option (List (ℕ × ℕ))). listed o) free);
-        saves = λ _. saves_one p.counts q.counts s new t None (λ u ne. (does.others u ne).1) live (λ table. does.saves) (kept.saves alive);
-        tied = λ told _. tied_abort told;
-        safe = safe_abort;
-      }
+      aborted_keeps free = ended_keeps tells Opens index p q s new count count' same_count rows kept does.shape safe_abort alive t live does.others does.saves free tied_abort
 
       pub aborted_steps : Steps tells t (Control Abort) (core_over Opens index p.store s) (core_over Opens index q.store new) Fine
       aborted_steps = steps_of tells Opens index p q s new t (Control Abort) Fine does.shape does.depth (record {

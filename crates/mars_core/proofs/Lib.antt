@@ -10,6 +10,7 @@ pub mod Prefixes
 pub mod Stepping
 pub mod Answering
 pub mod Saving
+pub mod Keeping
 mod Causes
 mod Staying
 pub mod Answered

@@ -186,15 +186,15 @@ module _ (tells : Bool) (Opens : Shape → List ℕ → List ℕ → Type 0) (in
 
       tied_new : (n : ℕ) → Clears tells (Opens p.store.shape) index seats t (IsOfFirst seats.names (length seats.names)) p q (Ok n) → IsAlive q.store → IsTied index q (state_at index q.store seats.names base history (live_in seats) (offers_in seats) doubt)
       tied_new n clears living =
-          let state = clears.state told refl in
+          let state = clears.spares.state told refl in
           let cleared = clears.cleared told in
           record {
-            index_sound = clears.sound told living;
+            index_sound = clears.spares.sound told living;
             version = (clears.ready told).version;
             named = sym (clears.ready told).named;
             mirrors = record { table = ap (λ (x : TableState). x.table) state ∙ was.mirrors.table; logs = λ u. ap (λ (x : TableState). x.logs u) state ∙ was.mirrors.logs u };
             sound = record { legal = was.sound.legal; certain = λ _. was.sound.certain alive; doubtful = was.sound.doubtful; groups = was.sound.groups; doubtful_groups = was.sound.doubtful_groups; right = was.sound.right; offers = was.sound.offers; apart = was.sound.apart };
-            room = λ u g. subst (λ (l : Limits). held_on l (state_at index q.store seats.names base history (live_in seats) (offers_in seats) doubt) u g ≤ l.entries) (λ i. limits_of index (sym clears.shape i) (sym clears.depth i))
+            room = λ u g. subst (λ (l : Limits). held_on l (state_at index q.store seats.names base history (live_in seats) (offers_in seats) doubt) u g ≤ l.entries) (λ i. limits_of index (sym clears.spares.shape i) (sym clears.spares.depth i))
                 (subst (λ (k : ℕ). k ≤ p.store.shape.entries)
                 (sym (ap length (all_lost (limits_of index p.store.shape p.store.depth) g index seats p.store.state.bytes u (index_of index p.store.state.bytes) (index_of index q.store.state.bytes) cleared.keys cleared.lost cleared.free))) (was.room u g));
           }
@@ -202,31 +202,31 @@ module _ (tells : Bool) (Opens : Shape → List ℕ → List ℕ → Type 0) (in
       -- Where the store tells its data, nothing but a fault of the medium refuses a purge.
       tied_of : (r : Result ℕ TableFault) → Clears tells (Opens p.store.shape) index seats t (IsOfFirst seats.names (length seats.names)) p q r → IsAlive q.store → IsTied index q (state_at index q.store seats.names base history (live_in seats) (offers_in seats) doubt)
       tied_of (Ok n) clears living = tied_new n clears living
-      tied_of (Err Media) clears living = absurd (false≢true (sym living ∙ (clears.dies refl).0))
+      tied_of (Err Media) clears living = absurd (false≢true (sym living ∙ (clears.spares.dies refl).0))
       tied_of (Err (Damaged page)) clears living = absurd (clears.cause told)
       tied_of _ clears living = absurd clears.cause
 
     module _ (r : Result ℕ TableFault) (clears : Clears tells (Opens p.store.shape) index seats t (IsOfFirst seats.names (length seats.names)) p q r) where
       time_now : IsTrue tells → LeavesOnly (HasPrefixOf (OpensWithTables (Opens q.store.shape) index seats.names) (state_at index q.store seats.names base history (live_in seats) (offers_in seats) doubt) (length history)) p.store q.store
-      time_now told = time_same tells Opens index p q s new (state_of index p).table (state_of index p).table (was told) clears.shape (was told).mirrors.table (was told).mirrors.table refl refl refl
-          (weaker (λ image opens. inl opens) (clears.time told))
+      time_now told = time_same tells Opens index p q s new (state_of index p).table (state_of index p).table (was told) clears.spares.shape (was told).mirrors.table (was told).mirrors.table refl refl refl
+          (weaker (λ image opens. inl opens) (clears.spares.time told))
 
       safe_now : (b : Bool) → q.store.is_dead ≡ b → IsTrue tells → IsSafe (core_over Opens index q.store (state_at index q.store seats.names base history (live_in seats) (offers_in seats) doubt)) q.store.moment (length history)
       safe_now false living told = safe_alive tells Opens index q new_laws (state_at index q.store seats.names base history (live_in seats) (offers_in seats) doubt) told living (tied_of told r clears living)
-      safe_now true dead told = safe_dead tells Opens index one p q old_laws new_laws told clears.shape alive (was told).index_sound s new (was told) refl refl refl (time_now told)
+      safe_now true dead told = safe_dead tells Opens index one p q old_laws new_laws told clears.spares.shape alive (was told).index_sound s new (was told) refl refl refl (time_now told)
 
       not_failed : IsAlive q.store → IsFalse (is_failed r)
       not_failed living = elim (cases_Bool (is_failed r)) [
-        | inl failed ↦ absurd (false≢true (sym living ∙ (clears.dies failed).0))
+        | inl failed ↦ absurd (false≢true (sym living ∙ (clears.spares.dies failed).0))
         | inr well ↦ well
       ]
 
       pub purged_keeps : IsKept tells Opens index q count rows (state_at index q.store seats.names base history (live_in seats) (offers_in seats) doubt)
       purged_keeps = record {
-        seats = kept.seats ∙ ap (λ (x : Shape). x.numbers) (sym clears.shape);
+        seats = kept.seats ∙ ap (λ (x : Shape). x.numbers) (sym clears.spares.shape);
         in_order = kept.in_order;
-        idle = λ living u none. clears.ranges (not_failed living) u ∙ kept.idle alive u none;
-        saves = λ living. saves_same p.counts q.counts s new (λ u. ap (λ (f : ℕ → List ℕ). length (f u)) (clears.saves (not_failed living))) refl (kept.saves alive);
+        idle = λ living u none. clears.spares.ranges (not_failed living) u ∙ kept.idle alive u none;
+        saves = λ living. saves_same p.counts q.counts s new (λ u. ap (λ (f : ℕ → List ℕ). length (f u)) (clears.spares.saves (not_failed living))) refl (kept.saves alive);
         tied = λ told living. tied_of told r clears living;
         safe = safe_now q.store.is_dead refl;
       }
@@ -273,11 +273,11 @@ module _ (tells : Bool) (Opens : Shape → List ℕ → List ℕ → Type 0) (in
 
     -- the same callers over another index
     still : (r : Result ℕ TableFault) → IsFalse (is_failed r) → Clears tells (Opens p.store.shape) index seats t (IsOfFirst seats.names (length seats.names)) p q r → new ≡ record s { index = index_of index q.store.state.bytes }
-    still r well clears = λ i. record new { is_dead = (clears.faults well).0 i }
+    still r well clears = λ i. record new { is_dead = (clears.spares.faults well).0 i }
 
     -- and dead after a fault of the medium
     dying : (let r : Result ℕ TableFault = Err Media in Clears tells (Opens p.store.shape) index seats t (IsOfFirst seats.names (length seats.names)) p q r) → new ≡ record s { index = index_of index q.store.state.bytes; is_dead = true }
-    dying clears = λ i. record new { is_dead = (clears.dies refl).0 i }
+    dying clears = λ i. record new { is_dead = (clears.spares.dies refl).0 i }
 
     moves_of : (r : Result ℕ TableFault) → Clears tells (Opens p.store.shape) index seats t (IsOfFirst seats.names (length seats.names)) p q r → Moves p.store.shape.numbers s t (call.Control Purge) (outcome r) new
     moves_of (Ok n) clears = fate_moves p.store.shape.numbers s t (call.Control Purge) (reply.Purged n) new (fates.purged n un none refl refl (index_of index q.store.state.bytes) (still (Ok n) refl clears))
@@ -289,7 +289,7 @@ module _ (tells : Bool) (Opens : Shape → List ℕ → List ℕ → Type 0) (in
     purge_step (Ok n) clears told =
         let cleared = clears.cleared told in
         let ready_then = clears.ready told in
-        let table = ap (λ (x : TableState). x.table) (clears.state told refl) ∙ (was told).mirrors.table in
+        let table = ap (λ (x : TableState). x.table) (clears.spares.state told refl) ∙ (was told).mirrors.table in
         step_of (limits_of index p.store.shape p.store.depth) None s new t (call.Control Purge) (reply.Purged n) alive none un (inl (
           n,
           refl,
@@ -301,7 +301,7 @@ module _ (tells : Bool) (Opens : Shape → List ℕ → List ℕ → Type 0) (in
               | inl tried ↦ tried
               | inr there ↦ (let at = named_key index q.store.state.bytes key there in
                   cleared.all key (at.0, subst (λ (ns : List (List ℕ)). at.0 < length ns) ready_then.named at.1, ap (λ (ns : List (List ℕ)). slice_get ns at.0) (sym ready_then.named) ∙ at.2, small)
-                  (there, ap (λ (x : TableState). get x.table key) (clears.state told refl) ∙ (was_absent told key is).1))
+                  (there, ap (λ (x : TableState). get x.table key) (clears.spares.state told refl) ∙ (was_absent told key is).1))
             ];
             count = cleared.count ∙ ap length cleared.keys_are;
             index = index_of index q.store.state.bytes;
@@ -340,7 +340,7 @@ module _ (tells : Bool) (Opens : Shape → List ℕ → List ℕ → Type 0) (in
 
     module _ (r : Result ℕ TableFault) (clears : Clears tells (Opens p.store.shape) index seats t (IsOfFirst seats.names (length seats.names)) p q r) where
       pub purged_steps : Steps tells t (call.Control Purge) (core_over Opens index p.store s) (core_over Opens index q.store new) (outcome r)
-      purged_steps = steps_of tells Opens index p q s new t (call.Control Purge) (outcome r) clears.shape clears.depth (moves_of r clears)
+      purged_steps = steps_of tells Opens index p q s new t (call.Control Purge) (outcome r) clears.spares.shape clears.spares.depth (moves_of r clears)
           (plain_cause (limits_of index p.store.shape p.store.depth) s t (call.Control Purge) alive (ap not free_caller) refl (outcome r) (cleared_cause r clears.cause))
-          (λ ill. (clears.dies (sym (failed_is r clears.cause) ∙ ill)).1) (λ well. (clears.faults (sym (failed_is r clears.cause) ∙ well)).1)
+          (λ ill. (clears.spares.dies (sym (failed_is r clears.cause) ∙ ill)).1) (λ well. (clears.spares.faults (sym (failed_is r clears.cause) ∙ well)).1)
           (purge_step r clears) (time_now r clears) (purged_keeps r clears).safe (inr (λ told living. shows_tied index q new refl (tied_of told r clears living)))

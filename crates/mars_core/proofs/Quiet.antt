@@ -1,6 +1,6 @@
 -- A core whose store shows the same.
-use Rattle.std.proofs.Common.{◌≡◌, ℕ, Bool, inl, IsTrue, List, length, sym, ap, subst, ◌∙◌}
-use Rattle.std.specs.Prelude.{◌↔◌, Option}
+use Rattle.std.proofs.Common.{◌≡◌, ℕ, Bool, IsTrue, List, length, sym, ap, subst, ◌∙◌}
+use Rattle.std.specs.Prelude.{Option}
 use Rattle.array_shape.specs.declared.shape.Shape.{Shape}
 use Rattle.eaw_face.specs.State as store
 use Rattle.eaw_face.specs.State.{listed}
@@ -18,9 +18,9 @@ use Rattle.record_table.specs.State.{TableState}
 use Rattle.record_table.proofs.Moving.{shown_same}
 use Rattle.caller_steps.specs.State.{State, Offer}
 use Rattle.caller_steps.specs.Prefix.{HasPrefixOf}
-use Rattle.caller_steps.specs.Core.{CoreView, IsSafe, Continues}
+use Rattle.caller_steps.specs.Core.{CoreView, Continues}
 use Rattle.caller_steps.specs.Sound.{IsSound}
-use Rattle.caller_steps.proofs.Continuing.{continues_none}
+use Rattle.caller_steps.proofs.Continuing.{continues_as}
 use Rattle.mars_core.specs.Over.{limits_of, index_of, OpensWithTables}
 use Rattle.mars_core.specs.Held.{Held, core_of, core_over, state_at, state_over}
 use Rattle.mars_core.specs.Kept.{HasHeld, IsKept}
@@ -57,27 +57,6 @@ module _ (tells : Bool) (Opens : Shape → List ℕ → List ℕ → Type 0) (in
             subst (λ (h : Shape). HasPrefixOf (OpensWithTables (Opens h) index names) s (length history) image) (sym same.shape)
             (kept.safe told image (subst (λ (m : ℕ). p.store.left_since m image) same.moment ((same.left q.store.moment image).0 left)));
       })
-
--- it goes on, if only what might have been left is told in another way
-continues_as : (core : CoreView) (left : ℕ → List ℕ → Type 0) → ((t : ℕ) (image : List ℕ) → left t image ↔ core.left_since t image) → IsSound core.state → IsSafe core core.moment (length core.state.history)
-    → Continues core (record core { left_since = left })
-continues_as core left same sound safe =
-    let none = continues_none core sound safe in
-    record {
-      limits = none.limits;
-      names = none.names;
-      base = none.base;
-      opens = none.opens;
-      grows = none.grows;
-      doubtful = none.doubtful;
-      sound = none.sound;
-      time = record {
-        later = none.time.later;
-        keeps = λ t image le was. (same t image).1 was;
-        only = λ t image le was. inl ((same t image).0 was);
-      };
-      now = λ image was. none.now image ((same core.moment image).0 was);
-    }
 
 module _ {S : Type 0} (tells : Bool) (Opens : Shape → List ℕ → List ℕ → Type 0) (index : Index) (old new : StoreView) (same : ShowsSame old new) (was is : Held S) (rest : is ≡ record was { records = is.records }) where
   core_is : core_of Opens index new is ≡ record (core_of Opens index old was) { left_since = new.left_since }

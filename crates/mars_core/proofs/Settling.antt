@@ -48,6 +48,7 @@ use Rattle.caller_steps.proofs.Grouped.{group_whole}
 use Rattle.caller_steps.proofs.Leaving.{group_records, calls_in_group, calls_apart}
 use Rattle.mars_core.specs.Over.{limits_of, index_with, OpensWithTables}
 use Rattle.mars_core.specs.Held.{core_over}
+use Rattle.mars_core.proofs.Keeping.{dead_keeps, still_keeps}
 use Rattle.mars_core.proofs.Saving.{saves_in, saves_same}
 use Rattle.mars_core.proofs.Causes.{settle_cause, told_cause, closed_may, misplaced_is}
 use Rattle.mars_core.specs.Kept.{Mirrors, HaveSaves, HasHeld, IsTied, IsKept}
@@ -205,14 +206,7 @@ module _ (tells : Bool) (Opens : Shape → List ℕ → List ℕ → Type 0) (in
         go false out = ap (λ (counts : List ℕ). length counts) (does.others u out).1 ∙ kept.saves alive u table ∙ ap (saves_in table) (sym (calls_there u out))
 
     pub settled_keeps : IsKept tells Opens index q count' rows new
-    settled_keeps = record {
-      seats = same_count ∙ kept.seats ∙ sym (ap (λ (h : Shape). h.numbers) does.shape);
-      in_order = kept.in_order;
-      idle = λ _. idle_new;
-      saves = λ _. saves_new;
-      tied = λ told _. tied_new told;
-      safe = safe_new;
-    }
+    settled_keeps = still_keeps tells Opens index p q s new count count' same_count rows kept does.shape safe_new idle_new saves_new tied_new
 
     pub settled_steps : (n : ℕ) → n ≡ number_among (length s.history + 1) os t → Steps tells t (call.Control control.Settle) (core_over Opens index p.store s) (core_over Opens index q.store new) (Committed n)
     settled_steps n n_is = subst (λ (k : ℕ). Steps tells t (call.Control control.Settle) (core_over Opens index p.store s) (core_over Opens index q.store new) (Committed k)) (sym n_is)
@@ -254,14 +248,7 @@ module _ (tells : Bool) (Opens : Shape → List ℕ → List ℕ → Type 0) (in
         safe_dead tells Opens index one p q old_laws new_laws so does.shape alive was.index_sound s new was names base history (time_lost so)
 
     pub lost_keeps : IsKept tells Opens index q count' rows new
-    lost_keeps = record {
-      seats = same_count ∙ kept.seats ∙ sym (ap (λ (h : Shape). h.numbers) does.shape);
-      in_order = kept.in_order;
-      idle = λ living. absurd (false≢true (sym living ∙ (does.dies refl).0));
-      saves = λ living. absurd (false≢true (sym living ∙ (does.dies refl).0));
-      tied = λ so living. absurd (false≢true (sym living ∙ (does.dies refl).0));
-      safe = safe_lost;
-    }
+    lost_keeps = dead_keeps tells Opens index p q s new count count' same_count rows kept does.shape safe_lost (does.dies refl).0
 
     pub lost_steps : Steps tells t (call.Control control.Settle) (core_over Opens index p.store s) (core_over Opens index q.store new) reply.Media
     lost_steps = steps_of tells Opens index p q s new t (call.Control control.Settle) reply.Media does.shape does.depth

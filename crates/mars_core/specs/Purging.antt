@@ -91,6 +91,15 @@ pub record IsReady (index : Index) (seats : Seats) (t : ℕ) (p : PagesView) : T
   pub logs : (caller : ℕ) → (state_of index p).logs caller ≡ log_of (calls_at seats caller)
   pub slots : used_slots p.store.state.bytes ≤ slots_of p.store.shape
 
+-- a caller that may purge: it has no live transaction, nothing is logged of it, and the store is not dead
+pub record MayPurge (tells : Bool) (index : Index) (seats : Seats) (t : ℕ) (p : PagesView) : Type 0 where
+  pub inside : t < p.store.shape.numbers
+  pub few : length seats.places ≤ 64
+  pub alive : IsAlive p.store
+  pub idle : calls_at seats t ≡ []
+  pub unheld : listed (p.store.ranges t) ≡ []
+  pub ready : IsTrue tells → IsReady index seats t p
+
 -- what may stop it: a fault of the medium, or a page that breaks the layout, where the store does not tell its data
 abbrev pub ClearCause : {T : Type 0} → Bool → Result T TableFault → Type 0
 ClearCause tells (Ok n) = Unit {0}
@@ -98,38 +107,32 @@ ClearCause tells (Err Media) = Unit {0}
 ClearCause tells (Err (Damaged page)) = ¬ IsTrue tells
 ClearCause tells (Err fault) = ⊥
 
--- One key of the table with this number was tried. Records, writes and saves are as they were, and so is all that a purge rests on.
-pub record Tries (tells : Bool) (Opens : List ℕ → List ℕ → Type 0) (index : Index) (seats : Seats) (table : ℕ) (key : Key) (old new : PagesView) (result : Result Bool TableFault) : Type 0 where
+-- Records, writes and saves are as they were, unless the medium failed, and what might be left meanwhile has these records.
+pub record Spares (tells : Bool) (Opens : List ℕ → List ℕ → Type 0) (index : Index) (old new : PagesView) (failed : Bool) : Type 0 where
   pub shape : new.store.shape ≡ old.store.shape
   pub depth : new.store.depth ≡ old.store.depth
+  pub faults : IsFalse failed → (new.store.is_dead ≡ old.store.is_dead) × (new.store.faults ≡ old.store.faults)
+  pub dies : IsTrue failed → (new.store.is_dead ≡ true) × Rose old.store.faults new.store.faults
+  pub state : IsTrue tells → IsFalse failed → state_of index new ≡ state_of index old
+  pub ranges : IsFalse failed → (u : ℕ) → listed (new.store.ranges u) ≡ listed (old.store.ranges u)
+  pub saves : IsFalse failed → new.counts ≡ old.counts
+  pub sound : IsTrue tells → IsAlive new.store → index.sound new.store.state.bytes
+  pub time : IsTrue tells → LeavesOnly (λ image. OpensAs Opens index image old.store.state.bytes (state_of index old).table) old.store new.store
+  pub mirrors : Mirrors tells old.store new.store
+
+-- One key of the table with this number was tried. All that a purge rests on is as it was.
+pub record Tries (tells : Bool) (Opens : List ℕ → List ℕ → Type 0) (index : Index) (seats : Seats) (table : ℕ) (key : Key) (old new : PagesView) (result : Result Bool TableFault) : Type 0 where
+  pub spares : Spares tells Opens index old new (is_failed result)
   pub cause : ClearCause tells result
-  pub faults : IsFalse (is_failed result) → (new.store.is_dead ≡ old.store.is_dead) × (new.store.faults ≡ old.store.faults)
-  pub dies : IsTrue (is_failed result) → (new.store.is_dead ≡ true) × Rose old.store.faults new.store.faults
-  pub state : IsTrue tells → IsFalse (is_failed result) → state_of index new ≡ state_of index old
   pub version : IsTrue tells → IsFalse (is_failed result) → version_of new.store.state.bytes ≡ version_of old.store.state.bytes
   pub tables : IsTrue tells → IsFalse (is_failed result) → tables_of new.store.state.bytes ≡ tables_of old.store.state.bytes
   pub called : IsTrue tells → IsCalled old.store.state.bytes table key.table
   pub small : key.key < 2 ^ 64
-  pub ranges : IsFalse (is_failed result) → (u : ℕ) → listed (new.store.ranges u) ≡ listed (old.store.ranges u)
-  pub saves : IsFalse (is_failed result) → new.counts ≡ old.counts
-  pub sound : IsTrue tells → IsAlive new.store → index.sound new.store.state.bytes
   pub tried : IsTrue tells → IfOk result (Tried index seats table key old.store.state.bytes new.store.state.bytes)
-  pub time : IsTrue tells → LeavesOnly (λ image. OpensAs Opens index image old.store.state.bytes (state_of index old).table) old.store new.store
-  pub mirrors : Mirrors tells old.store new.store
 
--- Each key that was to be passed and has no record was tried once, but those that a live transaction touches. Records, writes and saves are as they
--- were, and all that a purge rests on is so still.
+-- Each key that was to be passed and has no record was tried once, but those that a live transaction touches. All that a purge rests on is so still.
 pub record Clears (tells : Bool) (Opens : List ℕ → List ℕ → Type 0) (index : Index) (seats : Seats) (t : ℕ) (Passed : Key → Type 0) (old new : PagesView) (result : Result ℕ TableFault) : Type 0 where
-  pub shape : new.store.shape ≡ old.store.shape
-  pub depth : new.store.depth ≡ old.store.depth
+  pub spares : Spares tells Opens index old new (is_failed result)
   pub cause : ClearCause tells result
-  pub faults : IsFalse (is_failed result) → (new.store.is_dead ≡ old.store.is_dead) × (new.store.faults ≡ old.store.faults)
-  pub dies : IsTrue (is_failed result) → (new.store.is_dead ≡ true) × Rose old.store.faults new.store.faults
-  pub state : IsTrue tells → IsFalse (is_failed result) → state_of index new ≡ state_of index old
-  pub ranges : IsFalse (is_failed result) → (u : ℕ) → listed (new.store.ranges u) ≡ listed (old.store.ranges u)
-  pub saves : IsFalse (is_failed result) → new.counts ≡ old.counts
-  pub sound : IsTrue tells → IsAlive new.store → index.sound new.store.state.bytes
   pub ready : IsTrue tells → IfOk result (λ n. IsReady index seats t new)
   pub cleared : IsTrue tells → IfOk result (λ n. Cleared index seats Passed n old.store.state.bytes new.store.state.bytes)
-  pub time : IsTrue tells → LeavesOnly (λ image. OpensAs Opens index image old.store.state.bytes (state_of index old).table) old.store new.store
-  pub mirrors : Mirrors tells old.store new.store

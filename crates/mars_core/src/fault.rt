@@ -25,8 +25,7 @@ impl From<CheckFault> for CoreFault {
     fn from(refused: CheckFault) -> Self {
         match refused {
             CheckFault::Damaged { page } => CoreFault::Damaged { page },
-            CheckFault::Media => CoreFault::Media,
-            CheckFault::Dead => CoreFault::Media,
+            CheckFault::Media | CheckFault::Dead => CoreFault::Media,
             CheckFault::NoMemory => CoreFault::NoMemory,
         }
     }

@@ -1,12 +1,9 @@
 // Takes keys without records out of the index, but those that live transactions touch.
-ghost use Rattle.std.specs.Prelude.{◌≡◌, ◌<◌, ◌≤◌, [], Some, IsTrue, length, slice_get};
-ghost use Rattle.eaw_face.specs.Causes.{IsAlive};
-ghost use Rattle.eaw_face.specs.State.{listed};
+ghost use Rattle.std.specs.Prelude.{◌≡◌, ◌<◌, Some, IsTrue, length, slice_get};
 ghost use Rattle.history.specs.Key.{of_table};
 ghost use Rattle.page_store.specs.Shown.{pages_of};
 ghost use Rattle.record_table.specs.Removing.{IsAbsent};
-ghost use Rattle.mars_core.specs.Purging.{IsReady, IsOfTable, IsOfFirst, Tries, Clears};
-ghost use Rattle.mars_core.specs.Seats.{calls_at};
+ghost use Rattle.mars_core.specs.Purging.{MayPurge, IsOfTable, IsOfFirst, Tries, Clears};
 
 use crate::masks::Masks;
 use crate::seats::Seats;
@@ -26,12 +23,7 @@ fn try_key<S: EawStore, K: KeyIndex, H: Keeper>(
     name: &Name,
     key: u64,
 ) -> Result<bool, TableFault>
-    requires inside { caller < (S.view records.old.store).shape.numbers }
-    requires few { length seats.now.places ≤ 64 }
-    requires alive { IsAlive (S.view records.old.store) }
-    requires idle { calls_at seats.now caller ≡ [] }
-    requires unheld { listed ((S.view records.old.store).ranges caller) ≡ [] }
-    requires ready { IsTrue S.tells → IsReady K.index seats.now caller (pages_of (S.view records.old.store) records.old) }
+    requires may { MayPurge S.tells K.index seats.now caller (pages_of (S.view records.old.store) records.old) }
     requires table { table < 8 }
     requires named { slice_get seats.now.names table ≡ Some name.now }
     requires absent { IsTrue S.tells → IsAbsent K.index (S.view records.old.store).state.bytes (of_table name.now key) }
@@ -54,12 +46,7 @@ fn clear_table<S: EawStore, K: KeyIndex, H: Keeper>(
     table: u8,
     name: &Name,
 ) -> Result<u32, TableFault>
-    requires inside { caller < (S.view records.old.store).shape.numbers }
-    requires few { length seats.now.places ≤ 64 }
-    requires alive { IsAlive (S.view records.old.store) }
-    requires idle { calls_at seats.now caller ≡ [] }
-    requires unheld { listed ((S.view records.old.store).ranges caller) ≡ [] }
-    requires ready { IsTrue S.tells → IsReady K.index seats.now caller (pages_of (S.view records.old.store) records.old) }
+    requires may { MayPurge S.tells K.index seats.now caller (pages_of (S.view records.old.store) records.old) }
     requires table { table < 8 }
     requires named { slice_get seats.now.names table ≡ Some name.now }
     ensures clears { Clears S.tells (S.opens (S.view records.old.store).shape) K.index seats.now caller (IsOfTable name.now)
@@ -87,12 +74,7 @@ pub fn clear<S: EawStore, K: KeyIndex, H: Keeper>(
     seats: &Seats<H>,
     caller: u8,
 ) -> Result<u32, TableFault>
-    requires inside { caller < (S.view records.old.store).shape.numbers }
-    requires few { length seats.now.places ≤ 64 }
-    requires alive { IsAlive (S.view records.old.store) }
-    requires idle { calls_at seats.now caller ≡ [] }
-    requires unheld { listed ((S.view records.old.store).ranges caller) ≡ [] }
-    requires ready { IsTrue S.tells → IsReady K.index seats.now caller (pages_of (S.view records.old.store) records.old) }
+    requires { MayPurge S.tells K.index seats.now caller (pages_of (S.view records.old.store) records.old) }
     ensures clears { Clears S.tells (S.opens (S.view records.old.store).shape) K.index seats.now caller (IsOfFirst seats.now.names (length seats.now.names))
         (pages_of (S.view records.old.store) records.old) (pages_of (S.view records.new.store) records.new) result }
 {

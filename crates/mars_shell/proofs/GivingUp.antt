@@ -1,5 +1,5 @@
 -- A core whose store mirrors, and gives up a frame.
-use Rattle.std.proofs.Common.{◌≡◌, ℕ, inl, List, [], length, refl, sym}
+use Rattle.std.proofs.Common.{◌≡◌, ℕ, List, [], length, refl, sym}
 use Rattle.std.specs.Prelude.{◌↔◌}
 use Rattle.std.proofs.lemmas.List.{append-nil}
 use Rattle.array_shape.specs.declared.shape.Shape.{Shape}
@@ -7,7 +7,7 @@ use Rattle.eaw_face.specs.StoreView.{StoreView}
 use Rattle.eaw_face.specs.Mirroring.{GivesUp}
 use Rattle.page_store.specs.Index.{Index}
 use Rattle.caller_steps.specs.Core.{CoreView, IsSafe}
-use Rattle.caller_steps.proofs.Continuing.{continues_none}
+use Rattle.caller_steps.proofs.Continuing.{continues_as}
 use Rattle.mars_core.specs.Held.{Held, core_of, core_over, state_over}
 use Rattle.mars_shell.specs.Standing.{Progress, Stands, Comes}
 
@@ -29,28 +29,12 @@ module _ (core : CoreView) (left : ℕ → List ℕ → Type 0) (same : (t : ℕ
   }
 
   pub comes_on : (progress : Progress) → Stands core progress → Comes core progress after progress
-  comes_on progress stands =
-      let none = continues_none core stands.sound stands.safe in
-      record {
-        more = [];
-        turns_are = sym (append-nil progress.turns);
-        runs = refl;
-        continues = record {
-          limits = none.limits;
-          names = none.names;
-          base = none.base;
-          opens = none.opens;
-          grows = none.grows;
-          doubtful = none.doubtful;
-          sound = none.sound;
-          time = record {
-            later = none.time.later;
-            keeps = λ t image le was. (same t image).1 was;
-            only = λ t image le was. inl ((same t image).0 was);
-          };
-          now = safe_on core.moment (length core.state.history) none.now;
-        };
-      }
+  comes_on progress stands = record {
+    more = [];
+    turns_are = sym (append-nil progress.turns);
+    runs = refl;
+    continues = continues_as core left same stands.sound stands.safe;
+  }
 
 -- a core over a store that gave up a frame is as it was, but for that
 module _ {S : Type 0} (Opens : Shape → List ℕ → List ℕ → Type 0) (index : Index) (old new : StoreView) (gives : GivesUp old new) (was is : Held S) (rest : is ≡ record was { records = is.records }) where

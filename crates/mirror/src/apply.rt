@@ -80,10 +80,7 @@ pub(crate) fn apply_frame<S: EawStore>(store: &mut S, frame: &[u8]) -> Result<()
     let mut numbers = NumberSet::empty();
     for _group in 0..count {
         let (number, parts, behind) = cut_group(rest);
-        match log_parts(store, number, parts, behind) {
-            Ok(behind) => rest = behind,
-            Err(fault) => return Err(fault),
-        }
+        rest = log_parts(store, number, parts, behind)?;
         numbers = numbers.with(number);
     }
     store.commit_group(numbers)

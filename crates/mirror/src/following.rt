@@ -59,15 +59,10 @@ impl<S: EawStore> Following<S> {
         ensures moments { IsTrue S.tells → LeavesOnly (LeavesFirst S.opens (stand (S.view self.old.store) self.old.applied self.old.reader.bytes.items) (byte ∷ []))
             (S.view self.old.store) (S.view self.new.store) }
     {
-        match self.reader.take(byte) {
-            Ok(false) => return Ok(()),
-            Ok(true) => {}
-            Err(fault) => return Err(fault),
+        if !self.reader.take(byte)? {
+            return Ok(());
         }
-        match self.apply_next() {
-            Ok(()) => {}
-            Err(fault) => return Err(fault),
-        }
+        self.apply_next()?;
         self.reader.clear();
         self.applied += 1;
         Ok(())
@@ -87,9 +82,7 @@ impl<S: EawStore> Following<S> {
             (S.view self.old.store) (S.view self.new.store) }
     {
         for byte in piece {
-            if let Err(fault) = self.take(*byte) {
-                return Err(fault);
-            }
+            self.take(*byte)?;
         }
         Ok(())
     }

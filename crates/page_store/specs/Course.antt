@@ -1,5 +1,6 @@
 -- How a look goes from page to page of an index.
 use Rattle.std.specs.Prelude.{ℕ, ◌≡◌, ◌<◌, List, [], ◌∷◌, Option, Some}
+use Rattle.std.specs.List.{AllByRecursion}
 use Rattle.array_shape.specs.declared.shape.Shape.{Shape}
 use Rattle.record_slots.specs.Places.{page_bytes}
 use Rattle.page_store.specs.Pairs.{Pair}
@@ -22,13 +23,11 @@ IsWay goes (r ∷ rs) = (goes rs ≡ Some r.0) × IsWay goes rs
 
 -- these are pages of an array of so many
 abbrev pub AreThere : ℕ → List Reading → Type 0
-AreThere count [] = Unit {0}
-AreThere count (r ∷ rs) = (r.0 < count) × AreThere count rs
+AreThere count = AllByRecursion (λ r. r.0 < count)
 
 -- they said what the data has there
 abbrev pub AreSaid : List ℕ → List Reading → Type 0
-AreSaid bytes [] = Unit {0}
-AreSaid bytes (r ∷ rs) = (r.1 ≡ page_bytes bytes r.0) × AreSaid bytes rs
+AreSaid bytes = AllByRecursion (λ r. r.1 ≡ page_bytes bytes r.0)
 
 -- a page of level 0 with its link and its pairs
 pub record LeafSaid : Type 0 where

@@ -1,5 +1,6 @@
 -- What the test of an index reads, and what it comes to. All of it is known of any store, also of one that does not tell its data.
 use Rattle.std.specs.Prelude.{ℕ, ◌≡◌, ◌≢◌, ◌+◌, ◌<◌, ◌≤◌, ◌⊎◌, Bool, true, false, IsTrue, IsFalse, List, [], ◌∷◌, ◌++◌, Option, Some, None, IfSome, Result, Ok, Err}
+use Rattle.std.specs.List.{AllByRecursion}
 use Rattle.mars_base.specs.Bytes.{range}
 use Rattle.array_shape.specs.Places.{page_count}
 use Rattle.eaw_face.specs.Command.{Command}
@@ -52,13 +53,11 @@ excerpts_cost calls (e ∷ es) = calls (store.read (address e.page e.at) e.len) 
 
 -- they are of pages of an array of so many
 abbrev pub AreOfArray : ℕ → List Excerpt → Type 0
-AreOfArray count [] = Unit {0}
-AreOfArray count (e ∷ es) = (e.page < count) × AreOfArray count es
+AreOfArray count = AllByRecursion (λ e. e.page < count)
 
 -- they said what the data has there
 abbrev pub AreOfData : List ℕ → List Excerpt → Type 0
-AreOfData bytes [] = Unit {0}
-AreOfData bytes (e ∷ es) = (e.said ≡ range bytes (address e.page e.at) e.len) × AreOfData bytes es
+AreOfData bytes = AllByRecursion (λ e. e.said ≡ range bytes (address e.page e.at) e.len)
 
 -- one of them is of this page
 abbrev pub IsReadFrom : ℕ → List Excerpt → Type 0

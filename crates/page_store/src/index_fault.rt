@@ -50,7 +50,7 @@ impl From<PageFault> for IndexFault {
     }
 }
 
-/// Why a check of an index did not find it sound.
+/// Why a check did not find an index sound, or an attach of records did not.
 #[derive(Clone, Copy, Debug, PartialEq, Eq, Error)]
 pub enum CheckFault {
     /// This page is the first that fails.

@@ -404,15 +404,9 @@ fn read_seen<S: EawStore>(store: &mut S, tid: u8, addr: u64, buf: &mut [u8]) -> 
     ensures steady { OnOk result ((command : Command) → S.calls store.new command ≡ S.calls store.old command) }
     ensures refused { IfErr result (λ fault. fault ≢ EawFault.Media → store.new ≡ store.old) }
 {
-    match store.read(addr, buf) {
-        Ok(()) => {}
-        Err(fault) => return Err(fault),
-    }
+    store.read(addr, buf)?;
     for pos in 0..store.log_len(tid) {
-        match lay_part(store, tid, pos, addr, buf) {
-            Ok(()) => {}
-            Err(fault) => return Err(fault),
-        }
+        lay_part(store, tid, pos, addr, buf)?;
     }
     Ok(())
 }
@@ -445,10 +439,7 @@ fn lay_part<S: EawStore>(
         return Ok(());
     }
     let mut part = [0; 512];
-    match store.log_read(tid, pos, &mut part) {
-        Ok(_) => {}
-        Err(fault) => return Err(fault),
-    }
+    store.log_read(tid, pos, &mut part)?;
     let from = (first - start) as usize;
     let to = (last - start) as usize;
     overwrite(buf, (first - addr) as usize, &part[from..to]);

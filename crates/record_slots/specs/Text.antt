@@ -24,32 +24,18 @@ pub record IsName (text : List ℕ) : Type 0 where
   pub short : length text ≤ 16
   pub letters : IsTrue (list_all is_letter text)
 
--- the text at the front, and zeros behind it
-pub record IsStored (len : ℕ) (bytes : List ℕ) : Type 0 where
-  pub size : length bytes ≡ 54
-  pub fits : len ≤ 54
-  pub value : IsValue (take len bytes)
-  pub padded : drop len bytes ≡ replicate (54 - len) 0
+-- a text of at most so many bytes that is as it should be, at the front, and zeros behind it
+pub record IsStored (most : ℕ) (IsText : List ℕ → Type 0) (len : ℕ) (bytes : List ℕ) : Type 0 where
+  pub size : length bytes ≡ most
+  pub fits : len ≤ most
+  pub text : IsText (take len bytes)
+  pub padded : drop len bytes ≡ replicate (most - len) 0
 
 -- the length is that of the text
-pub stored_len : (len : ℕ) (bytes : List ℕ) → IsStored len bytes → length (take len bytes) ≡ len
-stored_len len bytes h = length-take-le len bytes (omega arith)
+pub stored_len : (most : ℕ) (IsText : List ℕ → Type 0) (len : ℕ) (bytes : List ℕ) → IsStored most IsText len bytes → length (take len bytes) ≡ len
+stored_len most IsText len bytes h = length-take-le len bytes (omega (arith, h.size, h.fits))
 
 -- the text and zeros are the bytes
-pub stored_bytes : (len : ℕ) (bytes : List ℕ) → IsStored len bytes → take len bytes ++ replicate (54 - length (take len bytes)) 0 ≡ bytes
-stored_bytes len bytes h =
-    rw (stored_len len bytes h) (ap (λ rest. take len bytes ++ rest) (sym h.padded) ∙ take-append-drop len bytes)
-
--- the same for a name
-pub record IsStoredName (len : ℕ) (bytes : List ℕ) : Type 0 where
-  pub size : length bytes ≡ 16
-  pub fits : len ≤ 16
-  pub name : IsName (take len bytes)
-  pub padded : drop len bytes ≡ replicate (16 - len) 0
-
-pub name_len : (len : ℕ) (bytes : List ℕ) → IsStoredName len bytes → length (take len bytes) ≡ len
-name_len len bytes h = length-take-le len bytes (omega arith)
-
-pub name_bytes : (len : ℕ) (bytes : List ℕ) → IsStoredName len bytes → take len bytes ++ replicate (16 - length (take len bytes)) 0 ≡ bytes
-name_bytes len bytes h =
-    rw (name_len len bytes h) (ap (λ rest. take len bytes ++ rest) (sym h.padded) ∙ take-append-drop len bytes)
+pub stored_bytes : (most : ℕ) (IsText : List ℕ → Type 0) (len : ℕ) (bytes : List ℕ) → IsStored most IsText len bytes → take len bytes ++ replicate (most - length (take len bytes)) 0 ≡ bytes
+stored_bytes most IsText len bytes h =
+    rw (stored_len most IsText len bytes h) (ap (λ rest. take len bytes ++ rest) (sym h.padded) ∙ take-append-drop len bytes)

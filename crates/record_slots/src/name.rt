@@ -17,17 +17,17 @@ pub struct Name {
 
 impl Model for Name {
     ghost use Rattle.std.specs.Prelude.{List, ℕ, ◌++◌, ◌-◌, length, take, replicate};
-    ghost use Rattle.record_slots.specs.Text.{IsStoredName, name_len, name_bytes};
+    ghost use Rattle.record_slots.specs.Text.{IsName, IsStored, stored_len, stored_bytes};
 
     ghost Value = { List ℕ };
 
     ghost view = { λ n. take n.len n.bytes };
 
-    ghost invariant = { λ n. IsStoredName n.len n.bytes };
+    ghost invariant = { λ n. IsStored 16 IsName n.len n.bytes };
 
     ghost inverse = { λ text. record { bytes = text ++ replicate (16 - length text) 0; len = length text } };
 
-    ghost inverse_ok = { λ n h. λ i. record { bytes = name_bytes n.len n.bytes h i; len = name_len n.len n.bytes h i } };
+    ghost inverse_ok = { λ n h. λ i. record { bytes = stored_bytes 16 IsName n.len n.bytes h i; len = stored_len 16 IsName n.len n.bytes h i } };
 }
 
 impl Name {

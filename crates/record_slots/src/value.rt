@@ -17,17 +17,17 @@ pub struct Value {
 
 impl Model for Value {
     ghost use Rattle.std.specs.Prelude.{List, ℕ, ◌++◌, ◌-◌, length, take, replicate};
-    ghost use Rattle.record_slots.specs.Text.{IsStored, stored_len, stored_bytes};
+    ghost use Rattle.record_slots.specs.Text.{IsValue, IsStored, stored_len, stored_bytes};
 
     ghost Value = { List ℕ };
 
     ghost view = { λ v. take v.len v.bytes };
 
-    ghost invariant = { λ v. IsStored v.len v.bytes };
+    ghost invariant = { λ v. IsStored 54 IsValue v.len v.bytes };
 
     ghost inverse = { λ text. record { bytes = text ++ replicate (54 - length text) 0; len = length text } };
 
-    ghost inverse_ok = { λ v h. λ i. record { bytes = stored_bytes v.len v.bytes h i; len = stored_len v.len v.bytes h i } };
+    ghost inverse_ok = { λ v h. λ i. record { bytes = stored_bytes 54 IsValue v.len v.bytes h i; len = stored_len 54 IsValue v.len v.bytes h i } };
 }
 
 impl Value {

@@ -71,19 +71,19 @@ module _ (tells : Bool) (course : Course (Option ℕ)) (key t : ℕ) (calls call
     same = slot_same calls calls_mid t slot old mid shape ranges (walks.reads.steady refl)
 
     -- the read of the slot comes last, whatever is answered then
-    seeks_slot : (now : ℕ) (after : List Hearing) (r : Result (Option Place) PageFault) → now ≤ old.moment + (reads_cost calls walks.read + slot_cost calls t old (Some slot))
-        → (IsFalse (is_failed r) → now ≡ old.moment + (reads_cost calls walks.read + slot_cost calls t old (Some slot)))
+    seeks_slot : (now : ℕ) (after : List Hearing) (r : Result (Option Place) PageFault)
+        → (now ≤ old.moment + (reads_cost calls walks.read + slot_cost calls t old (Some slot))) × (IsFalse (is_failed r) → now ≡ old.moment + (reads_cost calls walks.read + slot_cost calls t old (Some slot)))
         → IfOk r (λ place. (course.answer walks.read ≡ Some (option_map (λ place. place.slot) place)) × (Some slot ≡ option_map (λ place. place.slot) place))
         → IsHeard key (Some slot) before after r → Blames old.shape walks.read (Some slot) r → Seeks course key t calls before after old now r
-    seeks_slot now after r most exact answers hears blames = record {
+    seeks_slot now after r calls_made answers hears blames = record {
       read = walks.read;
       slot = Some slot;
       there = walks.reads.there;
       way = walks.way;
       few = walks.few;
       inside = inside;
-      most = most;
-      exact = exact;
+      most = calls_made.0;
+      exact = calls_made.1;
       answers = answers;
       hears = hears;
       blames = blames;
@@ -92,7 +92,7 @@ module _ (tells : Bool) (course : Course (Option ℕ)) (key t : ℕ) (calls call
     -- the read fails
     pub seeks_unread : {T : Type 0} (fault : PageFault) → IsAlive mid → (fault ≡ Media) ⊎ (fault ≡ Dead) → (let r : Result T PageFault = Err fault in LookCause tells mid r)
         → (let r : Result T PageFault = Err fault in Costs true (slot_cost calls_mid t mid (Some slot)) mid.moment new.moment r) → Seeks course key t calls before before old new.moment (Err fault)
-    seeks_unread Media alive is cause costs = seeks_slot new.moment before (Err Media) (omega (arith, walks.reads.exact refl, costs.most, same)) (λ well. absurd (false≢true (sym well))) tt refl tt
+    seeks_unread Media alive is cause costs = seeks_slot new.moment before (Err Media) (omega (arith, walks.reads.exact refl, costs.most, same), λ well. absurd (false≢true (sym well))) tt refl tt
     seeks_unread Dead alive is cause costs = absurd (false≢true (sym alive ∙ cause))
     seeks_unread (Damaged bad) alive (inl is) cause costs = absurd (cc)
     seeks_unread (Damaged bad) alive (inr is) cause costs = absurd (cc)
@@ -102,7 +102,7 @@ module _ (tells : Bool) (course : Course (Option ℕ)) (key t : ℕ) (calls call
     module _ {T : Type 0} (x : T) (costs : (let r : Result T PageFault = Ok x in Costs true (slot_cost calls_mid t mid (Some slot)) mid.moment new.moment r)) where
       seeks_read : (after : List Hearing) (r : Result (Option Place) PageFault) → IfOk r (λ place. (course.answer walks.read ≡ Some (option_map (λ place. place.slot) place)) × (Some slot ≡ option_map (λ place. place.slot) place))
           → IsHeard key (Some slot) before after r → Blames old.shape walks.read (Some slot) r → Seeks course key t calls before after old new.moment r
-      seeks_read after r = seeks_slot new.moment after r (omega (arith, walks.reads.exact refl, costs.most, same)) (λ well. omega (arith, walks.reads.exact refl, costs.done refl, same))
+      seeks_read after r = seeks_slot new.moment after r (omega (arith, walks.reads.exact refl, costs.most, same), λ well. omega (arith, walks.reads.exact refl, costs.done refl, same))
 
       -- it says nothing
       pub seeks_bad : (fault : PageFault) (page : ℕ) (said : Option Slot) (after : List Hearing) → fault ≡ Damaged page → said ≡ None → after ≡ (key, slot, said) ∷ before → page ≡ index_pages_of mid.shape + slot / 8 → Seeks course key t calls before after old new.moment (Err fault)

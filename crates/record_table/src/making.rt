@@ -1,5 +1,5 @@
 // The making of a table.
-ghost use Rattle.std.specs.Prelude.{◌≡◌, ◌≢◌, ◌+◌, ◌*◌, ◌<◌, ◌≤◌, None, Ok, Err, [], ◌∷◌, IfOk, OnOk, IsErrOf, IsTrue};
+ghost use Rattle.std.specs.Prelude.{◌≡◌, ◌+◌, ◌*◌, ◌<◌, ◌≤◌, None, Ok, Err, [], ◌∷◌, IfOk, OnOk, IsErrOf, IsTrue};
 ghost use Rattle.array_shape.specs.Places.{page_count};
 ghost use Rattle.eaw_face.specs.Causes.{IsAlive};
 ghost use Rattle.index_pages.specs.Acts.{Acts};
@@ -50,22 +50,6 @@ pub enum MakeFault {
     /// The super page breaks the layout. Only a store that does not tell its data gives this refusal.
     #[error("page {page} is damaged")]
     Damaged { page: u32 },
-}
-
-// A table is made by a number that is not live, which has room.
-impl From<PageFault> for MakeFault {
-    ghost use Rattle.std.specs.Prelude.{◌≡◌};
-    ghost use Rattle.record_table.specs.Making.{as_make};
-
-    ghost from_gives = { λ below fault. fault ≡ as_make below };
-
-    fn from(below: PageFault) -> Self {
-        match below {
-            PageFault::Media => MakeFault::Media,
-            PageFault::Damaged { page } => MakeFault::Damaged { page },
-            PageFault::Dead | PageFault::LogFull { .. } | PageFault::SavesFull => MakeFault::Dead,
-        }
-    }
 }
 
 // The number of a new table of this name, in an array with so many pages for indexes.

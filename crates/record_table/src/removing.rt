@@ -1,5 +1,5 @@
 // Keys of a table that have no record any more: the next of them, and the removal of one from the index.
-ghost use Rattle.std.specs.Prelude.{[], ◌≡◌, ◌+◌, ◌^◌, ◌≤◌, ◌<◌, ◌⊎◌, true, Some, IfOk, IfErr, IfSome, OnOk, IsErrOf, IsTrue, length};
+ghost use Rattle.std.specs.Prelude.{[], ◌≡◌, ◌+◌, ◌≤◌, ◌<◌, ◌⊎◌, true, Some, IfOk, IfErr, IfSome, OnOk, IsErrOf, IsTrue, length};
 ghost use Rattle.array_shape.specs.Places.{page_count};
 ghost use Rattle.mars_base.specs.Costs.{Costs};
 ghost use Rattle.eaw_face.specs.Causes.{IsAlive};

@@ -1,6 +1,5 @@
 // The super page, brought to version 2.
-ghost use Rattle.std.specs.Prelude.{◌≡◌, ◌≢◌, ◌≤◌, None, IfOk, IfErr, IsErrOf, IsTrue};
-ghost use Rattle.eaw_face.specs.Causes.{IsAlive};
+ghost use Rattle.std.specs.Prelude.{◌≡◌, ◌≤◌, None, IfOk, IsErrOf, IsTrue};
 ghost use Rattle.page_store.specs.Looks.{LookCause, is_failed};
 ghost use Rattle.page_store.specs.Shown.{pages_of};
 ghost use Rattle.record_slots.specs.Places.{page_bytes};

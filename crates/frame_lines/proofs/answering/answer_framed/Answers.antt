@@ -6,6 +6,9 @@ use Rattle.script_run.specs.Lines.{lines_of}
 use Rattle.frame_lines.proofs.Beginning.{front_is, front_ends, has_sent_first}
 use Rattle.frame_lines.proofs.answering.answer_framed.Goals as goal
 
+pub write_begun-requires-clause-frames : goal.write_begun-requires-clause-frames
+write_begun-requires-clause-frames g c = record { told = c.requires.told; some = c.requires.some }
+
 pub returns-in-Err-clause-ran : goal.returns-in-Err-clause-ran
 returns-in-Err-clause-ran g c =
     let r = g.R.Responder in

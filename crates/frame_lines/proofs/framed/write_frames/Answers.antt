@@ -19,14 +19,16 @@ frames-preserved g c =
     let new = c.drop_frame.new.self in
     let gives = c.drop_frame.ensures.gives_up in
     let frame = c.first_frame-frame.result.now in
-    let left = gives.frames so.told in
-    let split = first_and_rest (view mid).sending.frames frame (c.first_frame-frame.ensures so.told) (eqb-false _ _ (sym c.if-is_empty.ensures)) in
+    let left = gives.frames so.frames.told in
+    let split = first_and_rest (view mid).sending.frames frame (c.first_frame-frame.ensures so.frames.told) (eqb-false _ _ (sym c.if-is_empty.ensures)) in
     record {
       ready = c.drop_frame.ensures.stands.ready so.ready;
-      told = subst IsTrue (sym (ap (λ (s : Sending). s.told) gives.sending)) so.told;
-      some = subst (All (λ (b : List ℕ). 0 < length b)) (sym left) (All-drop (λ (b : List ℕ). 0 < length b) 1 (view mid).sending.frames so.some);
+      frames = record {
+        told = subst IsTrue (sym (ap (λ (s : Sending). s.told) gives.sending)) so.frames.told;
+        some = subst (All (λ (b : List ℕ). 0 < length b)) (sym left) (All-drop (λ (b : List ℕ). 0 < length b) 1 (view mid).sending.frames so.frames.some);
+      };
       stands = stands_then r.tells r.is_ready r.stands r.comes r.faults g.met.R.Responder.comes_on old mid new so.ready so.stands c.drop_frame.ensures.stands;
-      is_but = one_given_up (view old) (view mid) (view new) so.told so.is_but gives;
+      is_but = one_given_up (view old) (view mid) (view new) so.frames.told so.is_but gives;
       far = (
         so.far.0 ++ frame ∷ [],
         so.far.1 ∙ ap (λ (fs : List (List ℕ)). so.far.0 ++ fs) (split ∙ ap (λ (fs : List (List ℕ)). frame ∷ fs) (sym left)) ∙ sym (append_assoc so.far.0 (frame ∷ []) (view new).sending.frames),

@@ -1,6 +1,6 @@
-use Rattle.std.proofs.Common.{◌≡◌, ◌<◌, ◌++◌, List, ℕ, length, IsTrue}
-use Rattle.std.specs.Prelude.{All, flat_map}
-use Rattle.frame_lines.specs.Framed.{bytes_line, StandsOn, IsBut}
+use Rattle.std.proofs.Common.{◌≡◌, ◌++◌, List, ℕ, length}
+use Rattle.std.specs.Prelude.{flat_map}
+use Rattle.frame_lines.specs.Framed.{bytes_line, KeepsFrames, StandsOn, IsBut}
 use Rattle.frame_lines.proofs.framed.write_frames.Given as goal
 
 -- these frames were written and given up, and those are left
@@ -10,8 +10,7 @@ invariant-frames g l =
     let view = g.R.Mirrored.view in
     record {
       ready : r.is_ready l.responder;
-      told : IsTrue (view l.responder).sending.told;
-      some : All (λ (frame : List ℕ). 0 < length frame) (view l.responder).sending.frames;
+      frames : KeepsFrames (view l.responder);
       stands : StandsOn r.tells r.is_ready r.stands r.comes r.faults l.fn.responder l.responder;
       is_but : IsBut (view l.fn.responder) (view l.responder);
       far : (done : List (List ℕ)) × ((view l.fn.responder).sending.frames ≡ done ++ (view l.responder).sending.frames)

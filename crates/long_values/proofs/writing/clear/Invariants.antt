@@ -10,7 +10,7 @@ use Rattle.long_values.proofs.writing.clear.Given as goal
 abbrev pub invariant-loop-n : goal.invariant-loop-n
 invariant-loop-n g l = record {
   limits : (g.C.Core.view l.core).limits ≡ (g.C.Core.view l.fn.core).limits;
-  changes : IsTrue g.C.Core.tells → Changes l.caller l.table (l.first + l.from) (l.first + l.n) (g.C.Core.view l.fn.core) (g.C.Core.view l.core);
+  changes : IsTrue g.C.Core.tells → Changes l.caller l.at.table (l.at.first + l.from) (l.at.first + l.n) (g.C.Core.view l.fn.core) (g.C.Core.view l.core);
   stays : (start : g.row.C.Denot) → IsTrue g.C.Core.tells → Stays l.caller (g.C.Core.view start) (g.C.Core.view l.fn.core) → Stays l.caller (g.C.Core.view start) (g.C.Core.view l.core);
-  gone : IsTrue g.C.Core.tells → (k : ℕ) → l.from ≤ k → k < l.n → get (seen_by l.caller (g.C.Core.view l.core)) (of_table l.table (l.first + k)) ≡ None;
+  gone : IsTrue g.C.Core.tells → (k : ℕ) → l.from ≤ k → k < l.n → get (seen_by l.caller (g.C.Core.view l.core)) (of_table l.at.table (l.at.first + k)) ≡ None;
 }

@@ -8,7 +8,7 @@ use Rattle.long_values.proofs.writing.write_parts.Goals as goal
 pub loop-n-init : goal.loop-n-init
 loop-n-init g c = record {
   limits = refl;
-  changes = λ told. changes_none c.args.caller c.args.table (c.args.first + 1) (c.args.first + 1 + 0) (g.C.Core.view c.args.core.now) (c.requires.sound told);
+  changes = λ told. changes_none c.args.caller c.args.at.now.table (c.args.at.now.first + 1) (c.args.at.now.first + 1 + 0) (g.C.Core.view c.args.core.now) (c.requires.sound told);
   stays = λ start told stays. stays;
   written = λ told k lt. absurd (omega (arith, lt));
 }
@@ -23,14 +23,14 @@ loop-n-preserved g c =
     record {
       limits = c.put.ensures.steps.limits ∙ c.loop-n.invariant.limits;
       changes = λ told.
-          changes_on c.args.caller c.args.table (c.args.first + 1) (c.args.first + 1 + (n + 1)) (view old) (view cur) (view new)
+          changes_on c.args.caller c.args.at.now.table (c.args.at.now.first + 1) (c.args.at.now.first + 1 + (n + 1)) (view old) (view cur) (view new)
           (c.calls_join.ensures.within old cur new c.args.caller (c.loop-n.invariant.changes told).within (c.put.ensures.within told))
-          (changes_wider c.args.caller c.args.table (c.args.first + 1) (c.args.first + 1 + n) (c.args.first + 1) (c.args.first + 1 + (n + 1)) (view old) (view cur) (omega arith) (omega arith) (c.loop-n.invariant.changes told))
-          (changes_put c.args.caller c.args.table c.part.result (c.args.first + 1 + n) (c.args.first + 1) (c.args.first + 1 + (n + 1)) (view cur) (view new) (c.put.ensures.stays told) (c.put.ensures.within told)
+          (changes_wider c.args.caller c.args.at.now.table (c.args.at.now.first + 1) (c.args.at.now.first + 1 + n) (c.args.at.now.first + 1) (c.args.at.now.first + 1 + (n + 1)) (view old) (view cur) (omega arith) (omega arith) (c.loop-n.invariant.changes told))
+          (changes_put c.args.caller c.args.at.now.table c.part.result (c.args.at.now.first + 1 + n) (c.args.at.now.first + 1) (c.args.at.now.first + 1 + (n + 1)) (view cur) (view new) (c.put.ensures.stays told) (c.put.ensures.within told)
           (c.in_ok-put.ensures.ok told) (omega arith) (omega arith));
       stays = λ start told stays. c.calls_join.ensures.stays start cur new c.args.caller (c.loop-n.invariant.stays start told stays) (c.put.ensures.stays told);
       written = λ told.
-          part_written c.args.caller c.args.table c.args.first c.args.bytes.now c.part.result n (view cur) (view new) (c.put.ensures.stays told) (c.put.ensures.within told)
+          part_written c.args.caller c.args.at.now.table c.args.at.now.first c.args.bytes.now c.part.result n (view cur) (view new) (c.put.ensures.stays told) (c.put.ensures.within told)
           (c.in_ok-put.ensures.ok told) c.part.ensures (c.loop-n.invariant.written told);
     }
 
@@ -44,11 +44,11 @@ returns-in_err-put-clause-changes g c told =
     let n = c.loop-n.n in
     let count = c.part_count-n-end.ensures in
     let lt = c.loop-n-test.true in
-    let last = c.args.first + 1 + part_count c.args.bytes.now in
-    changes_on c.args.caller c.args.table (c.args.first + 1) last (view old) (view cur) (view new)
+    let last = c.args.at.now.first + 1 + part_count c.args.bytes.now in
+    changes_on c.args.caller c.args.at.now.table (c.args.at.now.first + 1) last (view old) (view cur) (view new)
     (c.calls_join.ensures.within old cur new c.args.caller (c.loop-n.invariant.changes told).within (c.put.ensures.within told))
-    (changes_wider c.args.caller c.args.table (c.args.first + 1) (c.args.first + 1 + n) (c.args.first + 1) last (view old) (view cur) (omega arith) (omega (arith, count, lt)) (c.loop-n.invariant.changes told))
-    (changes_kept c.args.caller c.args.table (c.args.first + 1) last (view cur) (view new) (c.put.ensures.stays told) (c.put.ensures.within told) (c.in_err-put.ensures.err told))
+    (changes_wider c.args.caller c.args.at.now.table (c.args.at.now.first + 1) (c.args.at.now.first + 1 + n) (c.args.at.now.first + 1) last (view old) (view cur) (omega arith) (omega (arith, count, lt)) (c.loop-n.invariant.changes told))
+    (changes_kept c.args.caller c.args.at.now.table (c.args.at.now.first + 1) last (view cur) (view new) (c.put.ensures.stays told) (c.put.ensures.within told) (c.in_err-put.ensures.err told))
 
 pub returns-in_err-put-clause-stays : goal.returns-in_err-put-clause-stays
 returns-in_err-put-clause-stays g c start told stays =
@@ -65,7 +65,7 @@ returns-clause-changes g c told =
     let view = g.C.Core.view in
     let count = c.part_count-n-end.ensures in
     let le = c.loop-n.auto.n-end in
-    changes_wider c.args.caller c.args.table (c.args.first + 1) (c.args.first + 1 + c.loop-n.n) (c.args.first + 1) (c.args.first + 1 + part_count c.args.bytes.now) (view c.args.core.now) (view c.loop-n.core)
+    changes_wider c.args.caller c.args.at.now.table (c.args.at.now.first + 1) (c.args.at.now.first + 1 + c.loop-n.n) (c.args.at.now.first + 1) (c.args.at.now.first + 1 + part_count c.args.bytes.now) (view c.args.core.now) (view c.loop-n.core)
     (omega arith) (omega (arith, count, le)) (c.loop-n.invariant.changes told)
 
 pub returns-clause-written : goal.returns-clause-written

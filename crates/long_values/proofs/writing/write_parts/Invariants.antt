@@ -11,7 +11,7 @@ use Rattle.long_values.proofs.writing.write_parts.Given as goal
 abbrev pub invariant-loop-n : goal.invariant-loop-n
 invariant-loop-n g l = record {
   limits : (g.C.Core.view l.core).limits ≡ (g.C.Core.view l.fn.core).limits;
-  changes : IsTrue g.C.Core.tells → Changes l.caller l.table (l.first + 1) (l.first + 1 + l.n) (g.C.Core.view l.fn.core) (g.C.Core.view l.core);
+  changes : IsTrue g.C.Core.tells → Changes l.caller l.at.table (l.at.first + 1) (l.at.first + 1 + l.n) (g.C.Core.view l.fn.core) (g.C.Core.view l.core);
   stays : (start : g.row.C.Denot) → IsTrue g.C.Core.tells → Stays l.caller (g.C.Core.view start) (g.C.Core.view l.fn.core) → Stays l.caller (g.C.Core.view start) (g.C.Core.view l.core);
-  written : IsTrue g.C.Core.tells → (k : ℕ) → k < l.n → get (seen_by l.caller (g.C.Core.view l.core)) (of_table l.table (l.first + 1 + k)) ≡ Some (text_at l.bytes (suc k));
+  written : IsTrue g.C.Core.tells → (k : ℕ) → k < l.n → get (seen_by l.caller (g.C.Core.view l.core)) (of_table l.at.table (l.at.first + 1 + k)) ≡ Some (text_at l.bytes (suc k));
 }

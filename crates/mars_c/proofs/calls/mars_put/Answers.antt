@@ -10,4 +10,4 @@ use Rattle.mars_c.proofs.calls.mars_put.Goals as goal
 pub returns : goal.returns
 returns c =
     let Does : TapedRecords → TapedRecords → ℤ → Type 0 = λ was now status. Calls same_rows (IsBadRecord c.args.table.now c.args.value.now) Nothing c.args.caller (Table (Put c.args.table.now c.args.key c.args.value.now)) was now status in
-    done_to Does _ _ _ c.deref_mut.result.now c.put-status.new.self c.put-status.result _ (search (rules, c.in-Some.ensures.array, c.deref_mut.ensures.value)) (search (rules, c.put.ensures)) (search rules) c.put-status.ensures
+    done_to Does _ _ _ c.deref_mut.result.now c.put.new.self c.put.result _ (search (rules, c.deref_mut.ensures.value)) (search rules) (search rules) c.put.ensures

@@ -7,4 +7,4 @@ use Rattle.mars_c.proofs.long_bytes.mars_del_bytes.Goals as goal
 pub returns : goal.returns
 returns c =
     let Does : TapedRecords → TapedRecords → ℤ → Type 0 = λ was now status. AsksToDel c.args.table.now c.args.key c.args.caller was now status in
-    done_to Does _ _ _ c.deref_mut.result.now c.del_bytes-status.new.self c.del_bytes-status.result _ (search (rules, c.in-Some.ensures.array, c.deref_mut.ensures.value)) (search (rules, c.put.ensures)) (search rules) c.del_bytes-status.ensures
+    done_to Does _ _ _ c.deref_mut.result.now c.del_bytes.new.self c.del_bytes.result _ (search (rules, c.deref_mut.ensures.value)) (search rules) (search rules) c.del_bytes.ensures

@@ -6,5 +6,5 @@ use Rattle.mars_c.proofs.long_bytes.mars_get_bytes.Goals as goal
 
 pub returns : goal.returns
 returns c =
-    let Does : TapedRecords → TapedRecords → ℤ → Type 0 = λ was now status. AsksToGet c.args.table.now c.args.key c.args.caller c.args.room.now c.get_bytes-status.new.room c.args.len.now c.get_bytes-status.new.len was now status in
-    done_to Does _ _ _ c.deref_mut.result.now c.get_bytes-status.new.self c.get_bytes-status.result _ (search (rules, c.in-Some.ensures.array, c.deref_mut.ensures.value)) (search (rules, c.put.ensures)) (search rules) c.get_bytes-status.ensures
+    let Does : TapedRecords → TapedRecords → ℤ → Type 0 = λ was now status. AsksToGet c.args.table.now c.args.key c.args.caller c.args.room.now c.get_bytes.new.room c.args.len.now c.get_bytes.new.len was now status in
+    done_to Does _ _ _ c.deref_mut.result.now c.get_bytes.new.self c.get_bytes.result _ (search (rules, c.deref_mut.ensures.value)) (search rules) (search rules) c.get_bytes.ensures

@@ -6,5 +6,5 @@ use Rattle.mars_c.proofs.seeking.mars_next.Goals as goal
 
 pub returns : goal.returns
 returns c =
-    let Does : TapedRecords → TapedRecords → ℤ → Type 0 = λ was now status. AsksNext c.args.table.now c.args.from c.args.to c.args.caller c.args.key.now c.next-status.new.key c.args.room.now c.next-status.new.room c.args.len.now c.next-status.new.len was now status in
-    done_to Does _ _ _ c.deref_mut.result.now c.next-status.new.self c.next-status.result _ (search (rules, c.in-Some.ensures.array, c.deref_mut.ensures.value)) (search (rules, c.put.ensures)) (search rules) c.next-status.ensures
+    let Does : TapedRecords → TapedRecords → ℤ → Type 0 = λ was now status. AsksNext c.args.table.now c.args.from c.args.to c.args.caller c.args.key.now c.next.new.key c.args.room.now c.next.new.room c.args.len.now c.next.new.len was now status in
+    done_to Does _ _ _ c.deref_mut.result.now c.next.new.self c.next.result _ (search (rules, c.deref_mut.ensures.value)) (search rules) (search rules) c.next.ensures

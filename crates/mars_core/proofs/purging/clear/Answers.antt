@@ -3,7 +3,7 @@ use Rattle.std.specs.Prelude.{slice_get}
 use Rattle.array_shape.specs.declared.shape.Shape.{Shape}
 use Rattle.page_store.specs.Shown.{pages_of}
 use Rattle.mars_core.specs.Purging.{IsOfTable, IsOfFirst, Clears}
-use Rattle.mars_core.proofs.Clearing.{going_first, going_more, counted_more, more_refused, going_to, all_tried}
+use Rattle.mars_core.proofs.Clearing.{still_may, going_first, going_more, counted_more, more_refused, going_to, all_tried}
 use Rattle.mars_core.proofs.Passing.{first_none, first_more, first_both, first_before, first_all, sum_is}
 use Rattle.std.proofs.lemmas.Result.{err_from_is_err_and}
 use Rattle.mars_core.proofs.purging.clear.Goals as goal
@@ -13,6 +13,12 @@ loop-table-init g c =
     let V = g.S.EawStore.view in
     let p = pages_of (V c.args.records.now.store) c.args.records.now in
     going_first g.S.EawStore.tells (g.S.EawStore.opens (V c.args.records.now.store).shape) g.K.KeyIndex.index c.args.seats.now c.args.caller p c.requires.alive (IsOfFirst c.args.seats.now.names 0) (first_none c.args.seats.now.names) c.requires.ready
+
+pub clear_table-requires-clause-may : goal.clear_table-requires-clause-may
+clear_table-requires-clause-may g c =
+    let V = g.S.EawStore.view in
+    still_may g.S.EawStore.tells (g.S.EawStore.opens (V c.args.records.now.store).shape) g.K.KeyIndex.index c.args.seats.now c.args.caller (pages_of (V c.args.records.now.store) c.args.records.now) (IsOfFirst c.args.seats.now.names c.loop-table.table) c.loop-table.taken
+    (pages_of (V c.loop-table.records.store) c.loop-table.records) c.loop-table.invariant c.requires
 
 pub loop-table-preserved : goal.loop-table-preserved
 loop-table-preserved g c =

@@ -11,14 +11,14 @@ use Rattle.mars_core.proofs.purging.try_key.Goals as goal
 
 pub remove-requires-clause-there : goal.remove-requires-clause-there
 remove-requires-clause-there g c = λ told alive.
-    subst (λ (ns : List (List ℕ)). c.args.table < length ns) (sym (c.requires.ready told).named) (there c.args.seats.now.names c.args.table c.args.name.now c.requires.named)
+    subst (λ (ns : List (List ℕ)). c.args.table < length ns) (sym (c.requires.may.ready told).named) (there c.args.seats.now.names c.args.table c.args.name.now c.requires.named)
 
 pub remove-requires-clause-absent : goal.remove-requires-clause-absent
 remove-requires-clause-absent g c = λ told alive.
     let V = g.S.EawStore.view in
     let bytes = (V c.args.records.now.store).state.bytes in
     let key = of_table c.args.name.now c.args.key in
-    let called = ap (λ (ns : List (List ℕ)). slice_get ns c.args.table) (c.requires.ready told).named ∙ c.requires.named in
+    let called = ap (λ (ns : List (List ℕ)). slice_get ns c.args.table) (c.requires.may.ready told).named ∙ c.requires.named in
     subst (λ (k : Key). IsAbsent g.K.KeyIndex.index (g.S.EawStore.view c.args.records.now.store).state.bytes k) (sym (called_key bytes c.args.table key called)) (c.requires.absent told)
 
 pub remove-requires-clause-unwritten : goal.remove-requires-clause-unwritten
@@ -26,9 +26,9 @@ remove-requires-clause-unwritten g c = λ told alive.
     let V = g.S.EawStore.view in
     let old = c.args.records.now in
     let key = of_table c.args.name.now c.args.key in
-    let called = ap (λ (ns : List (List ℕ)). slice_get ns c.args.table) (c.requires.ready told).named ∙ c.requires.named in
+    let called = ap (λ (ns : List (List ℕ)). slice_get ns c.args.table) (c.requires.may.ready told).named ∙ c.requires.named in
     subst (λ (k : Key). IsUnwritten g.K.KeyIndex.index (pages_of (g.S.EawStore.view c.args.records.now.store) c.args.records.now) k) (sym (called_key (V old.store).state.bytes c.args.table key called))
-    (all_unwritten g.S.EawStore.tells (g.S.EawStore.opens (V old.store).shape) g.K.KeyIndex.index c.args.seats.now c.args.caller c.args.table key (omega arith) c.requires.named (pages_of (V old.store) old) c.requires.alive c.requires.unheld c.requires.ready c.requires.idle (c.in-None.ensures.free (Del c.args.name.now c.args.key) (c.touched_by.ensures c.args.seats.now.names (sym (c.unwrap_or-number.ensures ∙ (λ i. unwrap_or (c.number_for.ensures.number i) ((c.count.ensures.count ∙ ap length c.names.ensures) i)))))) told)
+    (all_unwritten g.S.EawStore.tells (g.S.EawStore.opens (V old.store).shape) g.K.KeyIndex.index c.args.seats.now c.args.caller c.args.table key (omega arith) c.requires.named (pages_of (V old.store) old) c.requires.may.alive c.requires.may.unheld c.requires.may.ready c.requires.may.idle (c.in-None.ensures.free (Del c.args.name.now c.args.key) (c.touched_by.ensures c.args.seats.now.names (sym (c.unwrap_or-number.ensures ∙ (λ i. unwrap_or (c.number_for.ensures.number i) ((c.count.ensures.count ∙ ap length c.names.ensures) i)))))) told)
 
 pub returns-in-None : goal.returns-in-None
 returns-in-None g c =
@@ -37,7 +37,7 @@ returns-in-None g c =
     let new = c.remove.new.self in
     let key = of_table c.args.name.now c.args.key in
     record {
-      tries = removed_tries g.S.EawStore.tells (g.S.EawStore.opens (V old.store).shape) g.K.KeyIndex.index c.args.seats.now c.args.caller c.args.table key (omega arith) c.requires.named (pages_of (V old.store) old) c.requires.alive c.requires.unheld c.requires.ready c.requires.idle
+      tries = removed_tries g.S.EawStore.tells (g.S.EawStore.opens (V old.store).shape) g.K.KeyIndex.index c.args.seats.now c.args.caller c.args.table key (omega arith) c.requires.named (pages_of (V old.store) old) c.requires.may.alive c.requires.may.unheld c.requires.may.ready c.requires.may.idle
           (c.in-None.ensures.free (Del c.args.name.now c.args.key) (c.touched_by.ensures c.args.seats.now.names (sym (c.unwrap_or-number.ensures ∙ (λ i. unwrap_or (c.number_for.ensures.number i) ((c.count.ensures.count ∙ ap length c.names.ensures) i))))))
           (g.met.S.EawStore.shaped old.store).some_entries (pages_of (V new.store) new) c.remove.result c.remove.ensures.removes;
     }
@@ -48,7 +48,7 @@ returns-in-Some g c =
     let old = c.args.records.now in
     let key = of_table c.args.name.now c.args.key in
     record {
-      tries = busy_tries g.S.EawStore.tells (g.S.EawStore.opens (V old.store).shape) g.K.KeyIndex.index c.args.seats.now c.args.caller c.args.table key (omega arith) c.requires.named (pages_of (V old.store) old) c.requires.alive c.requires.unheld c.requires.ready
+      tries = busy_tries g.S.EawStore.tells (g.S.EawStore.opens (V old.store).shape) g.K.KeyIndex.index c.args.seats.now c.args.caller c.args.table key (omega arith) c.requires.named (pages_of (V old.store) old) c.requires.may.alive c.requires.may.unheld c.requires.may.ready
           c.in-Some.field-0
           (c.in-Some.ensures.busy (Del c.args.name.now c.args.key) (c.touched_by.ensures c.args.seats.now.names (sym (c.unwrap_or-number.ensures ∙ (λ i. unwrap_or (c.number_for.ensures.number i) ((c.count.ensures.count ∙ ap length c.names.ensures) i))))));
     }

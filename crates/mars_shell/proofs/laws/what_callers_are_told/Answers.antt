@@ -8,7 +8,7 @@ use Rattle.caller_work.proofs.Histories.{fated}
 use Rattle.mars_shell.proofs.laws.what_callers_are_told.Goals as goal
 
 pub returns : goal.returns
-returns g = record {
+returns g c = record {
   fated = λ names base index limits turns final runs gate callers readers tries input text ended cut work caller less.
       let its = work.works caller less in
       fated limits caller (opened names base index) final turns runs refl refl refl (Times tries) (planned None (calls_by caller work.said)) (of_caller work.fates caller) its.0 its.1;

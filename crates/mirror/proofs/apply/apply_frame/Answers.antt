@@ -4,6 +4,7 @@ use Rattle.byteorder.specs.Endian.{little_number}
 use Rattle.array_shape.specs.declared.shape.Shape.{Shape}
 use Rattle.array_shape.specs.NumberSet.{numbers_in}
 use Rattle.mirror.proofs.Grouping.{none_logged, number_said, group_long, groups_first, next_group, has_parts, groups_next, group_fault, group_moments, committed, commit_fault, commit_moments}
+use Rattle.std.proofs.lemmas.Result.{err_from_is_err_and}
 use Rattle.mirror.proofs.apply.apply_frame.Goals as goal
 
 -- the bytes from a place on, as a slice gives them
@@ -84,17 +85,19 @@ loop-group-preserved g c =
     let shaped = g.met.S.EawStore.shaped c.args.store.now in
     groups_next s.tells s.opens c.loop-group._group c.args.frame.now c.loop-group.rest.now c.loop-group.numbers.bits old (s.view c.loop-group.store) on n
     cut.result.0 cut.result.1 cut.result.2.now cut.ensures.number cut.ensures.count cut.ensures.rest
-    c.in-Ok.behind.now c.with-numbers.result.bits (s.view c.log_parts.new.store) c.in-Ok.ensures.wrote c.with-numbers.ensures.here c.with-numbers.ensures.others shaped.most_numbers c.log_parts.ensures.moments
+    c.in_ok-rest.rest.now c.with-numbers.result.bits (s.view c.log_parts.new.store) c.in_ok-rest.ensures.wrote c.with-numbers.ensures.here c.with-numbers.ensures.others shaped.most_numbers c.log_parts.ensures.moments
 
-pub returns-in-Err-clause-fault : goal.returns-in-Err-clause-fault
-returns-in-Err-clause-fault g c =
+pub returns-in_err-rest-clause-fault : goal.returns-in_err-rest-clause-fault
+returns-in_err-rest-clause-fault g c =
+    let exit = err_from_is_err_and c.from_residual.result c.from_residual.ensures.1 in
+    rw (exit.1, exit.2) (
     let s = g.S.EawStore in
     let on = c.loop-group.invariant in
     group_fault s.tells s.opens c.loop-group._group c.args.frame.now c.loop-group.rest.now c.loop-group.numbers.bits (s.view c.args.store.now) (s.view c.loop-group.store) on
-    c.in-Err.fault (s.view c.log_parts.new.store) c.in-Err.ensures.fault
+    c.in_err-rest.field-0.0 (s.view c.log_parts.new.store) c.in_err-rest.ensures.fault)
 
-pub returns-in-Err-clause-moments : goal.returns-in-Err-clause-moments
-returns-in-Err-clause-moments g c told =
+pub returns-in_err-rest-clause-moments : goal.returns-in_err-rest-clause-moments
+returns-in_err-rest-clause-moments g c told =
     let s = g.S.EawStore in
     let on = c.loop-group.invariant in
     group_moments s.tells s.opens c.loop-group._group c.args.frame.now c.loop-group.rest.now c.loop-group.numbers.bits (s.view c.args.store.now) (s.view c.loop-group.store) on

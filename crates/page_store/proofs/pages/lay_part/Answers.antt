@@ -7,6 +7,7 @@ use Rattle.page_store.proofs.Laying.{range_of_part, missed, laid}
 use Rattle.page_store.proofs.ReadCalls.{reads_of, reads_ok, reads_err, reads_none}
 use Rattle.page_store.specs.Reads.{lay_cost}
 use Rattle.page_store.proofs.Costing.{missed_cost, met_cost}
+use Rattle.std.proofs.lemmas.Result.{err_from_is_err_and}
 use Rattle.page_store.proofs.pages.lay_part.Goals as goal
 
 pub overflow_add-start : goal.overflow_add-start
@@ -42,14 +43,16 @@ is_there : (o : Option (List (ℕ × ℕ))) (k : ℕ) → k < length (listed o) 
 is_there None k lt = absurd (omega (arith, lt))
 is_there (Some xs) k lt = refl
 
-pub returns-in-Err-clause-does : goal.returns-in-Err-clause-does
-returns-in-Err-clause-does g c =
+pub returns-in_err-log_read-clause-does : goal.returns-in_err-log_read-clause-does
+returns-in_err-log_read-clause-does g c =
+    let exit = err_from_is_err_and c.from_residual.result c.from_residual.ensures.1 in
+    rw (exit.1, exit.2) (
     let view = g.S.EawStore.view in
     let old = view c.args.store.now in
     let new = view c.log_read.new.self in
-    reads_err g.S.EawStore.tells (g.S.EawStore.opens old.shape) c.args.tid old new c.in-Err.fault
+    reads_err g.S.EawStore.tells (g.S.EawStore.opens old.shape) c.args.tid old new c.in_err-log_read.field-0.0
     (reads_of g.S.EawStore.tells (g.S.EawStore.opens old.shape) c.args.tid (log_read c.args.tid) old new (λ s. refl) (λ rs. refl) refl
-    (λ u no. no.0 (record { small = c.requires.tid; live = is_there (old.ranges c.args.tid) c.args.pos c.requires.pos })) (λ h i n no. no) (λ u ne. c.in-Err.ensures.does.others u ne) _ c.in-Err.ensures.does)
+    (λ u no. no.0 (record { small = c.requires.tid; live = is_there (old.ranges c.args.tid) c.args.pos c.requires.pos })) (λ h i n no. no) (λ u ne. c.in_err-log_read.ensures.does.others u ne) _ c.in_err-log_read.ensures.does))
 
 pub returns-clause-does : goal.returns-clause-does
 returns-clause-does g c =
@@ -58,7 +61,7 @@ returns-clause-does g c =
     let new = view c.log_read.new.self in
     reads_ok g.S.EawStore.tells (g.S.EawStore.opens old.shape) c.args.tid old new tt
     (reads_of g.S.EawStore.tells (g.S.EawStore.opens old.shape) c.args.tid (log_read c.args.tid) old new (λ s. refl) (λ rs. refl) refl
-    (λ u no. no.0 (record { small = c.requires.tid; live = is_there (old.ranges c.args.tid) c.args.pos c.requires.pos })) (λ h i n no. no) (λ u ne. c.in-Ok.ensures.does.others u ne) _ c.in-Ok.ensures.does)
+    (λ u no. no.0 (record { small = c.requires.tid; live = is_there (old.ranges c.args.tid) c.args.pos c.requires.pos })) (λ h i n no. no) (λ u ne. c.in_ok-log_read.ensures.does.others u ne) _ c.in_ok-log_read.ensures.does)
 
 pub returns-then-first-last-clause-does : goal.returns-then-first-last-clause-does
 returns-then-first-last-clause-does g c =
@@ -74,12 +77,12 @@ returns-clause-laid g c tell bytes long read =
     let placed = placed_at view.shape (listed (view.ranges c.args.tid)) c.args.pos (g.met.S.EawStore.placed c.args.store.now c.args.tid) c.requires.pos in
     let start = ap (λ (p : ℕ × ℕ). p.0) c.part_range-start.ensures in
     let len = c.from.ensures ∙ ap (λ (p : ℕ × ℕ). p.1) c.part_range-start.ensures in
-    let told = c.in-Ok.ensures.bytes tell in
+    let told = c.in_ok-log_read.ensures.bytes tell in
     c.overwrite.ensures ∙
     laid bytes c.args.buf.now part c.args.addr (length c.args.buf.now) c.part_range-start.result.0 c.from.result c.max-first.result c.min-last.result
     (start ∙ ap (λ (p : ℕ × ℕ). p.0) is) (len ∙ ap (λ (p : ℕ × ℕ). p.1) is) c.max-first.ensures c.min-last.ensures
     (omega (arith, placed.inside, start, len, long)) (omega (arith, c.requires.inside, long)) read c.if-first-last.false c.log_read.new.buf _
-    (ap (λ (k : ℕ). take k c.log_read.new.buf) (len ∙ sym (ap (λ (p : ℕ × ℕ). p.1) c.in-Ok.ensures.part)) ∙ told)
+    (ap (λ (k : ℕ). take k c.log_read.new.buf) (len ∙ sym (ap (λ (p : ℕ × ℕ). p.1) c.in_ok-log_read.ensures.part)) ∙ told)
     (omega (arith, placed.page, len, c.log_read.array_long))
     (let count : c.min-last.result - c.part_range-start.result.0 - (c.max-first.result - c.part_range-start.result.0) ≡ c.min-last.result - c.max-first.result = omega (arith, c.max-first.ensures, c.if-first-last.false) in
     ap (λ (k : ℕ). take k (drop (c.max-first.result - c.part_range-start.result.0) c.log_read.new.buf)) count)
@@ -100,13 +103,15 @@ returns-clause-costs g c =
     ap (λ (p : ℕ × ℕ). lay_cost (g.S.EawStore.calls c.args.store.now) c.args.tid (c.args.addr, length c.args.buf.now) p) (sym c.part_range-start.ensures) ∙
     met_cost (g.S.EawStore.calls c.args.store.now) c.args.tid c.args.addr (length c.args.buf.now) c.part_range-start.result.0 c.part_range-start.result.1 c.max-first.result c.min-last.result
     c.max-first.ensures (omega (arith, c.min-last.ensures, c.from.ensures)) (omega (arith, c.if-first-last.false)) in
-    record { done = λ exact. omega (arith, one, c.in-Ok.ensures.costs.done refl); most = omega (arith, one, c.in-Ok.ensures.costs.most) }
+    record { done = λ exact. omega (arith, one, c.in_ok-log_read.ensures.costs.done refl); most = omega (arith, one, c.in_ok-log_read.ensures.costs.most) }
 
-pub returns-in-Err-clause-costs : goal.returns-in-Err-clause-costs
-returns-in-Err-clause-costs g c =
+pub returns-in_err-log_read-clause-costs : goal.returns-in_err-log_read-clause-costs
+returns-in_err-log_read-clause-costs g c =
+    let exit = err_from_is_err_and c.from_residual.result c.from_residual.ensures.1 in
+    rw (exit.1) (
     let view = g.S.EawStore.view c.args.store.now in
     let one : lay_cost (g.S.EawStore.calls c.args.store.now) c.args.tid (c.args.addr, length c.args.buf.now) (range_at (listed (view.ranges c.args.tid)) c.args.pos) ≡ g.S.EawStore.calls c.args.store.now (log_read c.args.tid) =
     ap (λ (p : ℕ × ℕ). lay_cost (g.S.EawStore.calls c.args.store.now) c.args.tid (c.args.addr, length c.args.buf.now) p) (sym c.part_range-start.ensures) ∙
     met_cost (g.S.EawStore.calls c.args.store.now) c.args.tid c.args.addr (length c.args.buf.now) c.part_range-start.result.0 c.part_range-start.result.1 c.max-first.result c.min-last.result
     c.max-first.ensures (omega (arith, c.min-last.ensures, c.from.ensures)) (omega (arith, c.if-first-last.false)) in
-    record { done = λ exact. tt; most = omega (arith, one, c.in-Err.ensures.costs.most) }
+    record { done = λ exact. tt; most = omega (arith, one, c.in_err-log_read.ensures.costs.most) })

@@ -1,5 +1,5 @@
 use Rattle.std.proofs.Common.{List, ℕ, ◌<◌, ◌++◌, length, inr, refl, sym, ◌∙◌, ap, subst}
-use Rattle.std.specs.Prelude.{All, flat_map}
+use Rattle.std.specs.Prelude.{All, IsTrue, flat_map}
 use Rattle.frame_lines.specs.Framed.{bytes_line}
 use Rattle.frame_lines.proofs.Framing.{are_some, frames_now, next, has_sent, gives_framed, framed_stop}
 use Rattle.std.proofs.lemmas.Result.{err_from_is_err_and}
@@ -17,14 +17,17 @@ returns-then-link_down-clause-answers g c = λ tell state stood.
     let done = c.in_ok-answer.ensures.answers tell state.inner stood.0 in
     (record state { inner = done.0 }, (inr (c.answer.new.out.items, done.1), refl), done.3)
 
-pub write_answer-requires-clause-some : goal.write_answer-requires-clause-some
-write_answer-requires-clause-some g c =
+pub write_answer-requires-clause-frames : goal.write_answer-requires-clause-frames
+write_answer-requires-clause-frames g c =
     let view = g.R.Mirrored.view in
     let old = c.args.self.now.responder in
     let mid = c.answer.new.self in
     let sends = g.met.R.Mirrored.mirrors old mid c.in_ok-answer.ensures.sends in
     let now = frames_now g.R.Responder.tells (view old) (view mid) sends c.requires.1 in
-    subst (All (λ (b : List ℕ). 0 < length b)) (sym now) (are_some sends.added)
+    record {
+      told = subst IsTrue (sym sends.kind.told) c.requires.1.told;
+      some = subst (All (λ (b : List ℕ). 0 < length b)) (sym now) (are_some sends.added);
+    }
 
 pub returns-in-Ok-clause-answers : goal.returns-in-Ok-clause-answers
 returns-in-Ok-clause-answers g c = λ tell state stood.

@@ -1,5 +1,5 @@
 use Rattle.eaw_face.specs.Mirroring.{Mirrors}
-use Rattle.std.proofs.Common.{◌≡◌, ◌∙◌, ◌<◌, ℕ, [], Option, length, unwrap_or, sym, ap, subst}
+use Rattle.std.proofs.Common.{◌≡◌, ◌∙◌, ◌<◌, ℕ, [], Option, length, unwrap_or, sym, ap, subst, rules}
 use Rattle.eaw_face.specs.Causes.{IsAlive}
 use Rattle.page_store.specs.Shown.{pages_of}
 use Rattle.history.specs.Rows.{table_of}
@@ -34,21 +34,21 @@ index_laws g = let K = g.met.K.KeyIndex in record { rises = K.rises; given = K.g
 pub is_live-requires : goal.is_live-requires
 is_live-requires g c = subst (λ (n : ℕ). c.args.caller < n) (sym c.self.invariant.seats) (subst (λ (h : Held g.row.S.Denot). c.args.caller < (g.S.EawStore.view h.records.store).shape.numbers) (sym c.self.view_is) c.requires.inside)
 
-pub clear-requires-clause-idle : goal.clear-requires-clause-idle
-clear-requires-clause-idle g c = ap (λ (o : Option Granted). unwrap_or o []) (none_of (live_in c.self.inside.seats c.args.caller) (sym c.is_live.ensures ∙ c.if-is_live.false))
-
-pub clear-requires-clause-unheld : goal.clear-requires-clause-unheld
-clear-requires-clause-unheld g c =
-    c.self.invariant.idle (subst (λ (h : Held g.row.S.Denot). IsAlive (g.S.EawStore.view h.records.store)) (sym c.self.view_is) c.requires.alive)
-    c.args.caller (none_of (live_in c.self.inside.seats c.args.caller) (sym c.is_live.ensures ∙ c.if-is_live.false))
-
-pub clear-requires-clause-ready : goal.clear-requires-clause-ready
-clear-requires-clause-ready g c told =
+pub clear-requires : goal.clear-requires
+clear-requires g c =
     let V = g.S.EawStore.view in
     let i = c.self.inside in
-    ready g.S.EawStore.tells g.S.EawStore.opens g.K.KeyIndex.index (index_laws g) g.met.S.EawStore.one_data (pages_of (V i.records.store) i.records) (laws_at g i.records.store) i.base (table_of i.base) i.history.items i.seats i.doubt (length i.seats.places) c.self.invariant
-    (subst (λ (h : Held g.row.S.Denot). IsAlive (V h.records.store)) (sym c.self.view_is) c.requires.alive) c.args.caller (none_of (live_in i.seats c.args.caller) (sym c.is_live.ensures ∙ c.if-is_live.false))
-    (subst (λ (h : Held g.row.S.Denot). offers_in h.seats c.args.caller ≡ unoffered) (sym c.self.view_is) c.requires.unoffered) told
+    let none = none_of (live_in c.self.inside.seats c.args.caller) (sym c.is_live.ensures ∙ c.if-is_live.false) in
+    let living = subst (λ (h : Held g.row.S.Denot). IsAlive (V h.records.store)) (sym c.self.view_is) c.requires.alive in
+    record {
+      inside = subst (λ (h : Held g.row.S.Denot). c.args.caller < (V h.records.store).shape.numbers) (sym c.self.view_is) c.requires.inside;
+      few = search rules;
+      alive = living;
+      idle = ap (λ (o : Option Granted). unwrap_or o []) none;
+      unheld = c.self.invariant.idle living c.args.caller none;
+      ready = λ told. ready g.S.EawStore.tells g.S.EawStore.opens g.K.KeyIndex.index (index_laws g) g.met.S.EawStore.one_data (pages_of (V i.records.store) i.records) (laws_at g i.records.store) i.base (table_of i.base) i.history.items i.seats i.doubt (length i.seats.places) c.self.invariant
+          living c.args.caller none (subst (λ (h : Held g.row.S.Denot). offers_in h.seats c.args.caller ≡ unoffered) (sym c.self.view_is) c.requires.unoffered) told;
+    }
 
 pub invariant_of-self : goal.invariant_of-self
 invariant_of-self g c =
@@ -70,7 +70,7 @@ returns g c =
     let V = g.S.EawStore.view in
     let i = c.self.inside in
     record {
-      sends = subst (λ (h : Held g.row.S.Denot). Mirrors g.S.EawStore.tells (V h.records.store) (V c.clear.new.records.store)) c.self.view_is c.clear.ensures.clears.mirrors;
+      sends = subst (λ (h : Held g.row.S.Denot). Mirrors g.S.EawStore.tells (V h.records.store) (V c.clear.new.records.store)) c.self.view_is c.clear.ensures.clears.spares.mirrors;
       cause = subst (λ (h : Held g.row.S.Denot). PurgeCause (core_of g.S.EawStore.opens g.K.KeyIndex.index (V h.records.store) h).state c.args.caller c.match-clear.result) c.self.view_is
           (rw (answer_is g c) (purge_cause g.S.EawStore.tells g.S.EawStore.opens g.K.KeyIndex.index (index_laws g) g.met.S.EawStore.one_data (pages_of (V i.records.store) i.records) (laws_at g i.records.store) i.base (table_of i.base) i.history.items i.seats i.doubt (length i.seats.places) c.self.invariant
           (subst (λ (h : Held g.row.S.Denot). IsAlive (V h.records.store)) (sym c.self.view_is) c.requires.alive) c.args.caller (none_of (live_in i.seats c.args.caller) (sym c.is_live.ensures ∙ c.if-is_live.false))

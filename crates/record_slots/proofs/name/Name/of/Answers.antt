@@ -1,17 +1,17 @@
 use Rattle.std.proofs.Common.{arith, ap, sym, ◌∙◌, ◌≡◌, length, ℕ, List, ◌++◌, drop, replicate}
 use Rattle.std.proofs.lemmas.Bool.{eqb-false}
 use Rattle.std.proofs.lemmas.List.{take_at, drop_at, drop-replicate, length-append, length-drop, length-replicate}
-use Rattle.record_slots.specs.Text.{IsName, IsStoredName}
+use Rattle.record_slots.specs.Text.{IsName, IsStored}
 use Rattle.record_slots.proofs.name.Name.of.Goals as goal
 
 -- a text that was copied over zeros is stored
-stored : (text copied : List ℕ) → copied ≡ text → IsName text → IsStoredName (length text) (copied ++ drop (length text) (replicate 16 0))
+stored : (text copied : List ℕ) → copied ≡ text → IsName text → IsStored 16 IsName (length text) (copied ++ drop (length text) (replicate 16 0))
 stored text copied same value =
     let zeros : List ℕ = replicate 16 0 in
     record {
       size = omega (arith, value.short, ap length same, length-append copied (drop (length text) zeros), length-drop (length text) zeros, length-replicate {A = ℕ} 16 0);
       fits = value.short;
-      name = rw (take_at copied (drop (length text) zeros) (length text) (ap length same), same) value;
+      text = rw (take_at copied (drop (length text) zeros) (length text) (ap length same), same) value;
       padded = drop_at copied (drop (length text) zeros) (length text) (ap length same) ∙ drop-replicate {X = ℕ} (length text) 16 0;
     }
 

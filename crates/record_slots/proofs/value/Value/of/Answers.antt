@@ -5,13 +5,13 @@ use Rattle.record_slots.specs.Text.{IsValue, IsStored}
 use Rattle.record_slots.proofs.value.Value.of.Goals as goal
 
 -- a text that was copied over zeros is stored
-stored : (text copied : List ℕ) → copied ≡ text → IsValue text → IsStored (length text) (copied ++ drop (length text) (replicate 54 0))
+stored : (text copied : List ℕ) → copied ≡ text → IsValue text → IsStored 54 IsValue (length text) (copied ++ drop (length text) (replicate 54 0))
 stored text copied same value =
     let zeros : List ℕ = replicate 54 0 in
     record {
       size = omega (arith, value.short, ap length same, length-append copied (drop (length text) zeros), length-drop (length text) zeros, length-replicate {A = ℕ} 54 0);
       fits = value.short;
-      value = rw (take_at copied (drop (length text) zeros) (length text) (ap length same), same) value;
+      text = rw (take_at copied (drop (length text) zeros) (length text) (ap length same), same) value;
       padded = drop_at copied (drop (length text) zeros) (length text) (ap length same) ∙ drop-replicate {X = ℕ} (length text) 54 0;
     }
 
