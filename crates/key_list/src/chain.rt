@@ -78,13 +78,13 @@ impl KeyIndex for KeyList {
         table: u8,
         key: u64,
     ) -> Result<Sought, PageFault> {
-        let slots = SLOTS_IN_PAGE * index_page_count(pages);
+        let count = index_page_count(pages);
         let mut bytes = [0; PAGE_LEN];
         let at = page_for(pages, root, table, key, &mut bytes)?;
         let Some(slot) = slot_in(&at, &bytes, key) else {
             return Ok(room_in(&at, &bytes));
         };
-        if slot >= u64::from(slots) {
+        if slot >= u64::from(SLOTS_IN_PAGE * count) {
             return Err(PageFault::Damaged { page: at.page });
         }
         Ok(Sought::Slot(slot as u32))

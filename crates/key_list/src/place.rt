@@ -10,7 +10,6 @@ ghost use Rattle.page_store.specs.Works.{IsMet};
 ghost use Rattle.index_pages.specs.May.{MayLook};
 ghost use Rattle.index_pages.specs.Page.{pairs_said};
 ghost use Rattle.key_list.specs.Along.{led_to};
-ghost use Rattle.key_list.specs.Chain.{IsSoundChain};
 ghost use Rattle.key_list.specs.Finds.{Finds, most_read};
 ghost use Rattle.key_list.specs.Index.{chain, IsPlaceOf};
 ghost use Rattle.key_list.specs.Linked.{SaysLeaf};
@@ -107,7 +106,7 @@ fn locate_known<S: EawStore>(
     key: u64,
     leaf: LeafPage,
 ) -> Result<Located, PageFault>
-    requires sound { IsTrue S.tells → IsAlive (S.view pages.old.store) → IsSoundChain (S.view pages.old.store).state.bytes }
+    requires may { MayLook S.tells chain table root (S.view pages.old.store) }
     requires place { IsPlaceIn (S.view pages.old.store).shape leaf.page leaf.pairs.items }
     requires fits { IsTrue S.tells → IsAlive (S.view pages.old.store) → IsPlaceOf (S.view pages.old.store).state.bytes root key leaf.page leaf.link leaf.pairs.items }
     ensures looks { Looks S.tells (S.opens (S.view pages.old.store).shape) (is_failed result)
