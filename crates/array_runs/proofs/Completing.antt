@@ -51,20 +51,10 @@ no_damage media shape page holds is =
 
 -- a command that reads no input
 pub nothing_read : (status : Status) → (IsEarly status → ⊥) → InputSays status [] []
-nothing_read Good late = (omega arith, refl)
-nothing_read Usage late = (omega arith, refl)
 nothing_read TooLong late = absurd (late tt)
 nothing_read ReadFault late = tt
-nothing_read WriteFault late = (omega arith, refl)
-nothing_read MediaFault late = (omega arith, refl)
 nothing_read NoMemory late = tt
-nothing_read (Damaged page) late = (omega arith, refl)
-nothing_read (BadRow logger tid) late = (omega arith, refl)
-nothing_read NotMars late = (omega arith, refl)
-nothing_read (BadShape which given) late = (omega arith, refl)
-nothing_read (Refused refusal) late = (omega arith, refl)
-nothing_read (BadFrame n) late = (omega arith, refl)
-nothing_read (Gap expected got) late = (omega arith, refl)
+nothing_read _ late = (omega arith, refl)
 
 module _ (spares : Bool) (Works : Ended → Type 0) (Broken : ℕ → Type 0) (Looks Lacks : Type 0) (old new : View) (cut : Bool) (text : List ℕ) (given left : List ℕ) (s s' k k' m m' : ℕ)
     (short : length given ≤ input_limit) (shape : Shape) (array : IsArray shape old) (whole : (page : ℕ) → Broken page → ⊥) (has_all : Lacks → ⊥) (no_source : Rose s s' → ⊥) (no_sink : Rose k k' → ⊥) (no_media : Rose m m' → ⊥) where

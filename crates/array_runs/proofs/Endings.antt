@@ -11,24 +11,19 @@ use Rattle.array_runs.specs.Input.{InputSays}
 use Rattle.array_runs.specs.Opening.{IsUnread, IsUnopened}
 use Rattle.array_runs.specs.Statuses.{Counts, IsEarly, IsRefusal, IsSilent, script_status, served_status}
 use Rattle.array_runs.specs.declared.status.Status.{Status}
-use Rattle.array_runs.specs.declared.status.Status.TheVariants.{Good, Usage, TooLong, ReadFault, WriteFault, MediaFault, NoMemory, Damaged, BadRow, NotMars, BadShape, Refused, BadFrame, Gap}
+use Rattle.array_runs.specs.declared.status.Status.TheVariants.{Good, Usage, TooLong, ReadFault, WriteFault, MediaFault, NoMemory, Damaged, BadRow, NotMars, BadShape, Refused}
 
 -- a status with which nothing is written ends a run early, or is a refusal
 pub silent_kind : (status : Status) → IsSilent status → IsEarly status ⊎ IsRefusal status
-silent_kind Good silent = absurd silent
 silent_kind Usage silent = inr tt
 silent_kind TooLong silent = inl tt
 silent_kind ReadFault silent = inl tt
-silent_kind WriteFault silent = absurd silent
-silent_kind MediaFault silent = absurd silent
-silent_kind NoMemory silent = absurd silent
 silent_kind (Damaged page) silent = inr tt
 silent_kind (BadRow logger tid) silent = inr tt
 silent_kind NotMars silent = inr tt
 silent_kind (BadShape which given) silent = inr tt
 silent_kind (Refused refusal) silent = inr tt
-silent_kind (BadFrame n) silent = absurd silent
-silent_kind (Gap expected got) silent = absurd silent
+silent_kind _ silent = absurd silent
 
 pub read_fault_early : (status : Status) → status ≡ ReadFault → IsEarly status
 read_fault_early status is = subst IsEarly (sym is) tt
@@ -40,43 +35,24 @@ is_early status (inr is) = read_fault_early status is
 -- a command that reads nothing leaves the source's count
 pub counts_unread : (status : Status) (s k k' m m' : ℕ) → (IsEarly status → ⊥) → Counts status 0 0 k k' m m' → Counts status s s k k' m m'
 counts_unread ReadFault s k k' m m' late counts = absurd (late tt)
-counts_unread Good s k k' m m' late counts = (refl, counts.1, counts.2)
-counts_unread Usage s k k' m m' late counts = (refl, counts.1, counts.2)
-counts_unread TooLong s k k' m m' late counts = (refl, counts.1, counts.2)
-counts_unread WriteFault s k k' m m' late counts = (refl, counts.1, counts.2)
 counts_unread MediaFault s k k' m m' late counts = (refl, counts.1)
-counts_unread NoMemory s k k' m m' late counts = (refl, counts.1, counts.2)
-counts_unread (Damaged page) s k k' m m' late counts = (refl, counts.1, counts.2)
-counts_unread (BadRow logger tid) s k k' m m' late counts = (refl, counts.1, counts.2)
-counts_unread NotMars s k k' m m' late counts = (refl, counts.1, counts.2)
-counts_unread (BadShape which given) s k k' m m' late counts = (refl, counts.1, counts.2)
-counts_unread (Refused refusal) s k k' m m' late counts = (refl, counts.1, counts.2)
-counts_unread (BadFrame n) s k k' m m' late counts = (refl, counts.1, counts.2)
-counts_unread (Gap expected got) s k k' m m' late counts = (refl, counts.1, counts.2)
+counts_unread _ s k k' m m' late counts = (refl, counts.1, counts.2)
 
 -- nothing is written before the array is opened
 pub counts_unwritten : (status : Status) (s s' k m m' : ℕ) → IsUnopened status → Counts status s s' 0 0 m m' → Counts status s s' k k m m'
-counts_unwritten Good s s' k m m' kind counts = absurd kind
-counts_unwritten Usage s s' k m m' kind counts = absurd kind
 counts_unwritten TooLong s s' k m m' kind counts = (counts.0, refl, counts.2)
 counts_unwritten ReadFault s s' k m m' kind counts = (counts.0, refl, counts.2)
-counts_unwritten WriteFault s s' k m m' kind counts = absurd kind
 counts_unwritten MediaFault s s' k m m' kind counts = counts
 counts_unwritten NoMemory s s' k m m' kind counts = (counts.0, refl, counts.2)
-counts_unwritten (Damaged page) s s' k m m' kind counts = absurd kind
 counts_unwritten (BadRow logger tid) s s' k m m' kind counts = (counts.0, refl, counts.2)
 counts_unwritten NotMars s s' k m m' kind counts = (counts.0, refl, counts.2)
 counts_unwritten (BadShape which given) s s' k m m' kind counts = (counts.0, refl, counts.2)
-counts_unwritten (Refused refusal) s s' k m m' kind counts = absurd kind
-counts_unwritten (BadFrame n) s s' k m m' kind counts = absurd kind
-counts_unwritten (Gap expected got) s s' k m m' kind counts = absurd kind
+counts_unwritten _ s s' k m m' kind counts = absurd kind
 
 -- work over an array that was opened does not end early
 pub script_late : (ended : Ended) → IsEarly (script_status ended) → ⊥
 script_late script.All early = early
-script_late script.WriteFault early = early
-script_late script.MediaFault early = early
-script_late script.NoMemory early = early
+script_late _ early = early
 
 pub served_late : (result : Result Ended CoreFault) → IsEarly (served_status result) → ⊥
 served_late (Ok ended) early = script_late ended early
@@ -87,9 +63,7 @@ served_late (Err core.NoMemory) early = early
 -- it ends with a refusal only if the records were not taken
 pub script_accepted : (ended : Ended) → IsRefusal (script_status ended) → ⊥
 script_accepted script.All refusal = refusal
-script_accepted script.WriteFault refusal = refusal
-script_accepted script.MediaFault refusal = refusal
-script_accepted script.NoMemory refusal = refusal
+script_accepted _ refusal = refusal
 
 pub served_refused : (Silent : Type 0) (result : Result Ended CoreFault) → IfErr result (λ fault. Silent) → IsRefusal (served_status result) → Silent
 served_refused Silent (Ok ended) silent refusal = absurd (script_accepted ended refusal)
@@ -129,20 +103,10 @@ scripted ended status s s' k k' m m' n n' is read before after counts = rw (is, 
 
 -- an input that was read, at a status that is not early
 pub input_read : (status : Status) (given left : List ℕ) → (IsEarly status → ⊥) → length given ≤ input_limit → left ≡ [] → InputSays status given left
-input_read Good given left late short done = (short, done)
-input_read Usage given left late short done = (short, done)
 input_read TooLong given left late short done = absurd (late tt)
 input_read ReadFault given left late short done = tt
-input_read WriteFault given left late short done = (short, done)
-input_read MediaFault given left late short done = (short, done)
 input_read NoMemory given left late short done = tt
-input_read (Damaged page) given left late short done = (short, done)
-input_read (BadRow logger tid) given left late short done = (short, done)
-input_read NotMars given left late short done = (short, done)
-input_read (BadShape which given') given left late short done = (short, done)
-input_read (Refused refusal) given left late short done = (short, done)
-input_read (BadFrame n) given left late short done = (short, done)
-input_read (Gap expected got) given left late short done = (short, done)
+input_read _ given left late short done = (short, done)
 
 -- an input that is not taken
 pub unread_unopened : (status : Status) → IsUnread status → IsUnopened status
@@ -152,28 +116,12 @@ unread_unopened NoMemory kind = tt
 unread_unopened Good kind = kind
 unread_unopened Usage kind = kind
 unread_unopened WriteFault kind = kind
-unread_unopened MediaFault kind = absurd kind
 unread_unopened (Damaged page) kind = kind
-unread_unopened (BadRow logger tid) kind = absurd kind
-unread_unopened NotMars kind = absurd kind
-unread_unopened (BadShape which given) kind = absurd kind
-unread_unopened (Refused refusal) kind = absurd kind
-unread_unopened (BadFrame n) kind = absurd kind
-unread_unopened (Gap expected got) kind = absurd kind
+unread_unopened _ kind = absurd kind
 
 -- leaves the medium's count
 pub counts_unlooked : (status : Status) (s s' m : ℕ) → IsUnread status → Counts status s s' 0 0 0 0 → Counts status s s' 0 0 m m
 counts_unlooked TooLong s s' m kind counts = (counts.0, refl, refl)
 counts_unlooked ReadFault s s' m kind counts = (counts.0, refl, refl)
 counts_unlooked NoMemory s s' m kind counts = (counts.0, refl, refl)
-counts_unlooked Good s s' m kind counts = absurd kind
-counts_unlooked Usage s s' m kind counts = absurd kind
-counts_unlooked WriteFault s s' m kind counts = absurd kind
-counts_unlooked MediaFault s s' m kind counts = absurd kind
-counts_unlooked (Damaged page) s s' m kind counts = absurd kind
-counts_unlooked (BadRow logger tid) s s' m kind counts = absurd kind
-counts_unlooked NotMars s s' m kind counts = absurd kind
-counts_unlooked (BadShape which given) s s' m kind counts = absurd kind
-counts_unlooked (Refused refusal) s s' m kind counts = absurd kind
-counts_unlooked (BadFrame n) s s' m kind counts = absurd kind
-counts_unlooked (Gap expected got) s s' m kind counts = absurd kind
+counts_unlooked _ s s' m kind counts = absurd kind

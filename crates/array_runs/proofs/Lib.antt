@@ -1,4 +1,5 @@
 pub mod Shapes
+pub mod Short
 pub mod Forming
 pub mod Unopened
 pub mod Completing

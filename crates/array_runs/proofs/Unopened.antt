@@ -32,17 +32,7 @@ module _ (tells : Bool) (told : IsTrue tells) (old : View) (only_now : (image : 
   unread_of TooLong kind = idle_same _ _ tt
   unread_of ReadFault kind = idle_same _ _ tt
   unread_of NoMemory kind = inl (idle_same _ _ (inl refl))
-  unread_of Good kind = absurd kind
-  unread_of Usage kind = absurd kind
-  unread_of WriteFault kind = absurd kind
-  unread_of MediaFault kind = absurd kind
-  unread_of (Damaged page) kind = absurd kind
-  unread_of (BadRow logger tid) kind = absurd kind
-  unread_of NotMars kind = absurd kind
-  unread_of (BadShape which given) kind = absurd kind
-  unread_of (Refused refusal) kind = absurd kind
-  unread_of (BadFrame n) kind = absurd kind
-  unread_of (Gap expected got) kind = absurd kind
+  unread_of _ kind = absurd kind
 
   -- a medium whose array was not opened
   idle_kept : (MayWrite Cause : Type 0) (new : View) → KeepsData tells old new.moment new.left_since → Touched [] old.content new.content ⊎ MayWrite → Cause → Idle true MayWrite Cause old new false []

@@ -81,10 +81,7 @@ pub fn open_for<S: Source, M: Media, D: Depth>(
         Ok(room) => room,
         Err(_) => return Err((Status::NoMemory, media)),
     };
-    let (input, store) = match open(alloc, reads, source, media, depth) {
-        Ok(opened) => opened,
-        Err(ended) => return Err(ended),
-    };
+    let (input, store) = open(alloc, reads, source, media, depth)?;
     if callers > store.shape().numbers {
         return Err((Status::Usage, store.into_media()));
     }

@@ -4,8 +4,8 @@ use Rattle.pcm_media.specs.Images.{Content}
 use Rattle.tape_media.specs.Steps as steps
 use Rattle.tape_media.specs.Steps.{Step, Made, writes, barrier}
 use Rattle.tape_media.specs.Tape.{Tape}
-use Rattle.blank_media.specs.declared.notes.Change.{Change}
-use Rattle.blank_media.specs.declared.notes.Change.TheVariants.{Write, Barrier}
+use Rattle.blank_media.specs.declared.change.Change.{Change}
+use Rattle.blank_media.specs.declared.change.Change.TheVariants.{Write, Barrier}
 
 -- what a change does
 abbrev pub step_of : Change → Step

@@ -8,7 +8,7 @@ ghost use Rattle.tape_media.specs.Steps.{writes, barrier};
 ghost use Rattle.tape_media.specs.Tape.{Takes, view_of};
 ghost use Rattle.blank_media.specs.Changes.{blank, content_of, is_steady};
 
-use crate::notes::Change;
+use crate::change::Change;
 use crate::work::Work;
 use mars_base::{Failed, NoMemory};
 use pcm_media::Media;

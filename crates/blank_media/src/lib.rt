@@ -5,7 +5,7 @@
 #![tactic(auto)]
 
 mod blank_media;
-mod notes;
+mod change;
 mod work;
 
 pub use blank_media::BlankMedia;

@@ -3,9 +3,11 @@ ghost use Rattle.std.specs.Prelude.{◌≡◌, ◌-◌, ◌^◌, [], ◌∷◌, 
 ghost use Rattle.tape_media.specs.Tape.{Takes};
 ghost use Rattle.blank_media.specs.Changes.{blank, step_of};
 
-use crate::notes::{Change, Notes};
+use crate::change::Change;
+use ghost_notes::Notes;
 use mars_base::Failed;
 use std::marker::Model;
+use tape_media::MadeStep;
 
 #[derive(Drop)]
 pub struct Work {
@@ -13,7 +15,8 @@ pub struct Work {
     len: u64,
     moment: u64,
     faults: u64,
-    notes: Notes,
+    // The writes and barriers so far.
+    notes: Notes<MadeStep>,
 }
 
 impl Model for Work {
@@ -22,7 +25,7 @@ impl Model for Work {
 
     ghost Value = { Tape };
 
-    ghost view = { λ w. tape_of w.len w.moment w.faults w.notes.made };
+    ghost view = { λ w. tape_of w.len w.moment w.faults w.notes.said };
 }
 
 impl Work {
@@ -74,7 +77,7 @@ impl Work {
             return self.refuse();
         }
         self.moment += 1;
-        self.notes = self.notes.then(self.moment, change);
+        self.notes = self.notes.then(&(self.moment, change));
         Ok(())
     }
 }

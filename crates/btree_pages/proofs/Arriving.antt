@@ -1,12 +1,12 @@
 -- What a removal knows when it has come to the key's leaf.
-use Rattle.std.proofs.Common.{◌≡◌, ℕ, ◌+◌, ◌^◌, ◌<◌, ◌≤◌, Bool, false, List, length, Option, Some, None, refl, sym, ◌∙◌, ap, arith}
+use Rattle.std.proofs.Common.{◌≡◌, ℕ, ◌+◌, ◌^◌, ◌<◌, ◌≤◌, Bool, false, List, length, Option, Some, None, refl, sym, ◌∙◌, ap, subst, arith}
 use Rattle.std.specs.Prelude.{IsTrue, IsSome}
 use Rattle.std.proofs.lemmas.Bool.{false≢true}
 use Rattle.array_shape.specs.declared.shape.Shape.{Shape}
 use Rattle.record_slots.specs.Places.{page_bytes, version_of}
 use Rattle.record_slots.specs.Super.{SaysSuper}
 use Rattle.record_slots.specs.declared.super_page.Super.{Super}
-use Rattle.page_store.specs.Index.{IsTable}
+use Rattle.page_store.specs.Index.{IsTable, index_pages_of}
 use Rattle.page_store.specs.Looks.{Looks}
 use Rattle.page_store.specs.Pairs.{Pair, found}
 use Rattle.page_store.specs.Shown.{PagesView}
@@ -19,7 +19,9 @@ use Rattle.btree_laws.specs.Tree.{pairs_of_tree}
 use Rattle.btree_laws.specs.declared.root.Root.{Root}
 use Rattle.btree_pages.specs.Index.{tree_removal, AreSoundTrees}
 use Rattle.btree_pages.specs.OnWay.{IsReached}
+use Rattle.btree_pages.specs.May.{IsLone}
 use Rattle.btree_pages.specs.Trees.{table_sound}
+use Rattle.btree_pages.specs.Writes.{IsRead}
 use Rattle.btree_pages.proofs.Coming.{reached_down}
 use Rattle.btree_pages.proofs.Ending.{found_there}
 use Rattle.btree_pages.proofs.Giveable.{slot_may}
@@ -58,12 +60,23 @@ module _ (tells : Bool) (E : Shape → List ℕ → List ℕ → Type 0) (root :
   pub leaf_now : IsTrue tells → IsReached root v2.store.state.bytes key leaf level pairs
   leaf_now = still_told tells (E v0.store.shape) v0 v2 both_looks (λ (b : List ℕ). IsReached root b key leaf level pairs) leaf_way
 
-  pub found_now : (slot : ℕ) → found pairs key ≡ Some slot → IsTrue tells → found (pairs_of_tree v2.store.state.bytes root.page) key ≡ Some slot
+  found_now : (slot : ℕ) → found pairs key ≡ Some slot → IsTrue tells → found (pairs_of_tree v2.store.state.bytes root.page) key ≡ Some slot
   found_now slot is = still_told tells (E v0.store.shape) v0 v2 both_looks (λ (b : List ℕ). found (pairs_of_tree b root.page) key ≡ Some slot)
       (λ told. found_there root v0.store.state.bytes key slot leaf level pairs (table_sound v0.store.state.bytes root (sound told) (named told)) fits bottom (leaf_way told) is)
 
-  pub alone_now : (slot : ℕ) → found pairs key ≡ Some slot → length pairs ≤ 1 → IsTrue tells → count_of v2.store.state.bytes leaf ≡ 1
+  alone_now : (slot : ℕ) → found pairs key ≡ Some slot → length pairs ≤ 1 → IsTrue tells → count_of v2.store.state.bytes leaf ≡ 1
   alone_now slot is few told = alone_count root v2.store.state.bytes key leaf level slot pairs (leaf_now told) is few
+
+  pub lone_now : (slot : ℕ) → found pairs key ≡ Some slot → length pairs ≤ 1 → IsRead v0.store.shape parent above entries → leaf < index_pages_of v1.store.shape → IsLone tells v2.store root key slot leaf parent above entries
+  lone_now slot is few read inside = record {
+    finds = found_now slot is;
+    inside = subst (λ (sh : Shape). leaf < index_pages_of sh) (sym looks'.shape) inside;
+    leaf_is = child_is;
+    alone = alone_now slot is few;
+    parent = subst (λ (sh : Shape). IsRead sh parent above entries) (sym both_looks.shape) read;
+    level_is = one;
+    reached = still_told tells (E v0.store.shape) v0 v2 both_looks (λ (b : List ℕ). IsReached root b key parent above entries) reached;
+  }
 
   pub stays_here : length pairs ≤ 1 → length entries ≤ 1 → IsTrue tells → tree_removal v0.store.state.bytes root.page key ≡ None
   stays_here few only told = kept_last root v0.store.state.bytes key leaf level parent above pairs entries bottom one (leaf_way told) (reached told) few only

@@ -21,13 +21,11 @@ use Rattle.index_pages.specs.Page.{page_pairs, pairs_said, kind_said, level_said
 use Rattle.index_pages.specs.Ways.{above, Keeps}
 use Rattle.index_pages.specs.Written.{AreSmall, kind_for, written_page}
 use Rattle.record_slots.proofs.ReadingBack.{length-part_bytes}
-use Rattle.index_pages.proofs.Fronts.{super_written, super_kept, version_kept}
+use Rattle.index_pages.proofs.Fronts.{version_kept}
 use Rattle.index_pages.proofs.Carrying.{carries_on}
 use Rattle.index_pages.proofs.PageFacts.{length-page_pairs}
-use Rattle.index_pages.proofs.Puts.{AllApart, Stand, applied_long, applied_away, applied_stand}
-use Rattle.index_pages.proofs.Ranges.{Apart}
 use Rattle.index_pages.proofs.Rising.{length-inserted}
-use Rattle.index_pages.proofs.Taken.{HasTaken, IsAfter, taken_none, taken_one, page_is_due, due_free, due_next, dues_differ, is_after, after_due, after_slots, after_pages, after_free, taken_writable}
+use Rattle.index_pages.proofs.Taken.{HasTaken, IsAfter, taken_none, due_free, due_next, dues_differ, is_after, after_due, after_slots, after_pages, after_free}
 use Rattle.index_pages.proofs.Writing.{small_take, small_inserted, written_kind, written_level, written_link, written_pairs, length-written_page}
 use Rattle.btree_laws.specs.Changes.{IsHalf, IsCut, middle, with_entry, SplitsChild}
 use Rattle.btree_laws.specs.Descent.{child_for, page_for}
@@ -46,7 +44,8 @@ use Rattle.btree_pages.specs.Trees.{table_sound}
 use Rattle.btree_pages.proofs.Actions.{half_actions}
 use Rattle.btree_pages.proofs.Descending.{Child, child_step}
 use Rattle.btree_pages.proofs.Entries.{with_inserted, entry_child}
-use Rattle.btree_pages.proofs.LaidOut.{LaidOut, laid_out, page_at}
+use Rattle.btree_pages.proofs.Halving.{AreWritten, are_written, is_half, takes_due, taken_says}
+use Rattle.btree_pages.proofs.LaidOut.{LaidOut, laid_out}
 use Rattle.btree_pages.proofs.Others.{due_apart, free_apart, tables_apart, one_changed, others_untouched}
 
 pub small_at : (n : ℕ) (ps : List Pair) → n < length ps → AreSmall ps → key_at ps n < 2 ^ 64
@@ -68,14 +67,14 @@ module _ (shape : Shape) (old : List ℕ) (half : ℕ) (long : length old ≡ da
   laid : LaidOut root old half
   laid = laid_out shape old half long all root sound table
 
-  took_none : HasTaken old 0 front
-  took_none = taken_none old front says laid.whole.pages
+  takes_first : (taken ≡ page_due old 0) × HasTaken old 1 after
+  takes_first = takes_due root old half laid 0 front after taken (taken_none old front says laid.whole.pages) takes
 
   due : taken ≡ page_due old 0
-  due = takes.due ∙ page_is_due old 0 front laid.whole.pages took_none
+  due = takes_first.0
 
   took : HasTaken old 1 after
-  took = subst (λ (f : Super). HasTaken old 1 f) (sym takes.after_is) (taken_one old 0 front laid.whole.pages took_none)
+  took = takes_first.1
 
   -- the page that is taken: it is a given page that is free, or the next
   taken_in : (2 ≤ taken) × (taken < half) × (taken < next_page old + (1 - free_pages old))
@@ -175,84 +174,21 @@ module _ (shape : Shape) (old : List ℕ) (half : ℕ) (long : length old ≡ da
   other : page ≢ parent
   other same = omega (arith, level_page, level_parent, ap (λ (x : ℕ). level_of old x) same)
 
-  parts : List Part
-  parts = cutting_parts after page level pairs taken parent entries
-
   cut : List ℕ
   cut = applied (cutting_parts after page level pairs taken parent entries) old
 
-  fit : AllFit (length old) parts
-  unfolding parts lower upper named part
-  fit = (omega (arith, len1, laid.size, own_page, laid.given_most), (omega (arith, len2, laid.size, taken_in), (omega (arith, len3, laid.size, own_parent, laid.given_most), (omega (arith, len4, laid.size, taken_in), tt))))
-
-  apart_pages : (x y n m : ℕ) → n ≡ 512 → m ≡ 512 → x ≢ y → Apart (address x 0) n (address y 0) m
-  apart_pages x y n m is is' ne = elim (cases_lt x y) [ inl below ↦ inl (omega (arith, is)) | inr behind ↦ inr (omega (arith, is', ne)) ]
-
-  apart_front : (x n m : ℕ) → n ≡ 512 → m ≡ 280 → 1 ≤ x → Apart (address x 0) n (address 0 8) m
-  apart_front x n m is is' some = inr (omega (arith, is', some))
-
-  apart : AllApart parts
-  unfolding parts lower upper named part
-  apart = (
-    (
-      apart_pages page taken _ _ len1 len2 (fresh page page_under),
-      (apart_pages page parent _ _ len1 len3 other, (apart_front page _ _ len1 len4 own_page.0, tt)),
-    ),
-    (
-      (apart_pages taken parent _ _ len2 len3 (λ e. fresh parent parent_under (sym e)), (apart_front taken _ _ len2 len4 (omega (arith, taken_in)), tt)),
-      ((apart_front parent _ _ len3 len4 own_parent.0, tt), (tt, tt)),
-    ),
-  )
-
-  cut_long : length cut ≡ length old
-  unfolding cut parts
-  cut_long = applied_long parts old fit
-
-  cut_count : page_count cut ≡ half + half
-  cut_count = omega (arith, cut_long, laid.size)
-
-  stand : Stand parts cut
-  unfolding cut parts
-  stand = applied_stand parts old fit apart
-
-  lower_new : page_bytes cut page ≡ lower
-  unfolding parts lower
-  lower_new = page_at cut page lower len1 stand.0
-
-  upper_new : page_bytes cut taken ≡ upper
-  unfolding parts upper
-  upper_new = page_at cut taken upper len2 stand.1.0
-
-  named_new : page_bytes cut parent ≡ named
-  unfolding parts named
-  named_new = page_at cut parent named len3 stand.1.1.0
-
-  part_new : range cut 8 280 ≡ part
-  unfolding parts part
-  part_new = ap (λ (n : ℕ). range cut 8 n) (sym len4) ∙ stand.1.1.1.0
-
-  away : (at n : ℕ) → Apart at n (address page 0) (length lower) → Apart at n (address taken 0) (length upper) → Apart at n (address parent 0) (length named) → Apart at n (address 0 8) (length part) → range cut at n ≡ range old at n
-  unfolding cut parts lower upper named part
-  away at n a b e f = applied_away parts old at n fit (a, (b, (e, (f, tt))))
-
-  zero_new : range cut 0 8 ≡ range old 0 8
-  zero_new = away 0 8 (inl (omega (arith, own_page))) (inl (omega (arith, taken_in))) (inl (omega (arith, own_parent))) (inl (omega arith))
+  written : AreWritten old cut half page taken parent lower upper named part
+  unfolding cut lower upper named part
+  written = are_written old half laid.size page taken parent (written_page level 0 (take 15 pairs)) (written_page level 0 (drop 15 pairs)) (written_page (level + 1) 0 (inserted entries (key_at pairs 15) taken)) (part_bytes after)
+      (own_page.0, omega (arith, own_page, laid.given_most)) (omega (arith, taken_in), taken_in.1) (own_parent.0, omega (arith, own_parent, laid.given_most)) (fresh page page_under) other (λ e. fresh parent parent_under (sym e)) len1 len2 len3 len4
 
   -- the other pages and the slots are as they were
   cut_others : (x : ℕ) → 1 ≤ x → x ≢ parent → x ≢ page → x ≢ taken → page_bytes cut x ≡ page_bytes old x
-  unfolding page_bytes
-  cut_others x some no_parent no_page no_taken =
-      let e : 512 * x ≡ address x 0 = omega arith in
-      rw e (away (address x 0) 512 (apart_pages x page 512 _ refl len1 no_page) (apart_pages x taken 512 _ refl len2 no_taken) (apart_pages x parent 512 _ refl len3 no_parent) (apart_front x 512 _ refl len4 some))
+  cut_others x some no_parent no_page no_taken = written.others x some no_page no_taken no_parent
 
   pub cut_slots : (j : ℕ) → slot_of (applied (cutting_parts after page level pairs taken parent entries) old) j ≡ slot_of old j
-  unfolding slot_of cut
-  cut_slots j =
-      let place : slot_at cut j ≡ 512 * half + 64 * j = omega (arith, cut_count) in
-      let place' : slot_at old j ≡ 512 * half + 64 * j = omega (arith, laid.count) in
-      ap (λ (x : ℕ). range cut x 64) place
-      ∙ away (512 * half + 64 * j) 64 (inr (omega (arith, len1, own_page, laid.given_most))) (inr (omega (arith, len2, taken_in))) (inr (omega (arith, len3, own_parent, laid.given_most))) (inr (omega (arith, len4, taken_in)))
-      ∙ ap (λ (x : ℕ). range old x 64) (sym place')
+  unfolding cut
+  cut_slots = written.slots
 
   -- what the super page says then
   after_next : after.next_page ≡ next_page old + (1 - free_pages old)
@@ -261,28 +197,13 @@ module _ (shape : Shape) (old : List ℕ) (half : ℕ) (long : length old ≡ da
   after_most : after.next_page ≤ half
   after_most = elim (cases_lt 0 (free_pages old)) [ inl some ↦ omega (arith, after_next, some, laid.given_most) | inr none ↦ omega (arith, after_next, none, left, half_is) ]
 
-  same_version : after.version ≡ front.version
-  same_version = took.version_is ∙ sym says.version
-
-  same_form : after.form ≡ front.form
-  same_form = took.form_is ∙ sym says.form
-
-  slots_few : next_slot old ≤ 8 * half
-  slots_few = omega (arith, laid.whole.front.slots, laid.count)
-
-  says_now : SaysSuper (page_bytes cut 0) after
+  says_all : SaysSuper (page_bytes cut 0) after × IsSuper 1 cut × (tables_of cut ≡ tables_of old)
   unfolding part
-  says_now =
-      super_written old cut front after zero_new part_new says same_version same_form
-      (taken_writable old 1 after laid.whole.slots laid.whole.pages took after_long (omega (arith, slots_few, few)) laid.whole.front.some_pages (omega (arith, laid.given_most, few)))
-
-  front_now : IsSuper 1 cut × (tables_of cut ≡ tables_of old)
-  front_now = super_kept 1 old cut front after half cut_count says says_now same_version same_form (took.entries_are ∙ sym says.entries)
-      (omega (arith, took.slot_next, slots_few)) (omega (arith, says.next_page, after_next)) after_most laid.whole.front
+  says_all = taken_says root old cut half laid few front after entries_long says 1 took after_most written.count written.mark written.front
 
   lists_now : IsAfter old cut 1
   unfolding cut
-  lists_now = is_after old cut 1 after laid.whole.slots laid.whole.pages took says_now
+  lists_now = is_after old cut 1 after laid.whole.slots laid.whole.pages took says_all.0
       (λ i from less.
       let f = due_free old laid.whole.pages i less in
       cut_others (page_due old i) (omega (arith, f.1)) (λ e. free_apart old root (page_due old i) laid.root_sound (subst (λ (x : ℕ). IsPageOfTree old root.page x) (sym e) parent_under) f.3)
@@ -300,21 +221,13 @@ module _ (shape : Shape) (old : List ℕ) (half : ℕ) (long : length old ≡ da
 
   lower_half : IsHalf old cut page page (take 15 (page_pairs old page))
   unfolding lower
-  lower_half = record {
-    kind = ap kind_said lower_new ∙ written_kind level 0 (take 15 pairs) lower_few (omega (arith, read.level_most)) ∙ sym (tree_kind root level old page child.from child.to page_tree);
-    level = ap level_said lower_new ∙ written_level level 0 (take 15 pairs) lower_few (omega (arith, read.level_most)) ∙ sym level_page;
-    link = ap link_said lower_new ∙ written_link level 0 (take 15 pairs) lower_few (omega (arith, read.level_most));
-    pairs_are = ap pairs_said lower_new ∙ written_pairs level 0 (take 15 pairs) lower_few (omega (arith, read.level_most)) (small_take 15 pairs read.small).0 ∙ ap (take 15) pairs_are;
-  }
+  lower_half = is_half old cut page page level (take 15 pairs) (take 15 (page_pairs old page)) written.first lower_few read.level_most (small_take 15 pairs read.small).0
+      (tree_kind root level old page child.from child.to page_tree) level_page (ap (take 15) pairs_are)
 
   upper_half : IsHalf old cut page taken (drop 15 (page_pairs old page))
   unfolding upper
-  upper_half = record {
-    kind = ap kind_said upper_new ∙ written_kind level 0 (drop 15 pairs) upper_few (omega (arith, read.level_most)) ∙ sym (tree_kind root level old page child.from child.to page_tree);
-    level = ap level_said upper_new ∙ written_level level 0 (drop 15 pairs) upper_few (omega (arith, read.level_most)) ∙ sym level_page;
-    link = ap link_said upper_new ∙ written_link level 0 (drop 15 pairs) upper_few (omega (arith, read.level_most));
-    pairs_are = ap pairs_said upper_new ∙ written_pairs level 0 (drop 15 pairs) upper_few (omega (arith, read.level_most)) (small_take 15 pairs read.small).1 ∙ ap (drop 15) pairs_are;
-  }
+  upper_half = is_half old cut page taken level (drop 15 pairs) (drop 15 (page_pairs old page)) written.second upper_few read.level_most (small_take 15 pairs read.small).1
+      (tree_kind root level old page child.from child.to page_tree) level_page (ap (drop 15) pairs_are)
 
   is_cut : IsCut old cut page page taken
   is_cut = record { full = ap (λ (ps : List Pair). length ps) (sym pairs_are) ∙ full; left_is = lower_half; right_is = upper_half }
@@ -348,7 +261,7 @@ module _ (shape : Shape) (old : List ℕ) (half : ℕ) (long : length old ≡ da
   named_pairs : page_pairs cut parent ≡ with_entry (page_pairs old parent) key (middle old page, taken)
   unfolding named
   named_pairs =
-      ap pairs_said named_new ∙ written_pairs (level + 1) 0 (inserted entries (key_at pairs 15) taken) named_few (omega (arith, above_read.level_most)) named_small
+      ap pairs_said written.third ∙ written_pairs (level + 1) 0 (inserted entries (key_at pairs 15) taken) named_few (omega (arith, above_read.level_most)) named_small
       ∙ ap (λ (ps : List Pair). inserted entries (key_at ps 15) taken) pairs_are ∙ ap (λ (ps : List Pair). inserted ps (key_at (page_pairs old page) 15) taken) way.pairs_are
       ∙ with_inserted root level old (page_pairs old parent) parent_way.to key (key_at (page_pairs old page) 15) taken entries_some parent_way.tree.0.children parent_way.tree.1 (omega (arith, start, parent_way.from_key)) parent_way.key_to
       (λ a b t. within a b (subst (λ (x : ℕ). IsTree root level old x a b) (sym page_there) t))
@@ -357,9 +270,9 @@ module _ (shape : Shape) (old : List ℕ) (half : ℕ) (long : length old ≡ da
   unfolding named
   cut_splits = record {
     room = omega (arith, room, ap (λ (ps : List Pair). length ps) way.pairs_are, length-page_pairs old parent);
-    kind = ap kind_said named_new ∙ written_kind (level + 1) 0 (inserted entries (key_at pairs 15) taken) named_few (omega (arith, above_read.level_most)) ∙ ap kind_for one_more;
-    level = ap level_said named_new ∙ written_level (level + 1) 0 (inserted entries (key_at pairs 15) taken) named_few (omega (arith, above_read.level_most)) ∙ one_more ∙ sym level_parent;
-    link = ap link_said named_new ∙ written_link (level + 1) 0 (inserted entries (key_at pairs 15) taken) named_few (omega (arith, above_read.level_most));
+    kind = ap kind_said written.third ∙ written_kind (level + 1) 0 (inserted entries (key_at pairs 15) taken) named_few (omega (arith, above_read.level_most)) ∙ ap kind_for one_more;
+    level = ap level_said written.third ∙ written_level (level + 1) 0 (inserted entries (key_at pairs 15) taken) named_few (omega (arith, above_read.level_most)) ∙ one_more ∙ sym level_parent;
+    link = ap link_said written.third ∙ written_link (level + 1) 0 (inserted entries (key_at pairs 15) taken) named_few (omega (arith, above_read.level_most));
     pairs = named_pairs ∙ ap (λ (x : ℕ). with_entry (page_pairs old parent) key (middle old x, taken)) page_there;
     cut = subst (λ (x : ℕ). IsCut old cut x x taken) page_there is_cut;
     two = taken_in.0;
@@ -393,7 +306,7 @@ module _ (shape : Shape) (old : List ℕ) (half : ℕ) (long : length old ≡ da
 
   pub cut_sound : AreSoundTrees (applied (cutting_parts after page level pairs taken parent entries) old)
   unfolding cut
-  cut_sound = one_changed old cut root sound table front_now.0 lists_now.slots lists_now.pages front_now.1 keeps cut_tree.0 tables_others
+  cut_sound = one_changed old cut root sound table says_all.1 lists_now.slots lists_now.pages says_all.2 keeps cut_tree.0 tables_others
 
   -- what splitting a page does to the data
   pub cutting_grows : Grows tree root.page old (applied (cutting_parts after page level pairs taken parent entries) old) × Rests tree root.page old (applied (cutting_parts after page level pairs taken parent entries) old)
@@ -401,10 +314,10 @@ module _ (shape : Shape) (old : List ℕ) (half : ℕ) (long : length old ≡ da
   cutting_grows = (
     record {
       sound = cut_sound;
-      size = cut_long;
-      version = version_kept old cut zero_new;
-      tables = front_now.1;
-      others = others_untouched old cut root sound table front_now.0 lists_now.slots lists_now.pages front_now.1 keeps cut_tree.0 tables_others;
+      size = written.size;
+      version = version_kept old cut written.mark;
+      tables = says_all.2;
+      others = others_untouched old cut root sound table says_all.1 lists_now.slots lists_now.pages says_all.2 keeps cut_tree.0 tables_others;
       slots = λ j lt ne. cut_slots j;
       later = omega (arith, lists_now.pages_next);
       few = omega (arith, lists_now.pages_next);
@@ -437,11 +350,11 @@ module _ (shape : Shape) (old : List ℕ) (half : ℕ) (long : length old ≡ da
 
   pub cut_says : SaysSuper (page_bytes (applied (cutting_parts after page level pairs taken parent entries) old) 0) after
   unfolding cut
-  cut_says = says_now
+  cut_says = says_all.0
 
   pub cut_size : length (applied (cutting_parts after page level pairs taken parent entries) old) ≡ length old
   unfolding cut
-  cut_size = cut_long
+  cut_size = written.size
 
   -- the page that is taken is the one that is due
   pub cut_due : taken ≡ page_due old 0
@@ -478,6 +391,6 @@ module _ (shape : Shape) (old : List ℕ) (half : ℕ) (long : length old ≡ da
       ≡ actions_below level old page (half_for (page_pairs old page) page taken key) 1 key
   unfolding cut
   half_left =
-      half_actions root old cut 1 (after_due old cut 1 lists_now) cut_long lists_now.due page page taken key is_cut level child.from child.to page_tree child.from_key child.key_to (below_page child.from child.to page_tree)
+      half_actions root old cut 1 (after_due old cut 1 lists_now) written.size lists_now.due page page taken key is_cut level child.from child.to page_tree child.from_key child.key_to (below_page child.from child.to page_tree)
       (half_for (page_pairs old page) page taken key) 0
       ∙ ap (λ (n : ℕ). actions_below level old page (half_for (page_pairs old page) page taken key) n key) (let z : 1 + 0 ≡ 1 = omega arith in z)

@@ -20,11 +20,9 @@ use Rattle.index_pages.specs.Page.{page_pairs, pairs_said, kind_said, level_said
 use Rattle.index_pages.specs.Ways.{Keeps}
 use Rattle.index_pages.specs.Written.{AreSmall, kind_for, written_page}
 use Rattle.record_slots.proofs.ReadingBack.{length-part_bytes}
-use Rattle.index_pages.proofs.Fronts.{super_written, super_kept, version_kept}
+use Rattle.index_pages.proofs.Fronts.{version_kept}
 use Rattle.index_pages.proofs.Carrying.{carries_on}
-use Rattle.index_pages.proofs.Puts.{AllApart, Stand, applied_long, applied_away, applied_stand}
-use Rattle.index_pages.proofs.Ranges.{Apart}
-use Rattle.index_pages.proofs.Taken.{HasTaken, IsAfter, taken_none, taken_one, page_is_due, due_free, due_next, dues_differ, is_after, after_due, after_slots, after_pages, after_free, taken_writable}
+use Rattle.index_pages.proofs.Taken.{HasTaken, IsAfter, taken_none, due_free, due_next, dues_differ, is_after, after_due, after_slots, after_pages, after_free}
 use Rattle.index_pages.proofs.Writing.{small_take, written_kind, written_level, written_link, written_pairs, length-written_page}
 use Rattle.btree_laws.specs.Changes.{IsHalf, IsCut, middle, SplitsRoot}
 use Rattle.btree_laws.specs.Descent.{child_for, page_for}
@@ -38,7 +36,8 @@ use Rattle.btree_pages.specs.Writes.{IsRead, growing_parts}
 use Rattle.btree_pages.specs.Index.{tree, AreSoundTrees, half_for, half_pairs, actions_below}
 use Rattle.btree_pages.specs.Trees.{table_sound}
 use Rattle.btree_pages.proofs.Actions.{half_actions}
-use Rattle.btree_pages.proofs.LaidOut.{LaidOut, laid_out, page_at}
+use Rattle.btree_pages.proofs.Halving.{AreWritten, are_written, is_half, takes_due, taken_says}
+use Rattle.btree_pages.proofs.LaidOut.{LaidOut, laid_out}
 use Rattle.btree_pages.proofs.Others.{due_apart, free_apart, tables_apart, one_changed, others_untouched}
 use Rattle.btree_pages.proofs.CutData.{small_at, tree_kind}
 
@@ -50,20 +49,20 @@ module _ (shape : Shape) (old : List ℕ) (half : ℕ) (long : length old ≡ da
   laid : LaidOut root old half
   laid = laid_out shape old half long all root sound table
 
-  took_none : HasTaken old 0 front
-  took_none = taken_none old front says laid.whole.pages
+  takes_first : (left ≡ page_due old 0) × HasTaken old 1 mid
+  takes_first = takes_due root old half laid 0 front mid left (taken_none old front says laid.whole.pages) one
+
+  takes_second : (right ≡ page_due old 1) × HasTaken old 2 after
+  takes_second = takes_due root old half laid 1 mid after right takes_first.1 two
 
   left_due : left ≡ page_due old 0
-  left_due = one.due ∙ page_is_due old 0 front laid.whole.pages took_none
-
-  took_one : HasTaken old 1 mid
-  took_one = subst (λ (f : Super). HasTaken old 1 f) (sym one.after_is) (taken_one old 0 front laid.whole.pages took_none)
+  left_due = takes_first.0
 
   right_due : right ≡ page_due old 1
-  right_due = two.due ∙ page_is_due old 1 mid laid.whole.pages took_one
+  right_due = takes_second.0
 
   took : HasTaken old 2 after
-  took = subst (λ (f : Super). HasTaken old 2 f) (sym two.after_is) (taken_one old 1 mid laid.whole.pages took_one)
+  took = takes_second.1
 
   -- a page that is taken: it is a given page that is free, or one of the next
   due_in : (i : ℕ) → i < 2 → (2 ≤ page_due old i) × (page_due old i < half) × (page_due old i < next_page old + (2 - free_pages old))
@@ -138,80 +137,19 @@ module _ (shape : Shape) (old : List ℕ) (half : ℕ) (long : length old ≡ da
   not_right : (x : ℕ) → IsPageOfTree old root.page x → x ≢ right
   not_right x u same = due_apart old root x 1 laid.whole.pages laid.root_sound u (same ∙ right_due)
 
-  parts : List Part
-  parts = growing_parts after left right root.page level pairs
-
   grown : List ℕ
   grown = applied (growing_parts after left right root.page level pairs) old
 
-  fit : AllFit (length old) parts
-  unfolding parts lower upper named part
-  fit = (omega (arith, len1, laid.size, left_in), (omega (arith, len2, laid.size, right_in), (omega (arith, len3, laid.size, root_in, laid.given_most), (omega (arith, len4, laid.size, right_in), tt))))
-
-  apart_pages : (x y n m : ℕ) → n ≡ 512 → m ≡ 512 → x ≢ y → Apart (address x 0) n (address y 0) m
-  apart_pages x y n m is is' ne = elim (cases_lt x y) [ inl below ↦ inl (omega (arith, is)) | inr behind ↦ inr (omega (arith, is', ne)) ]
-
-  apart_front : (x n m : ℕ) → n ≡ 512 → m ≡ 280 → 1 ≤ x → Apart (address x 0) n (address 0 8) m
-  apart_front x n m is is' some = inr (omega (arith, is', some))
-
-  apart : AllApart parts
-  unfolding parts lower upper named part
-  apart = (
-    (apart_pages left right _ _ len1 len2 differ, (apart_pages left root.page _ _ len1 len3 (λ e. not_left root.page root_under (sym e)), (apart_front left _ _ len1 len4 (omega (arith, left_in)), tt))),
-    (
-      (apart_pages right root.page _ _ len2 len3 (λ e. not_right root.page root_under (sym e)), (apart_front right _ _ len2 len4 (omega (arith, right_in)), tt)),
-      ((apart_front root.page _ _ len3 len4 root_in.0, tt), (tt, tt)),
-    ),
-  )
+  written : AreWritten old grown half left right root.page lower upper named part
+  unfolding grown lower upper named part
+  written = are_written old half laid.size left right root.page (written_page level 0 (take 15 pairs)) (written_page level 0 (drop 15 pairs)) (written_page (level + 1) 0 ((0, left) ∷ (key_at pairs 15, right) ∷ [])) (part_bytes after)
+      (omega (arith, left_in), left_in.1) (omega (arith, right_in), right_in.1) (root_in.0, omega (arith, root_in, laid.given_most)) differ (λ e. not_left root.page root_under (sym e)) (λ e. not_right root.page root_under (sym e)) len1 len2 len3 len4
 
   grown_long : length grown ≡ length old
-  unfolding grown parts
-  grown_long = applied_long parts old fit
-
-  grown_count : page_count grown ≡ half + half
-  grown_count = omega (arith, grown_long, laid.size)
-
-  stand : Stand parts grown
-  unfolding grown parts
-  stand = applied_stand parts old fit apart
-
-  lower_new : page_bytes grown left ≡ lower
-  unfolding parts lower
-  lower_new = page_at grown left lower len1 stand.0
-
-  upper_new : page_bytes grown right ≡ upper
-  unfolding parts upper
-  upper_new = page_at grown right upper len2 stand.1.0
-
-  named_new : page_bytes grown root.page ≡ named
-  unfolding parts named
-  named_new = page_at grown root.page named len3 stand.1.1.0
-
-  part_new : range grown 8 280 ≡ part
-  unfolding parts part
-  part_new = ap (λ (n : ℕ). range grown 8 n) (sym len4) ∙ stand.1.1.1.0
-
-  away : (at n : ℕ) → Apart at n (address left 0) (length lower) → Apart at n (address right 0) (length upper) → Apart at n (address root.page 0) (length named) → Apart at n (address 0 8) (length part) → range grown at n ≡ range old at n
-  unfolding grown parts lower upper named part
-  away at n a b e f = applied_away parts old at n fit (a, (b, (e, (f, tt))))
-
-  zero_new : range grown 0 8 ≡ range old 0 8
-  zero_new = away 0 8 (inl (omega (arith, left_in))) (inl (omega (arith, right_in))) (inl (omega (arith, root_in))) (inl (omega arith))
+  grown_long = written.size
 
   others : (x : ℕ) → 1 ≤ x → x ≢ root.page → x ≢ left → x ≢ right → page_bytes grown x ≡ page_bytes old x
-  unfolding page_bytes
-  others x some no_root no_left no_right =
-      let e : 512 * x ≡ address x 0 = omega arith in
-      rw e (away (address x 0) 512 (apart_pages x left 512 _ refl len1 no_left) (apart_pages x right 512 _ refl len2 no_right) (apart_pages x root.page 512 _ refl len3 no_root) (apart_front x 512 _ refl len4 some))
-
-  slots_same : (j : ℕ) → slot_of grown j ≡ slot_of old j
-  unfolding slot_of
-  slots_same j =
-      let place : slot_at grown j ≡ 512 * half + 64 * j = omega (arith, grown_count) in
-      let place' : slot_at old j ≡ 512 * half + 64 * j = omega (arith, laid.count) in
-      ap (λ (x : ℕ). range grown x 64) place
-      ∙ away (512 * half + 64 * j) 64 (inr (omega (arith, len1, left_in))) (inr (omega (arith, len2, right_in))) (inr (omega (arith, len3, root_in, laid.given_most))) (inr (omega (arith, len4, right_in)))
-      ∙ ap (λ (x : ℕ). range old x 64) (sym place')
+  others x some no_root no_left no_right = written.others x some no_left no_right no_root
 
   after_most : after.next_page ≤ half
   after_most = elim (cases_lt 1 (free_pages old)) [
@@ -219,58 +157,35 @@ module _ (shape : Shape) (old : List ℕ) (half : ℕ) (long : length old ≡ da
     | inr none ↦ omega (arith, took.page_next, none, enough, half_is, laid.free_few, laid.given_most)
   ]
 
-  same_version : after.version ≡ front.version
-  same_version = took.version_is ∙ sym says.version
-
-  same_form : after.form ≡ front.form
-  same_form = took.form_is ∙ sym says.form
-
-  slots_few : next_slot old ≤ 8 * half
-  slots_few = omega (arith, laid.whole.front.slots, laid.count)
-
-  says_now : SaysSuper (page_bytes grown 0) after
+  says_all : SaysSuper (page_bytes grown 0) after × IsSuper 1 grown × (tables_of grown ≡ tables_of old)
   unfolding part
-  says_now =
-      super_written old grown front after zero_new part_new says same_version same_form
-      (taken_writable old 2 after laid.whole.slots laid.whole.pages took after_long (omega (arith, slots_few, few)) laid.whole.front.some_pages (omega (arith, laid.given_most, few)))
-
-  front_now : IsSuper 1 grown × (tables_of grown ≡ tables_of old)
-  front_now = super_kept 1 old grown front after half grown_count says says_now same_version same_form (took.entries_are ∙ sym says.entries)
-      (omega (arith, took.slot_next, slots_few)) (omega (arith, says.next_page, took.page_next)) after_most laid.whole.front
+  says_all = taken_says root old grown half laid few front after entries_long says 2 took after_most written.count written.mark written.front
 
   lists_now : IsAfter old grown 2
-  lists_now = is_after old grown 2 after laid.whole.slots laid.whole.pages took says_now
+  lists_now = is_after old grown 2 after laid.whole.slots laid.whole.pages took says_all.0
       (λ i from less.
       let f = due_free old laid.whole.pages i less in
       others (page_due old i) (omega (arith, f.1)) (λ e. free_apart old root (page_due old i) laid.root_sound (subst (λ (x : ℕ). IsPageOfTree old root.page x) (sym e) root_under) f.3)
       (λ e. dues_differ old laid.whole.pages 0 i (omega (arith, from)) (sym left_due ∙ sym e))
       (λ e. dues_differ old laid.whole.pages 1 i (omega (arith, from)) (sym right_due ∙ sym e)))
-      (λ j free. slots_same j)
+      (λ j free. written.slots j)
 
   keeps : Keeps old grown
   keeps = record {
     pages = omega (arith, lists_now.pages_next);
     slots = omega (arith, lists_now.slots_next);
-    carried = λ t p lt carries. carries_on old grown t p (slots_same p.1) carries;
+    carried = λ t p lt carries. carries_on old grown t p (written.slots p.1) carries;
   }
 
   lower_half : IsHalf old grown root.page left (take 15 (page_pairs old root.page))
   unfolding lower
-  lower_half = record {
-    kind = ap kind_said lower_new ∙ written_kind level 0 (take 15 pairs) lower_few (omega arith) ∙ sym (tree_kind root level old root.page 0 key_end root_tree);
-    level = ap level_said lower_new ∙ written_level level 0 (take 15 pairs) lower_few (omega arith) ∙ sym level_is;
-    link = ap link_said lower_new ∙ written_link level 0 (take 15 pairs) lower_few (omega arith);
-    pairs_are = ap pairs_said lower_new ∙ written_pairs level 0 (take 15 pairs) lower_few (omega arith) (small_take 15 pairs read.small).0 ∙ ap (take 15) pairs_are;
-  }
+  lower_half = is_half old grown root.page left level (take 15 pairs) (take 15 (page_pairs old root.page)) written.first lower_few (omega (arith, less)) (small_take 15 pairs read.small).0
+      (tree_kind root level old root.page 0 key_end root_tree) level_is (ap (take 15) pairs_are)
 
   upper_half : IsHalf old grown root.page right (drop 15 (page_pairs old root.page))
   unfolding upper
-  upper_half = record {
-    kind = ap kind_said upper_new ∙ written_kind level 0 (drop 15 pairs) upper_few (omega arith) ∙ sym (tree_kind root level old root.page 0 key_end root_tree);
-    level = ap level_said upper_new ∙ written_level level 0 (drop 15 pairs) upper_few (omega arith) ∙ sym level_is;
-    link = ap link_said upper_new ∙ written_link level 0 (drop 15 pairs) upper_few (omega arith);
-    pairs_are = ap pairs_said upper_new ∙ written_pairs level 0 (drop 15 pairs) upper_few (omega arith) (small_take 15 pairs read.small).1 ∙ ap (drop 15) pairs_are;
-  }
+  upper_half = is_half old grown root.page right level (drop 15 pairs) (drop 15 (page_pairs old root.page)) written.second upper_few (omega (arith, less)) (small_take 15 pairs read.small).1
+      (tree_kind root level old root.page 0 key_end root_tree) level_is (ap (drop 15) pairs_are)
 
   is_cut : IsCut old grown root.page left right
   is_cut = record { full = ap (λ (ps : List Pair). length ps) (sym pairs_are) ∙ full; left_is = lower_half; right_is = upper_half }
@@ -284,15 +199,15 @@ module _ (shape : Shape) (old : List ℕ) (half : ℕ) (long : length old ≡ da
   named_pairs : page_pairs grown root.page ≡ (0, left) ∷ (middle old root.page, right) ∷ []
   unfolding named
   named_pairs =
-      ap pairs_said named_new ∙ written_pairs (level + 1) 0 ((0, left) ∷ (key_at pairs 15, right) ∷ []) named_few (omega arith) named_small
+      ap pairs_said written.third ∙ written_pairs (level + 1) 0 ((0, left) ∷ (key_at pairs 15, right) ∷ []) named_few (omega arith) named_small
       ∙ ap (λ (ps : List Pair). (0, left) ∷ (key_at ps 15, right) ∷ []) pairs_are
 
   splits : SplitsRoot root old grown left right
   unfolding named
   splits = record {
-    kind = ap kind_said named_new ∙ written_kind (level + 1) 0 ((0, left) ∷ (key_at pairs 15, right) ∷ []) named_few (omega arith) ∙ ap kind_for one_more;
-    level = ap level_said named_new ∙ written_level (level + 1) 0 ((0, left) ∷ (key_at pairs 15, right) ∷ []) named_few (omega arith) ∙ one_more ∙ ap suc (sym level_is);
-    link = ap link_said named_new ∙ written_link (level + 1) 0 ((0, left) ∷ (key_at pairs 15, right) ∷ []) named_few (omega arith);
+    kind = ap kind_said written.third ∙ written_kind (level + 1) 0 ((0, left) ∷ (key_at pairs 15, right) ∷ []) named_few (omega arith) ∙ ap kind_for one_more;
+    level = ap level_said written.third ∙ written_level (level + 1) 0 ((0, left) ∷ (key_at pairs 15, right) ∷ []) named_few (omega arith) ∙ one_more ∙ ap suc (sym level_is);
+    link = ap link_said written.third ∙ written_link (level + 1) 0 ((0, left) ∷ (key_at pairs 15, right) ∷ []) named_few (omega arith);
     pairs = named_pairs;
     cut = is_cut;
     two = left_in.0;
@@ -340,12 +255,12 @@ module _ (shape : Shape) (old : List ℕ) (half : ℕ) (long : length old ≡ da
   unfolding grown
   growing_grows = (
     record {
-      sound = one_changed old grown root sound table front_now.0 lists_now.slots lists_now.pages front_now.1 keeps grown_tree.0 tables_others;
+      sound = one_changed old grown root sound table says_all.1 lists_now.slots lists_now.pages says_all.2 keeps grown_tree.0 tables_others;
       size = grown_long;
-      version = version_kept old grown zero_new;
-      tables = front_now.1;
-      others = others_untouched old grown root sound table front_now.0 lists_now.slots lists_now.pages front_now.1 keeps grown_tree.0 tables_others;
-      slots = λ j lt ne. slots_same j;
+      version = version_kept old grown written.mark;
+      tables = says_all.2;
+      others = others_untouched old grown root sound table says_all.1 lists_now.slots lists_now.pages says_all.2 keeps grown_tree.0 tables_others;
+      slots = λ j lt ne. written.slots j;
       later = omega (arith, lists_now.pages_next);
       few = omega (arith, lists_now.pages_next);
       free_pages_fall = omega (arith, lists_now.pages_free);
@@ -364,13 +279,13 @@ module _ (shape : Shape) (old : List ℕ) (half : ℕ) (long : length old ≡ da
       pairs = grown_tree.1;
       slots = after_slots old grown 2 lists_now;
       due = after_due old grown 2 lists_now;
-      same = slots_same (slot_due old);
+      same = written.slots (slot_due old);
     },
   )
 
   pub grown_says : SaysSuper (page_bytes (applied (growing_parts after left right root.page level pairs) old) 0) after
   unfolding grown
-  grown_says = says_now
+  grown_says = says_all.0
 
   -- the pages that are taken are those that are due
   pub grown_dues : (left ≡ page_due old 0) × (right ≡ page_due old 1)
@@ -402,7 +317,7 @@ module _ (shape : Shape) (old : List ℕ) (half : ℕ) (long : length old ≡ da
       ≡ actions_below level old root.page (half_for (page_pairs old root.page) left right key) 2 key
   unfolding grown
   grown_left =
-      half_actions root old grown 2 (after_due old grown 2 lists_now) grown_long lists_now.due root.page left right key is_cut level 0 key_end root_tree (omega arith) (omega (arith, fits))
+      half_actions root old grown 2 (after_due old grown 2 lists_now) written.size lists_now.due root.page left right key is_cut level 0 key_end root_tree (omega arith) (omega (arith, fits))
       (λ x u ne. tree_others x (subst (λ (n : ℕ). IsUnder n old x root.page) (sym level_is) u) ne)
       (half_for (page_pairs old root.page) left right key) 0
       ∙ ap (λ (n : ℕ). actions_below level old root.page (half_for (page_pairs old root.page) left right key) n key) (let z : 2 + 0 ≡ 2 = omega arith in z)

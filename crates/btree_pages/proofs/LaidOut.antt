@@ -1,12 +1,10 @@
 -- What the data of an array is in which each table has a sound tree: how long it is, what it has given out, and where a page lies.
-use Rattle.std.proofs.Common.{◌≡◌, ℕ, ◌+◌, ◌*◌, ◌≤◌, List, length, sym, ap, ◌∙◌, arith}
-use Rattle.mars_base.specs.Bytes.{range}
+use Rattle.std.proofs.Common.{◌≡◌, ℕ, ◌+◌, ◌*◌, ◌≤◌, List, length, arith}
 use Rattle.array_shape.specs.Places as array
 use Rattle.array_shape.specs.Places.{data_len}
 use Rattle.array_shape.specs.declared.shape.Shape.{Shape}
-use Rattle.record_slots.specs.Places.{page_bytes, page_count, first_slot_page, next_page, free_pages}
+use Rattle.record_slots.specs.Places.{page_count, first_slot_page, next_page, free_pages}
 use Rattle.page_store.specs.Index.{IsTable}
-use Rattle.page_store.specs.Shown.{address}
 use Rattle.index_pages.proofs.Tabled.{IsWhole, whole_counts}
 use Rattle.btree_laws.specs.Sound.{IsSoundTree}
 use Rattle.btree_laws.specs.declared.root.Root.{Root}
@@ -37,8 +35,3 @@ laid_out shape old half long all root sound table =
       given_most = omega (arith, whole.front.pages, first);
       free_few = (whole_counts 1 tree_of old whole).free_pages_few;
     }
-
--- a page says what stands where it begins
-pub page_at : (bytes : List ℕ) (x : ℕ) (b : List ℕ) → length b ≡ 512 → range bytes (address x 0) (length b) ≡ b → page_bytes bytes x ≡ b
-unfolding page_bytes
-page_at bytes x b is e = ap (λ (n : ℕ). range bytes n 512) (let z : 512 * x ≡ address x 0 = omega arith in z) ∙ ap (λ (n : ℕ). range bytes (address x 0) n) (sym is) ∙ e

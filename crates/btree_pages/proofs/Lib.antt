@@ -7,6 +7,7 @@ pub mod Actions
 pub mod Entries
 pub mod Others
 mod LaidOut
+pub mod Halving
 pub mod CutData
 pub mod AddData
 pub mod GrowData

@@ -92,6 +92,10 @@ module _ (shape : Shape) (old : List ℕ) (long : length old ≡ data_len shape)
   given_entries : length given.entries ≡ 256
   given_entries = ap (λ (f : Super). length f.entries) released.2.after_is ∙ entries
 
+  -- the part of a super page that gives back one more page
+  front_long : (page : ℕ) (freed : Free) (after : Super) → GivesPage given page freed after → length (part_bytes after) ≡ 280
+  front_long page freed after gives = length-part_bytes after (ap (λ (f : Super). length f.entries) gives.after_is ∙ given_entries)
+
   root_sound : IsSoundTree root old
   root_sound = table_sound old root sound table
 
@@ -167,6 +171,12 @@ module _ (shape : Shape) (old : List ℕ) (long : length old ≡ data_len shape)
     leaf_parent : child_for (page_pairs old (parent_for old root.page key)) key ≢ parent_for old root.page key
     leaf_parent e = omega (arith, joins_at.leaf_level, joins_at.parent_level, ap (λ (x : ℕ). level_of old x) (sym joins_at.leaf_is ∙ e))
 
+    child_in : (1 ≤ child_for (page_pairs old (parent_for old root.page key)) key) × (child_for (page_pairs old (parent_for old root.page key)) key < index_pages_of shape)
+    child_in = page_in (child_for (page_pairs old (parent_for old root.page key)) key) child_under
+
+    parent_in : (1 ≤ parent_for old root.page key) × (parent_for old root.page key < index_pages_of shape)
+    parent_in = page_in (parent_for old root.page key) parent_under
+
     -- it takes the pairs of the page to its right
     module _ (there : right_of (page_pairs old (parent_for old root.page key)) key ≢ 0) (right_most : length (page_pairs old (right_of (page_pairs old (parent_for old root.page key)) key)) ≤ 30) (right_small : AreSmall (page_pairs old (right_of (page_pairs old (parent_for old root.page key)) key))) (freed : Free) (after : Super) (gives : GivesPage given (right_of (page_pairs old (parent_for old root.page key)) key) freed after) where
       right_under : IsPageOfTree old root.page (right_of (page_pairs old (parent_for old root.page key)) key)
@@ -193,28 +203,19 @@ module _ (shape : Shape) (old : List ℕ) (long : length old ≡ data_len shape)
       len2 : length (free_page_bytes freed) ≡ 512
       len2 = length-free_page_bytes freed
 
-      after_entries : length after.entries ≡ 256
-      after_entries = ap (λ (f : Super). length f.entries) gives.after_is ∙ given_entries
-
       len3 : length (part_bytes after) ≡ 280
-      len3 = length-part_bytes after after_entries
-
-      c_in : (1 ≤ child_for (page_pairs old (parent_for old root.page key)) key) × (child_for (page_pairs old (parent_for old root.page key)) key < index_pages_of shape)
-      c_in = page_in (child_for (page_pairs old (parent_for old root.page key)) key) child_under
-
-      q_in : (1 ≤ parent_for old root.page key) × (parent_for old root.page key < index_pages_of shape)
-      q_in = page_in (parent_for old root.page key) parent_under
+      len3 = front_long (right_of (page_pairs old (parent_for old root.page key)) key) freed after gives
 
       r_in : (1 ≤ right_of (page_pairs old (parent_for old root.page key)) key) × (right_of (page_pairs old (parent_for old root.page key)) key < index_pages_of shape)
       r_in = page_in (right_of (page_pairs old (parent_for old root.page key)) key) right_under
 
       are : AreIndexParts (index_pages_of shape) ((address (child_for (page_pairs old (parent_for old root.page key)) key) 0, written_page 0 0 (page_pairs old (right_of (page_pairs old (parent_for old root.page key)) key))) ∷ (address (parent_for old root.page key) 0, written_page 1 0 (without_right (page_pairs old (parent_for old root.page key)) key)) ∷ (address (right_of (page_pairs old (parent_for old root.page key)) key) 0, free_page_bytes freed) ∷ (address 0 8, part_bytes after) ∷ [])
-      are = (omega (arith, len0, c_in), (omega (arith, len1, q_in), (omega (arith, len2, r_in), (omega (arith, len3, c_in), tt))))
+      are = (omega (arith, len0, child_in), (omega (arith, len1, parent_in), (omega (arith, len2, r_in), (omega (arith, len3, child_in), tt))))
 
       apart : AllApart ((address (child_for (page_pairs old (parent_for old root.page key)) key) 0, written_page 0 0 (page_pairs old (right_of (page_pairs old (parent_for old root.page key)) key))) ∷ (address (parent_for old root.page key) 0, written_page 1 0 (without_right (page_pairs old (parent_for old root.page key)) key)) ∷ (address (right_of (page_pairs old (parent_for old root.page key)) key) 0, free_page_bytes freed) ∷ (address 0 8, part_bytes after) ∷ [])
       apart = (
-        (pages_apart (child_for (page_pairs old (parent_for old root.page key)) key) (parent_for old root.page key) _ _ leaf_parent len0 len1, (pages_apart (child_for (page_pairs old (parent_for old root.page key)) key) (right_of (page_pairs old (parent_for old root.page key)) key) _ _ leaf_right len0 len2, (front_apart (child_for (page_pairs old (parent_for old root.page key)) key) _ _ len0 len3 c_in.0, tt))),
-        ((pages_apart (parent_for old root.page key) (right_of (page_pairs old (parent_for old root.page key)) key) _ _ parent_right len1 len2, (front_apart (parent_for old root.page key) _ _ len1 len3 q_in.0, tt)), ((front_apart (right_of (page_pairs old (parent_for old root.page key)) key) _ _ len2 len3 r_in.0, tt), (tt, tt))),
+        (pages_apart (child_for (page_pairs old (parent_for old root.page key)) key) (parent_for old root.page key) _ _ leaf_parent len0 len1, (pages_apart (child_for (page_pairs old (parent_for old root.page key)) key) (right_of (page_pairs old (parent_for old root.page key)) key) _ _ leaf_right len0 len2, (front_apart (child_for (page_pairs old (parent_for old root.page key)) key) _ _ len0 len3 child_in.0, tt))),
+        ((pages_apart (parent_for old root.page key) (right_of (page_pairs old (parent_for old root.page key)) key) _ _ parent_right len1 len2, (front_apart (parent_for old root.page key) _ _ len1 len3 parent_in.0, tt)), ((front_apart (right_of (page_pairs old (parent_for old root.page key)) key) _ _ len2 len3 r_in.0, tt), (tt, tt))),
       )
 
       join_size : length (applied (joining_parts (index_pages_of shape) after slot free (child_for (page_pairs old (parent_for old root.page key)) key) (page_pairs old (right_of (page_pairs old (parent_for old root.page key)) key)) (parent_for old root.page key) (without_right (page_pairs old (parent_for old root.page key)) key) (right_of (page_pairs old (parent_for old root.page key)) key) freed) old) ≡ length old
@@ -231,7 +232,7 @@ module _ (shape : Shape) (old : List ℕ) (long : length old ≡ data_len shape)
           (pages_apart x (child_for (page_pairs old (parent_for old root.page key)) key) 512 _ b refl len0, (pages_apart x (parent_for old root.page key) 512 _ a refl len1, (pages_apart x (right_of (page_pairs old (parent_for old root.page key)) key) 512 _ c refl len2, (front_apart x 512 _ refl len3 from, tt))))
 
       join_mark : range (applied (joining_parts (index_pages_of shape) after slot free (child_for (page_pairs old (parent_for old root.page key)) key) (page_pairs old (right_of (page_pairs old (parent_for old root.page key)) key)) (parent_for old root.page key) (without_right (page_pairs old (parent_for old root.page key)) key) (right_of (page_pairs old (parent_for old root.page key)) key) freed) old) 0 8 ≡ range old 0 8
-      join_mark = freed_mark old (index_pages_of shape) size slot (free_slot_bytes free) eight (length-free_slot_bytes free) ((address (child_for (page_pairs old (parent_for old root.page key)) key) 0, written_page 0 0 (page_pairs old (right_of (page_pairs old (parent_for old root.page key)) key))) ∷ (address (parent_for old root.page key) 0, written_page 1 0 (without_right (page_pairs old (parent_for old root.page key)) key)) ∷ (address (right_of (page_pairs old (parent_for old root.page key)) key) 0, free_page_bytes freed) ∷ (address 0 8, part_bytes after) ∷ []) are (inl (omega (arith, c_in)), (inl (omega (arith, q_in)), (inl (omega (arith, r_in)), (inl (omega arith), tt)))) (omega (arith, c_in))
+      join_mark = freed_mark old (index_pages_of shape) size slot (free_slot_bytes free) eight (length-free_slot_bytes free) ((address (child_for (page_pairs old (parent_for old root.page key)) key) 0, written_page 0 0 (page_pairs old (right_of (page_pairs old (parent_for old root.page key)) key))) ∷ (address (parent_for old root.page key) 0, written_page 1 0 (without_right (page_pairs old (parent_for old root.page key)) key)) ∷ (address (right_of (page_pairs old (parent_for old root.page key)) key) 0, free_page_bytes freed) ∷ (address 0 8, part_bytes after) ∷ []) are (inl (omega (arith, child_in)), (inl (omega (arith, parent_in)), (inl (omega (arith, r_in)), (inl (omega arith), tt)))) (omega (arith, child_in))
 
       stand : Stand ((address (child_for (page_pairs old (parent_for old root.page key)) key) 0, written_page 0 0 (page_pairs old (right_of (page_pairs old (parent_for old root.page key)) key))) ∷ (address (parent_for old root.page key) 0, written_page 1 0 (without_right (page_pairs old (parent_for old root.page key)) key)) ∷ (address (right_of (page_pairs old (parent_for old root.page key)) key) 0, free_page_bytes freed) ∷ (address 0 8, part_bytes after) ∷ []) (applied ((address (index_pages_of shape + slot / 8) (slot % 8 * 64), free_slot_bytes free) ∷ ((address (child_for (page_pairs old (parent_for old root.page key)) key) 0, written_page 0 0 (page_pairs old (right_of (page_pairs old (parent_for old root.page key)) key))) ∷ (address (parent_for old root.page key) 0, written_page 1 0 (without_right (page_pairs old (parent_for old root.page key)) key)) ∷ (address (right_of (page_pairs old (parent_for old root.page key)) key) 0, free_page_bytes freed) ∷ (address 0 8, part_bytes after) ∷ [])) old)
       stand = freed_stand old (index_pages_of shape) size slot (free_slot_bytes free) eight (length-free_slot_bytes free) ((address (child_for (page_pairs old (parent_for old root.page key)) key) 0, written_page 0 0 (page_pairs old (right_of (page_pairs old (parent_for old root.page key)) key))) ∷ (address (parent_for old root.page key) 0, written_page 1 0 (without_right (page_pairs old (parent_for old root.page key)) key)) ∷ (address (right_of (page_pairs old (parent_for old root.page key)) key) 0, free_page_bytes freed) ∷ (address 0 8, part_bytes after) ∷ []) are apart
@@ -271,17 +272,8 @@ module _ (shape : Shape) (old : List ℕ) (long : length old ≡ data_len shape)
       llen2 : length (free_page_bytes freed) ≡ 512
       llen2 = length-free_page_bytes freed
 
-      last_entries : length after.entries ≡ 256
-      last_entries = ap (λ (f : Super). length f.entries) gives.after_is ∙ given_entries
-
       llen3 : length (part_bytes after) ≡ 280
-      llen3 = length-part_bytes after last_entries
-
-      leaf_in : (1 ≤ child_for (page_pairs old (parent_for old root.page key)) key) × (child_for (page_pairs old (parent_for old root.page key)) key < index_pages_of shape)
-      leaf_in = page_in (child_for (page_pairs old (parent_for old root.page key)) key) child_under
-
-      parent_in : (1 ≤ parent_for old root.page key) × (parent_for old root.page key < index_pages_of shape)
-      parent_in = page_in (parent_for old root.page key) parent_under
+      llen3 = front_long (child_for (page_pairs old (parent_for old root.page key)) key) freed after gives
 
       leaf_two : 2 ≤ child_for (page_pairs old (parent_for old root.page key)) key
       leaf_two = omega (arith, joins_at.leaf_two, joins_at.leaf_is)
@@ -290,12 +282,12 @@ module _ (shape : Shape) (old : List ℕ) (long : length old ≡ data_len shape)
       leaf_given = omega (arith, joins_at.leaf_given, joins_at.leaf_is)
 
       last_are : AreIndexParts (index_pages_of shape) ((address (parent_for old root.page key) 0, written_page 1 0 (without_last (page_pairs old (parent_for old root.page key)))) ∷ (address (child_for (page_pairs old (parent_for old root.page key)) key) 0, free_page_bytes freed) ∷ (address 0 8, part_bytes after) ∷ [])
-      last_are = (omega (arith, llen1, parent_in), (omega (arith, llen2, leaf_in), (omega (arith, llen3, leaf_in), tt)))
+      last_are = (omega (arith, llen1, parent_in), (omega (arith, llen2, child_in), (omega (arith, llen3, child_in), tt)))
 
       last_apart : AllApart ((address (parent_for old root.page key) 0, written_page 1 0 (without_last (page_pairs old (parent_for old root.page key)))) ∷ (address (child_for (page_pairs old (parent_for old root.page key)) key) 0, free_page_bytes freed) ∷ (address 0 8, part_bytes after) ∷ [])
       last_apart = (
         (pages_apart (parent_for old root.page key) (child_for (page_pairs old (parent_for old root.page key)) key) _ _ (λ e. leaf_parent (sym e)) llen1 llen2, (front_apart (parent_for old root.page key) _ _ llen1 llen3 parent_in.0, tt)),
-        ((front_apart (child_for (page_pairs old (parent_for old root.page key)) key) _ _ llen2 llen3 leaf_in.0, tt), (tt, tt)),
+        ((front_apart (child_for (page_pairs old (parent_for old root.page key)) key) _ _ llen2 llen3 child_in.0, tt), (tt, tt)),
       )
 
       last_size : length (applied (leaving_parts (index_pages_of shape) after slot free (parent_for old root.page key) (without_last (page_pairs old (parent_for old root.page key))) (child_for (page_pairs old (parent_for old root.page key)) key) freed) old) ≡ length old
@@ -312,7 +304,7 @@ module _ (shape : Shape) (old : List ℕ) (long : length old ≡ data_len shape)
           (pages_apart x (parent_for old root.page key) 512 _ a refl llen1, (pages_apart x (child_for (page_pairs old (parent_for old root.page key)) key) 512 _ b refl llen2, (front_apart x 512 _ refl llen3 from, tt)))
 
       last_mark : range (applied (leaving_parts (index_pages_of shape) after slot free (parent_for old root.page key) (without_last (page_pairs old (parent_for old root.page key))) (child_for (page_pairs old (parent_for old root.page key)) key) freed) old) 0 8 ≡ range old 0 8
-      last_mark = freed_mark old (index_pages_of shape) size slot (free_slot_bytes free) eight (length-free_slot_bytes free) ((address (parent_for old root.page key) 0, written_page 1 0 (without_last (page_pairs old (parent_for old root.page key)))) ∷ (address (child_for (page_pairs old (parent_for old root.page key)) key) 0, free_page_bytes freed) ∷ (address 0 8, part_bytes after) ∷ []) last_are (inl (omega (arith, parent_in)), (inl (omega (arith, leaf_in)), (inl (omega arith), tt))) (omega (arith, leaf_in))
+      last_mark = freed_mark old (index_pages_of shape) size slot (free_slot_bytes free) eight (length-free_slot_bytes free) ((address (parent_for old root.page key) 0, written_page 1 0 (without_last (page_pairs old (parent_for old root.page key)))) ∷ (address (child_for (page_pairs old (parent_for old root.page key)) key) 0, free_page_bytes freed) ∷ (address 0 8, part_bytes after) ∷ []) last_are (inl (omega (arith, parent_in)), (inl (omega (arith, child_in)), (inl (omega arith), tt))) (omega (arith, child_in))
 
       last_stand : Stand ((address (parent_for old root.page key) 0, written_page 1 0 (without_last (page_pairs old (parent_for old root.page key)))) ∷ (address (child_for (page_pairs old (parent_for old root.page key)) key) 0, free_page_bytes freed) ∷ (address 0 8, part_bytes after) ∷ []) (applied ((address (index_pages_of shape + slot / 8) (slot % 8 * 64), free_slot_bytes free) ∷ ((address (parent_for old root.page key) 0, written_page 1 0 (without_last (page_pairs old (parent_for old root.page key)))) ∷ (address (child_for (page_pairs old (parent_for old root.page key)) key) 0, free_page_bytes freed) ∷ (address 0 8, part_bytes after) ∷ [])) old)
       last_stand = freed_stand old (index_pages_of shape) size slot (free_slot_bytes free) eight (length-free_slot_bytes free) ((address (parent_for old root.page key) 0, written_page 1 0 (without_last (page_pairs old (parent_for old root.page key)))) ∷ (address (child_for (page_pairs old (parent_for old root.page key)) key) 0, free_page_bytes freed) ∷ (address 0 8, part_bytes after) ∷ []) last_are last_apart

@@ -6,6 +6,7 @@ pub mod Downward
 pub mod OnWay
 pub mod Writes
 pub mod Steps
+pub mod May
 pub mod Crowded
 pub mod Checked
 pub mod Testing

@@ -2,6 +2,7 @@ ghost use Rattle.btree_pages.specs.Props.{AreSoundTrees-prop};
 ghost use Rattle.btree_pages.specs.Trees.{trees_rise, trees_given, trees_count, trees_rest, trees_extend, trees_excluded, trees_first};
 ghost use Rattle.btree_pages.specs.Index.{tree};
 
+use crate::change::Change;
 use crate::checking::{FORM, check_tables};
 use crate::insertion::{insert_above, insert_below, is_index_page, is_slot_left, node_of};
 use crate::look::{Leaf, Reached, Start, WAY_MAX, begun, descend, reach};
@@ -138,6 +139,7 @@ impl KeyIndex for BTreePages {
         place: Option<LeafPage>,
     ) -> Result<u32, IndexFault> {
         let root = Root { page: root, table };
+        let change = Change { tid, root, key };
         let count = index_page_count(pages);
         let front = fetch_super(pages, FORM)?;
         if !is_slot_left(&front, count) {
@@ -146,16 +148,16 @@ impl KeyIndex for BTreePages {
             });
         }
         if let Some(leaf) = place {
-            return insert_below(pages, tid, root, key, front, node_of(leaf));
+            return insert_below(pages, change, front, node_of(leaf));
         }
         if !is_index_page(root.page, count) {
             return Err(IndexFault::Damaged { page: 0 });
         }
         let top = fetch_node(pages, root.page)?;
         if top.pairs.len() < PAIRS_MAX {
-            return insert_below(pages, tid, root, key, front, top);
+            return insert_below(pages, change, front, top);
         }
-        insert_above(pages, tid, root, key, front, top)
+        insert_above(pages, change, front, top)
     }
 
     fn remove<S: EawStore>(
@@ -166,6 +168,7 @@ impl KeyIndex for BTreePages {
         key: u64,
     ) -> Result<bool, PageFault> {
         let root = Root { page: root, table };
+        let change = Change { tid, root, key };
         let count = index_page_count(pages);
         let front = fetch_super(pages, FORM)?;
         if !is_index_page(root.page, count) {
@@ -173,12 +176,12 @@ impl KeyIndex for BTreePages {
         }
         let top = fetch_node(pages, root.page)?;
         if top.level > 0 {
-            return remove_below(pages, tid, root, key, &front, top);
+            return remove_below(pages, change, &front, top);
         }
         let Some(slot) = release_slot(&front, &top, key) else {
             return Err(PageFault::Damaged { page: top.page });
         };
-        lose_pair(pages, tid, root, key, &slot, top)
+        lose_pair(pages, change, &slot, top)
     }
 
     ghost rises = { trees_rise };

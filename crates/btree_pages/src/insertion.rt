@@ -1,58 +1,43 @@
 // Insertions into the tree of a table: each full page on the way down is split, and then the pair goes to its leaf.
-ghost use Rattle.std.specs.Prelude.{false, ◌≡◌, ◌≢◌, ◌↔◌, ◌+◌, ◌-◌, ◌*◌, ◌<◌, ◌≤◌, [], ◌∷◌, None, IsErrOf, IsTrue, length};
-ghost use Rattle.eaw_face.specs.Causes.{IsAlive};
-ghost use Rattle.record_slots.specs.Places.{page_bytes};
-ghost use Rattle.record_slots.specs.Super.{SaysSuper};
-ghost use Rattle.page_store.specs.Index.{IsTable, slots_of};
+ghost use Rattle.std.specs.Prelude.{false, ◌≡◌, ◌≢◌, ◌↔◌, ◌+◌, ◌-◌, ◌*◌, ◌<◌, ◌≤◌, [], ◌∷◌, IsErrOf, IsTrue, length};
 ghost use Rattle.page_store.specs.Inserts.{Inserts, are_slots_full};
-ghost use Rattle.page_store.specs.Pairs.{found};
-ghost use Rattle.page_store.specs.Shown.{pages_of, top_in};
+ghost use Rattle.page_store.specs.Shown.{pages_of};
 ghost use Rattle.page_store.specs.Works.{WorksFrom, blamed_index, is_done};
-ghost use Rattle.index_pages.specs.Fetched.{IsFront};
+ghost use Rattle.index_pages.specs.May.{MayInsert};
 ghost use Rattle.index_pages.specs.Page.{level_of, page_pairs};
-ghost use Rattle.btree_laws.specs.Tree.{pairs_of_tree};
 ghost use Rattle.btree_pages.specs.Downward.{below};
-ghost use Rattle.btree_pages.specs.Index.{tree, tree_below, tree_actions, actions_below, AreSoundTrees};
+ghost use Rattle.btree_pages.specs.Index.{tree, tree_below, tree_actions, actions_below};
 ghost use Rattle.btree_pages.specs.OnWay.{IsReached};
 ghost use Rattle.btree_pages.specs.Steps.{known_from, limits_above, limits_below};
 ghost use Rattle.btree_pages.specs.Writes.{IsRead};
 
+use crate::change::Change;
 use crate::node::{Node, fetch_child};
-use crate::write::{add_pair, cut_page, grow_root, half_of};
-use btree_laws::Root;
+use crate::write::{NO_LINK, cut_page, grow_root, half_of};
 use eaw_face::EawStore;
-use index_pages::{LEVEL_MAX, PAIRS_MAX, SLOTS_IN_PAGE, index_page_count, take_page, take_slot};
+use index_pages::{
+    LEVEL_MAX, PAIRS_MAX, SLOTS_IN_PAGE, add_pair, index_page_count, take_page, take_slot,
+};
 use page_store::{IndexFault, LeafPage, Pages};
 use record_slots::Super;
 
 // Splits the full root, and goes on from the half that has the key.
 pub fn insert_above<S: EawStore>(
     pages: &mut Pages<S>,
-    tid: u8,
-    root: Root,
-    key: u64,
+    change: Change,
     front: Super,
     top: Node,
 ) -> Result<u32, IndexFault>
-    requires tid { tid < (S.view pages.old.store).shape.numbers }
-    requires table { root.table < 8 }
-    requires closed { top_in pages.old.marks tid ≡ None }
-    requires alive { IsAlive (S.view pages.old.store) }
-    requires sound { IsTrue S.tells → AreSoundTrees (S.view pages.old.store).state.bytes }
-    requires named { IsTrue S.tells → IsTable (S.view pages.old.store).state.bytes root.table root.page }
-    requires absent { IsTrue S.tells → found (pairs_of_tree (S.view pages.old.store).state.bytes root.page) key ≡ None }
-    requires front { IsFront (S.view pages.old.store).shape front }
-    requires slot { front.free_slots ≡ 0 → front.next_slot < slots_of (S.view pages.old.store).shape }
-    requires says { IsTrue S.tells → SaysSuper (page_bytes (S.view pages.old.store).state.bytes 0) front }
-    requires page { top.page ≡ root.page }
+    requires may { MayInsert S.tells tree change.tid change.root.table change.root.page change.key front (pages_of (S.view pages.old.store) pages.old) }
+    requires page { top.page ≡ change.root.page }
     requires read { IsRead (S.view pages.old.store).shape top.page top.level top.pairs.items }
     requires full { length top.pairs.items ≡ 30 }
-    requires level { IsTrue S.tells → top.level ≡ level_of (S.view pages.old.store).state.bytes root.page }
-    requires pairs { IsTrue S.tells → top.pairs.items ≡ page_pairs (S.view pages.old.store).state.bytes root.page }
-    ensures inserts { Inserts S.tells (S.opens (S.view pages.old.store).shape) tree tid root.page root.table key
+    requires level { IsTrue S.tells → top.level ≡ level_of (S.view pages.old.store).state.bytes change.root.page }
+    requires pairs { IsTrue S.tells → top.pairs.items ≡ page_pairs (S.view pages.old.store).state.bytes change.root.page }
+    ensures inserts { Inserts S.tells (S.opens (S.view pages.old.store).shape) tree change.tid change.root.page change.root.table change.key
         (pages_of (S.view pages.old.store) pages.old) (pages_of (S.view pages.new.store) pages.new) result }
-    ensures works { WorksFrom (0 ∷ root.page ∷ []) (IsTrue S.tells) S.tells (is_done result) S.view S.calls tid (below key top.level top.pairs.items) (limits_above top.level)
-        (tree_actions (S.view pages.old.store).state.bytes root.page key) (blamed_index result) (S.view pages.old.store) (S.view pages.new.store) }
+    ensures works { WorksFrom (0 ∷ change.root.page ∷ []) (IsTrue S.tells) S.tells (is_done result) S.view S.calls change.tid (below change.key top.level top.pairs.items) (limits_above top.level)
+        (tree_actions (S.view pages.old.store).state.bytes change.root.page change.key) (blamed_index result) (S.view pages.old.store) (S.view pages.new.store) }
     ensures left { are_slots_full result ≡ false }
     ensures dead { IsErrOf result IndexFault.Dead → ⊥ }
 {
@@ -65,9 +50,9 @@ pub fn insert_above<S: EawStore>(
     }
     let left = take_page(pages, &front)?;
     let right = take_page(pages, &left.front)?;
-    grow_root(pages, tid, left.number, &right, &top)?;
-    let half = half_of(&top, left.number, right.number, key);
-    insert_below(pages, tid, root, key, right.front, half)
+    grow_root(pages, change.tid, left.number, &right, &top)?;
+    let half = half_of(&top, left.number, right.number, change.key);
+    insert_below(pages, change, right.front, half)
 }
 
 // A place as a page that was read.
@@ -114,30 +99,19 @@ fn are_pages_left(front: &Super, count: u32, pages: u64) -> bool
 // Inserts a key, going on from a page on its way that has room.
 pub fn insert_below<S: EawStore>(
     pages: &mut Pages<S>,
-    tid: u8,
-    root: Root,
-    key: u64,
+    change: Change,
     front: Super,
     node: Node,
 ) -> Result<u32, IndexFault>
-    requires tid { tid < (S.view pages.old.store).shape.numbers }
-    requires table { root.table < 8 }
-    requires closed { top_in pages.old.marks tid ≡ None }
-    requires alive { IsAlive (S.view pages.old.store) }
-    requires sound { IsTrue S.tells → AreSoundTrees (S.view pages.old.store).state.bytes }
-    requires named { IsTrue S.tells → IsTable (S.view pages.old.store).state.bytes root.table root.page }
-    requires absent { IsTrue S.tells → found (pairs_of_tree (S.view pages.old.store).state.bytes root.page) key ≡ None }
-    requires front { IsFront (S.view pages.old.store).shape front }
-    requires slot { front.free_slots ≡ 0 → front.next_slot < slots_of (S.view pages.old.store).shape }
-    requires says { IsTrue S.tells → SaysSuper (page_bytes (S.view pages.old.store).state.bytes 0) front }
+    requires may { MayInsert S.tells tree change.tid change.root.table change.root.page change.key front (pages_of (S.view pages.old.store) pages.old) }
     requires read { IsRead (S.view pages.old.store).shape node.page node.level node.pairs.items }
     requires some { node.level ≢ 0 → 1 ≤ length node.pairs.items }
     requires room { length node.pairs.items < 30 }
-    requires reached { IsTrue S.tells → IsReached root (S.view pages.old.store).state.bytes key node.page node.level node.pairs.items }
-    ensures inserts { Inserts S.tells (S.opens (S.view pages.old.store).shape) (tree_below node.page node.level (front.next_page + node.level)) tid root.page root.table key
+    requires reached { IsTrue S.tells → IsReached change.root (S.view pages.old.store).state.bytes change.key node.page node.level node.pairs.items }
+    ensures inserts { Inserts S.tells (S.opens (S.view pages.old.store).shape) (tree_below node.page node.level (front.next_page + node.level)) change.tid change.root.page change.root.table change.key
         (pages_of (S.view pages.old.store) pages.old) (pages_of (S.view pages.new.store) pages.new) result }
-    ensures works { WorksFrom (known_from node.level node.page) (IsTrue S.tells) S.tells (is_done result) S.view S.calls tid (below key node.level node.pairs.items) (limits_below node.level)
-        (actions_below node.level (S.view pages.old.store).state.bytes node.page node.page 0 key) (blamed_index result) (S.view pages.old.store) (S.view pages.new.store) }
+    ensures works { WorksFrom (known_from node.level node.page) (IsTrue S.tells) S.tells (is_done result) S.view S.calls change.tid (below change.key node.level node.pairs.items) (limits_below node.level)
+        (actions_below node.level (S.view pages.old.store).state.bytes node.page node.page 0 change.key) (blamed_index result) (S.view pages.old.store) (S.view pages.new.store) }
     ensures left { are_slots_full result ≡ false }
     ensures dead { IsErrOf result IndexFault.Dead → ⊥ }
 {
@@ -145,7 +119,7 @@ pub fn insert_below<S: EawStore>(
     let mut front = front;
     let mut node = node;
     while node.level > 0 {
-        let child = fetch_child(pages, root, &node, key)?;
+        let child = fetch_child(pages, change.root, &node, change.key)?;
         if child.pairs.len() < PAIRS_MAX {
             node = child;
             continue;
@@ -154,11 +128,24 @@ pub fn insert_below<S: EawStore>(
             return Err(IndexFault::PagesFull { pages: count - 1 });
         }
         let taken = take_page(pages, &front)?;
-        cut_page(pages, tid, &taken, &child, node)?;
-        node = half_of(&child, child.page, taken.number, key);
+        cut_page(pages, change.tid, &taken, &child, node)?;
+        node = half_of(&child, child.page, taken.number, change.key);
         front = taken.front;
     }
     let slot = take_slot(pages, &front)?;
-    add_pair(pages, tid, root.table, key, &slot, node)?;
+    let Node { page, pairs, .. } = node;
+    let leaf = LeafPage {
+        page,
+        link: NO_LINK,
+        pairs,
+    };
+    add_pair(
+        pages,
+        change.tid,
+        change.root.table,
+        change.key,
+        &slot,
+        leaf,
+    )?;
     Ok(slot.number)
 }

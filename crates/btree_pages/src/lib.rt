@@ -4,6 +4,7 @@
 //! stands in `btree_laws`. An insertion splits the full pages on its way, each in a nested top action of its own.
 #![tactic(auto)]
 
+mod change;
 mod checking;
 mod emptied;
 mod index;

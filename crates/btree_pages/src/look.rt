@@ -1,10 +1,9 @@
 // Look-ups from the root down.
 ghost use Rattle.std.specs.Prelude.{◌≡◌, ◌<◌, ◌≤◌, ◌^◌, ◌↔◌, ◌||◌, nat_le, false, [], IfOk, IfErr, IfSome, OnOk, IsErrOf, IsTrue, length};
 ghost use Rattle.array_shape.specs.Places.{page_count};
-ghost use Rattle.eaw_face.specs.Causes.{IsAlive};
 ghost use Rattle.record_slots.specs.Places.{page_bytes};
 ghost use Rattle.page_store.specs.Follows.{HasRead, Walks, one_reading};
-ghost use Rattle.page_store.specs.Index.{IsTable, slots_of};
+ghost use Rattle.page_store.specs.Index.{slots_of};
 ghost use Rattle.page_store.specs.Looks.{Looks, LookCause, is_failed};
 ghost use Rattle.page_store.specs.Pairs.{AreInside};
 ghost use Rattle.page_store.specs.Shown.{pages_of};
@@ -13,7 +12,7 @@ ghost use Rattle.index_pages.specs.Page.{count_said};
 ghost use Rattle.btree_pages.specs.Downward.{Descended, Gathered, down};
 ghost use Rattle.btree_pages.specs.Start.{Arrives, Gives, IsLater, IsStart, start_behind};
 ghost use Rattle.btree_pages.specs.Crowded.{is_crowded};
-ghost use Rattle.btree_pages.specs.Index.{AreSoundTrees};
+ghost use Rattle.btree_pages.specs.May.{MayStart};
 ghost use Rattle.btree_pages.specs.Node.{IsNode, SaysNode};
 ghost use Rattle.btree_laws.specs.Descent.{leaf_for};
 
@@ -107,12 +106,7 @@ pub fn descend<S: EawStore>(
     start: Start,
     bytes: &mut [u8; PAGE_LEN],
 ) -> Result<Leaf, PageFault>
-    requires inside { start.page < page_count (S.view pages.old.store).shape }
-    requires some { 1 ≤ start.most }
-    requires most { start.most ≤ 8 }
-    requires sound { IsTrue S.tells → IsAlive (S.view pages.old.store) → AreSoundTrees (S.view pages.old.store).state.bytes }
-    requires named { IsTrue S.tells → IsAlive (S.view pages.old.store) → IsTable (S.view pages.old.store).state.bytes root.table root.page }
-    requires start { IsTrue S.tells → IsAlive (S.view pages.old.store) → IsStart root (S.view pages.old.store).state.bytes start }
+    requires may { MayStart S.tells root start (S.view pages.old.store) }
     ensures looks { Looks S.tells (S.opens (S.view pages.old.store).shape) (is_failed result)
         (pages_of (S.view pages.old.store) pages.old) (pages_of (S.view pages.new.store) pages.new) }
     ensures cause { LookCause S.tells (S.view pages.old.store) result }
@@ -176,12 +170,7 @@ pub fn reach<S: EawStore>(
     root: Root,
     start: Start,
 ) -> Result<Reached, PageFault>
-    requires inside { start.page < page_count (S.view pages.old.store).shape }
-    requires some { 1 ≤ start.most }
-    requires most { start.most ≤ 8 }
-    requires sound { IsTrue S.tells → IsAlive (S.view pages.old.store) → AreSoundTrees (S.view pages.old.store).state.bytes }
-    requires named { IsTrue S.tells → IsAlive (S.view pages.old.store) → IsTable (S.view pages.old.store).state.bytes root.table root.page }
-    requires start { IsTrue S.tells → IsAlive (S.view pages.old.store) → IsStart root (S.view pages.old.store).state.bytes start }
+    requires may { MayStart S.tells root start (S.view pages.old.store) }
     ensures looks { Looks S.tells (S.opens (S.view pages.old.store).shape) (is_failed result)
         (pages_of (S.view pages.old.store) pages.old) (pages_of (S.view pages.new.store) pages.new) }
     ensures cause { LookCause S.tells (S.view pages.old.store) result }

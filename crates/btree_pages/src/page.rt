@@ -13,9 +13,7 @@ pub fn read_node_head(page: &[u8; PAGE_LEN]) -> Option<Head>
     ensures says { IfSome result (SaysNode page.now) }
     ensures other { IfNone result (¬ IsNode page.now) }
 {
-    let Some(head) = read_head(page) else {
-        return None;
-    };
+    let head = read_head(page)?;
     if head.link != 0 {
         return None;
     }

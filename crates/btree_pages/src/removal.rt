@@ -4,24 +4,26 @@ ghost use Rattle.std.specs.List.{remove};
 ghost use Rattle.eaw_face.specs.Causes.{IsAlive};
 ghost use Rattle.record_slots.specs.Places.{page_bytes, version_of};
 ghost use Rattle.record_slots.specs.Super.{SaysSuper};
-ghost use Rattle.page_store.specs.Index.{IsTable, index_pages_of, slots_of};
+ghost use Rattle.page_store.specs.Index.{IsTable, slots_of};
 ghost use Rattle.page_store.specs.Looks.{Looks, LookCause, is_failed};
 ghost use Rattle.page_store.specs.Pairs.{found};
 ghost use Rattle.page_store.specs.Removes.{Removes};
-ghost use Rattle.page_store.specs.Shown.{pages_of, top_in};
+ghost use Rattle.page_store.specs.Shown.{pages_of};
 ghost use Rattle.page_store.specs.Works.{WorksFrom, blamed, is_done, removal_actions};
 ghost use Rattle.index_pages.specs.Fetched.{IsFront};
 ghost use Rattle.index_pages.specs.Giving.{MayGive, GivesSlot};
-ghost use Rattle.index_pages.specs.Page.{count_of, page_pairs};
-ghost use Rattle.btree_laws.specs.Descent.{child_for};
+ghost use Rattle.index_pages.specs.May.{MayAct};
+ghost use Rattle.index_pages.specs.Page.{page_pairs};
 ghost use Rattle.btree_laws.specs.Removals.{right_of, without_right};
 ghost use Rattle.btree_laws.specs.Tree.{pairs_of_tree};
-ghost use Rattle.btree_pages.specs.Downward.{below, down};
+ghost use Rattle.btree_pages.specs.Downward.{below};
 ghost use Rattle.btree_pages.specs.Index.{tree, tree_removal, AreSoundTrees};
+ghost use Rattle.btree_pages.specs.May.{IsLone};
 ghost use Rattle.btree_pages.specs.OnWay.{IsReached};
 ghost use Rattle.btree_pages.specs.Steps.{CameDown, FailsDown, ReadsNamed, limits_down};
 ghost use Rattle.btree_pages.specs.Writes.{IsRead, Releases};
 
+use crate::change::Change;
 use crate::emptied::{NewPairs, drop_leaf, join_leaves};
 use crate::node::{Node, fetch_child, fetch_node};
 use crate::parents::{place_behind, without_end, without_place};
@@ -37,44 +39,38 @@ use record_slots::Super;
 // Goes on below the root, to the leaf of the key and the parent of that leaf.
 pub fn remove_below<S: EawStore>(
     pages: &mut Pages<S>,
-    tid: u8,
-    root: Root,
-    key: u64,
+    change: Change,
     front: &Super,
     top: Node,
 ) -> Result<bool, PageFault>
-    requires tid { tid < (S.view pages.old.store).shape.numbers }
-    requires closed { top_in pages.old.marks tid ≡ None }
-    requires alive { IsAlive (S.view pages.old.store) }
-    requires sound { IsTrue S.tells → AreSoundTrees (S.view pages.old.store).state.bytes }
-    requires named { IsTrue S.tells → IsTable (S.view pages.old.store).state.bytes root.table root.page }
+    requires may { MayAct S.tells tree change.tid change.root.table change.root.page (pages_of (S.view pages.old.store) pages.old) }
     requires lists { IsTrue S.tells → version_of (S.view pages.old.store).state.bytes ≡ 2 }
-    requires there { IsTrue S.tells → IsSome (found (pairs_of_tree (S.view pages.old.store).state.bytes root.page) key) }
+    requires there { IsTrue S.tells → IsSome (found (pairs_of_tree (S.view pages.old.store).state.bytes change.root.page) change.key) }
     requires front { IsFront (S.view pages.old.store).shape front.now }
     requires says { IsTrue S.tells → SaysSuper (page_bytes (S.view pages.old.store).state.bytes 0) front.now }
     requires read { IsRead (S.view pages.old.store).shape top.page top.level top.pairs.items }
     requires some { 1 ≤ length top.pairs.items }
     requires inner { top.level ≢ 0 }
-    requires reached { IsTrue S.tells → IsReached root (S.view pages.old.store).state.bytes key top.page top.level top.pairs.items }
-    ensures removes { Removes S.tells (S.opens (S.view pages.old.store).shape) tree tid root.page key
+    requires reached { IsTrue S.tells → IsReached change.root (S.view pages.old.store).state.bytes change.key top.page top.level top.pairs.items }
+    ensures removes { Removes S.tells (S.opens (S.view pages.old.store).shape) tree change.tid change.root.page change.key
         (pages_of (S.view pages.old.store) pages.old) (pages_of (S.view pages.new.store) pages.new) result }
-    ensures works { WorksFrom (0 ∷ top.page ∷ []) (Unit {0}) S.tells (is_done result) S.view S.calls tid (below key top.level top.pairs.items) (limits_down top.level)
-        (removal_actions (tree_removal (S.view pages.old.store).state.bytes root.page key)) (blamed result) (S.view pages.old.store) (S.view pages.new.store) }
+    ensures works { WorksFrom (0 ∷ top.page ∷ []) (Unit {0}) S.tells (is_done result) S.view S.calls change.tid (below change.key top.level top.pairs.items) (limits_down top.level)
+        (removal_actions (tree_removal (S.view pages.old.store).state.bytes change.root.page change.key)) (blamed result) (S.view pages.old.store) (S.view pages.new.store) }
     ensures dead { IsErrOf result PageFault.Dead → ⊥ }
 {
-    let parent = fetch_parent(pages, root, key, top)?;
-    let leaf = fetch_child(pages, root, &parent, key)?;
-    let Some(slot) = release_slot(front, &leaf, key) else {
+    let parent = fetch_parent(pages, change.root, change.key, top)?;
+    let leaf = fetch_child(pages, change.root, &parent, change.key)?;
+    let Some(slot) = release_slot(front, &leaf, change.key) else {
         return Err(PageFault::Damaged { page: leaf.page });
     };
     if leaf.pairs.len() > 1 {
-        return lose_pair(pages, tid, root, key, &slot, leaf);
+        return lose_pair(pages, change, &slot, leaf);
     }
-    if let Some(place) = place_behind(parent.pairs.as_slice(), key) {
-        return join_right(pages, tid, root, key, &slot, leaf.page, parent, place);
+    if let Some(place) = place_behind(parent.pairs.as_slice(), change.key) {
+        return join_right(pages, change, &slot, leaf.page, parent, place);
     }
     if parent.pairs.len() > 1 {
-        return leave_parent(pages, tid, root, key, &slot, leaf.page, parent);
+        return leave_parent(pages, change, &slot, leaf.page, parent);
     }
     Ok(false)
 }
@@ -138,28 +134,22 @@ fn below(number: u64, end: u32) -> Option<u32>
 // Takes the pair out of a leaf that keeps others, or is the root.
 pub fn lose_pair<S: EawStore>(
     pages: &mut Pages<S>,
-    tid: u8,
-    root: Root,
-    key: u64,
+    change: Change,
     slot: &Release,
     leaf: Node,
 ) -> Result<bool, PageFault>
-    requires tid { tid < (S.view pages.old.store).shape.numbers }
-    requires closed { top_in pages.old.marks tid ≡ None }
-    requires alive { IsAlive (S.view pages.old.store) }
-    requires sound { IsTrue S.tells → AreSoundTrees (S.view pages.old.store).state.bytes }
-    requires named { IsTrue S.tells → IsTable (S.view pages.old.store).state.bytes root.table root.page }
+    requires may { MayAct S.tells tree change.tid change.root.table change.root.page (pages_of (S.view pages.old.store) pages.old) }
     requires slot { slot.now.number < slots_of (S.view pages.old.store).shape }
     requires released { IsTrue S.tells → Releases (S.view pages.old.store).state.bytes slot.now.number slot.now.free slot.now.front }
     requires leaf { IsRead (S.view pages.old.store).shape leaf.page leaf.level leaf.pairs.items }
     requires bottom { leaf.level ≡ 0 }
-    requires reached { IsTrue S.tells → IsReached root (S.view pages.old.store).state.bytes key leaf.page leaf.level leaf.pairs.items }
-    requires finds { found leaf.pairs.items key ≡ Some slot.now.number }
-    requires more { IsTrue S.tells → leaf.page ≢ root.page → 2 ≤ length leaf.pairs.items }
-    ensures removes { Removes S.tells (S.opens (S.view pages.old.store).shape) tree tid root.page key
+    requires reached { IsTrue S.tells → IsReached change.root (S.view pages.old.store).state.bytes change.key leaf.page leaf.level leaf.pairs.items }
+    requires finds { found leaf.pairs.items change.key ≡ Some slot.now.number }
+    requires more { IsTrue S.tells → leaf.page ≢ change.root.page → 2 ≤ length leaf.pairs.items }
+    ensures removes { Removes S.tells (S.opens (S.view pages.old.store).shape) tree change.tid change.root.page change.key
         (pages_of (S.view pages.old.store) pages.old) (pages_of (S.view pages.new.store) pages.new) result }
-    ensures works { WorksFrom ([]) (Unit {0}) S.tells (is_done result) S.view S.calls tid (below key 0 []) (limits_down 0)
-        (removal_actions (tree_removal (S.view pages.old.store).state.bytes root.page key)) (blamed result) (S.view pages.old.store) (S.view pages.new.store) }
+    ensures works { WorksFrom ([]) (Unit {0}) S.tells (is_done result) S.view S.calls change.tid (below change.key 0 []) (limits_down 0)
+        (removal_actions (tree_removal (S.view pages.old.store).state.bytes change.root.page change.key)) (blamed result) (S.view pages.old.store) (S.view pages.new.store) }
     ensures dead { IsErrOf result PageFault.Dead → ⊥ }
 {
     let Node { page, pairs, .. } = leaf;
@@ -168,45 +158,33 @@ pub fn lose_pair<S: EawStore>(
         link: NO_LINK,
         pairs,
     };
-    remove_pair(pages, tid, key, slot, leaf)?;
+    remove_pair(pages, change.tid, change.key, slot, leaf)?;
     Ok(true)
 }
 
 // The leaf, which has no other pair, takes those of the page to its right.
 fn join_right<S: EawStore>(
     pages: &mut Pages<S>,
-    tid: u8,
-    root: Root,
-    key: u64,
+    change: Change,
     slot: &Release,
     leaf: u32,
     parent: Node,
     place: usize,
 ) -> Result<bool, PageFault>
-    requires tid { tid < (S.view pages.old.store).shape.numbers }
-    requires closed { top_in pages.old.marks tid ≡ None }
-    requires alive { IsAlive (S.view pages.old.store) }
-    requires sound { IsTrue S.tells → AreSoundTrees (S.view pages.old.store).state.bytes }
-    requires named { IsTrue S.tells → IsTable (S.view pages.old.store).state.bytes root.table root.page }
+    requires may { MayAct S.tells tree change.tid change.root.table change.root.page (pages_of (S.view pages.old.store) pages.old) }
     requires slot { slot.now.number < slots_of (S.view pages.old.store).shape }
     requires released { IsTrue S.tells → Releases (S.view pages.old.store).state.bytes slot.now.number slot.now.free slot.now.front }
-    requires finds { IsTrue S.tells → found (pairs_of_tree (S.view pages.old.store).state.bytes root.page) key ≡ Some slot.now.number }
-    requires leaf { leaf < index_pages_of (S.view pages.old.store).shape }
-    requires leaf_is { leaf ≡ child_for parent.pairs.items key }
-    requires alone { IsTrue S.tells → count_of (S.view pages.old.store).state.bytes leaf ≡ 1 }
-    requires parent { IsRead (S.view pages.old.store).shape parent.page parent.level parent.pairs.items }
-    requires level { parent.level ≡ 1 }
-    requires reached { IsTrue S.tells → IsReached root (S.view pages.old.store).state.bytes key parent.page parent.level parent.pairs.items }
+    requires lone { IsLone S.tells (S.view pages.old.store) change.root change.key slot.now.number leaf parent.page parent.level parent.pairs.items }
     requires place { place < length parent.pairs.items }
-    requires names { right_of parent.pairs.items key ≡ (get_or parent.pairs.items place (0, 0)).1 }
-    requires leaves { remove parent.pairs.items place ≡ without_right parent.pairs.items key }
-    ensures removes { Removes S.tells (S.opens (S.view pages.old.store).shape) tree tid root.page key
+    requires names { right_of parent.pairs.items change.key ≡ (get_or parent.pairs.items place (0, 0)).1 }
+    requires leaves { remove parent.pairs.items place ≡ without_right parent.pairs.items change.key }
+    ensures removes { Removes S.tells (S.opens (S.view pages.old.store).shape) tree change.tid change.root.page change.key
         (pages_of (S.view pages.old.store) pages.old) (pages_of (S.view pages.new.store) pages.new) result }
-    ensures works { WorksFrom (parent.page ∷ []) (Unit {0}) S.tells (is_done result) S.view S.calls tid (below key 0 []) (limits_down 0)
-        (removal_actions (tree_removal (S.view pages.old.store).state.bytes root.page key)) (blamed result) (S.view pages.old.store) (S.view pages.new.store) }
+    ensures works { WorksFrom (parent.page ∷ []) (Unit {0}) S.tells (is_done result) S.view S.calls change.tid (below change.key 0 []) (limits_down 0)
+        (removal_actions (tree_removal (S.view pages.old.store).state.bytes change.root.page change.key)) (blamed result) (S.view pages.old.store) (S.view pages.new.store) }
     ensures dead { IsErrOf result PageFault.Dead → ⊥ }
 {
-    let right = fetch_right(pages, root, key, &parent, place)?;
+    let right = fetch_right(pages, change.root, change.key, &parent, place)?;
     let Some(freed) = give_page(&slot.front, right.page) else {
         return Err(PageFault::Damaged { page: right.page });
     };
@@ -218,7 +196,7 @@ fn join_right<S: EawStore>(
         page: parent.page,
         pairs: without_place(parent.pairs, place),
     };
-    join_leaves(pages, tid, slot, &freed, leaf, parent)?;
+    join_leaves(pages, change.tid, slot, &freed, leaf, parent)?;
     Ok(true)
 }
 
@@ -266,33 +244,21 @@ fn fetch_right<S: EawStore>(
 // The leaf, which has no other pair and is the last of several, goes.
 fn leave_parent<S: EawStore>(
     pages: &mut Pages<S>,
-    tid: u8,
-    root: Root,
-    key: u64,
+    change: Change,
     slot: &Release,
     leaf: u32,
     parent: Node,
 ) -> Result<bool, PageFault>
-    requires tid { tid < (S.view pages.old.store).shape.numbers }
-    requires closed { top_in pages.old.marks tid ≡ None }
-    requires alive { IsAlive (S.view pages.old.store) }
-    requires sound { IsTrue S.tells → AreSoundTrees (S.view pages.old.store).state.bytes }
-    requires named { IsTrue S.tells → IsTable (S.view pages.old.store).state.bytes root.table root.page }
+    requires may { MayAct S.tells tree change.tid change.root.table change.root.page (pages_of (S.view pages.old.store) pages.old) }
     requires slot { slot.now.number < slots_of (S.view pages.old.store).shape }
     requires released { IsTrue S.tells → Releases (S.view pages.old.store).state.bytes slot.now.number slot.now.free slot.now.front }
-    requires finds { IsTrue S.tells → found (pairs_of_tree (S.view pages.old.store).state.bytes root.page) key ≡ Some slot.now.number }
-    requires leaf { leaf < index_pages_of (S.view pages.old.store).shape }
-    requires leaf_is { leaf ≡ child_for parent.pairs.items key }
-    requires alone { IsTrue S.tells → count_of (S.view pages.old.store).state.bytes leaf ≡ 1 }
-    requires parent { IsRead (S.view pages.old.store).shape parent.page parent.level parent.pairs.items }
-    requires level { parent.level ≡ 1 }
-    requires reached { IsTrue S.tells → IsReached root (S.view pages.old.store).state.bytes key parent.page parent.level parent.pairs.items }
-    requires last { right_of parent.pairs.items key ≡ 0 }
+    requires lone { IsLone S.tells (S.view pages.old.store) change.root change.key slot.now.number leaf parent.page parent.level parent.pairs.items }
+    requires last { right_of parent.pairs.items change.key ≡ 0 }
     requires several { 2 ≤ length parent.pairs.items }
-    ensures removes { Removes S.tells (S.opens (S.view pages.old.store).shape) tree tid root.page key
+    ensures removes { Removes S.tells (S.opens (S.view pages.old.store).shape) tree change.tid change.root.page change.key
         (pages_of (S.view pages.old.store) pages.old) (pages_of (S.view pages.new.store) pages.new) result }
-    ensures works { WorksFrom (leaf ∷ []) (Unit {0}) S.tells (is_done result) S.view S.calls tid (below key 0 []) (limits_down 0)
-        (removal_actions (tree_removal (S.view pages.old.store).state.bytes root.page key)) (blamed result) (S.view pages.old.store) (S.view pages.new.store) }
+    ensures works { WorksFrom (leaf ∷ []) (Unit {0}) S.tells (is_done result) S.view S.calls change.tid (below change.key 0 []) (limits_down 0)
+        (removal_actions (tree_removal (S.view pages.old.store).state.bytes change.root.page change.key)) (blamed result) (S.view pages.old.store) (S.view pages.new.store) }
     ensures dead { IsErrOf result PageFault.Dead → ⊥ }
 {
     let Some(freed) = give_page(&slot.front, leaf) else {
@@ -302,6 +268,6 @@ fn leave_parent<S: EawStore>(
         page: parent.page,
         pairs: without_end(parent.pairs),
     };
-    drop_leaf(pages, tid, slot, &freed, parent)?;
+    drop_leaf(pages, change.tid, slot, &freed, parent)?;
     Ok(true)
 }

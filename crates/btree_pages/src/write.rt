@@ -1,58 +1,25 @@
 // The nested top actions of an insertion.
-ghost use Rattle.std.specs.Prelude.{◌≡◌, ◌+◌, ◌<◌, ◌≤◌, None, IsErrOf, length};
+ghost use Rattle.std.specs.Prelude.{◌≡◌, ◌+◌, ◌<◌, None, IsErrOf, length};
 ghost use Rattle.eaw_face.specs.Causes.{IsAlive};
 ghost use Rattle.eaw_face.specs.StoreView.{log_len};
-ghost use Rattle.page_store.specs.Index.{slots_of, index_pages_of};
+ghost use Rattle.page_store.specs.Index.{index_pages_of};
 ghost use Rattle.page_store.specs.Runs.{Runs, acting_of};
 ghost use Rattle.page_store.specs.Shown.{pages_of, top_in};
 ghost use Rattle.index_pages.specs.Acts.{Acts};
-ghost use Rattle.index_pages.specs.Adding.{adding_pages, adding_parts};
 ghost use Rattle.btree_pages.specs.Index.{half_for, half_pairs};
 ghost use Rattle.btree_pages.specs.Writes.{IsRead, cutting_pages, cutting_parts, growing_pages, growing_parts};
 
 use crate::node::Node;
 use eaw_face::EawStore;
 use index_pages::{
-    Claim, HALF, LeafPage, PAGE_LEN, act_all, copy_of, front_part, middle_of, whole_page,
-    with_pair, write_page,
+    Claim, HALF, PAGE_LEN, act_all, copy_of, front_part, middle_of, whole_page, with_pair,
+    write_page,
 };
 use page_store::{PageFault, Pages};
 use record_slots::{PART_LEN, write_super_part};
 
 // A page of a tree has no link.
 pub const NO_LINK: u32 = 0;
-
-// Adds a pair of the key of a table and the slot that is taken to the key's leaf, which has room.
-pub fn add_pair<S: EawStore>(
-    pages: &mut Pages<S>,
-    tid: u8,
-    table: u8,
-    key: u64,
-    slot: &Claim,
-    leaf: Node,
-) -> Result<(), PageFault>
-    requires tid { tid < (S.view pages.old.store).shape.numbers }
-    requires table { table < 8 }
-    requires closed { IsAlive (S.view pages.old.store) → top_in pages.old.marks tid ≡ None }
-    requires leaf { IsRead (S.view pages.old.store).shape leaf.page leaf.level leaf.pairs.items }
-    requires room { length leaf.pairs.items < 30 }
-    requires slot { slot.now.number < slots_of (S.view pages.old.store).shape }
-    ensures acts { Acts S.tells (S.opens (S.view pages.old.store).shape) tid (adding_pages (index_pages_of (S.view pages.old.store).shape) slot.now.number leaf.page)
-        (adding_parts (index_pages_of (S.view pages.old.store).shape) slot.now.front slot.now.number leaf.page 0 leaf.pairs.items table key)
-        (pages_of (S.view pages.old.store) pages.old) (pages_of (S.view pages.new.store) pages.new) result }
-    ensures runs { Runs S.tells S.view S.calls (acting_of tid (log_len (S.view pages.old.store) tid)
-        (adding_parts (index_pages_of (S.view pages.old.store).shape) slot.now.front slot.now.number leaf.page 0 leaf.pairs.items table key))
-        (S.view pages.old.store) (S.view pages.new.store) result }
-    ensures dead { IsErrOf result PageFault.Dead → pages.new ≡ pages.old }
-{
-    let Node { page, pairs, .. } = leaf;
-    let leaf = LeafPage {
-        page,
-        link: NO_LINK,
-        pairs,
-    };
-    index_pages::add_pair(pages, tid, table, key, slot, leaf)
-}
 
 // Splits a full page below a parent that has room. Its upper half goes to the page that is taken, which the parent names with the first key
 // of that half.

@@ -1,6 +1,6 @@
 mod Lines
 mod Rising
 mod Gathering
-mod Taken
+pub mod Taken
 mod OneLine
 mod ReadAgain

@@ -1,8 +1,7 @@
 -- What is read line by line.
-use Rattle.std.proofs.Common.{◌≡◌, ◌≢◌, ℕ, suc, ◌+◌, ◌<◌, ◌≤◌, Bool, true, false, ◌⊎◌, inl, inr, List, [], ◌∷◌, ◌++◌, length, length-append, map, Result, Ok, Err, refl, sym, ap, subst, ◌∙◌, arith, rules, append_assoc}
+use Rattle.std.proofs.Common.{◌≡◌, ℕ, suc, ◌+◌, ◌<◌, ◌≤◌, Bool, true, false, inl, inr, List, [], ◌∷◌, ◌++◌, length, map, Err, refl, sym, ap, subst, ◌∙◌, arith, rules}
 use Rattle.std.specs.Prelude.{if◌then◌else◌, IsPermutation, nat_eq}
-use lib.Pointwise.{pointwise}
-use Rattle.std.specs.List.{All, Contains, IsDistinct, list_any}
+use Rattle.std.specs.List.{All, IsDistinct, list_any}
 use Rattle.std.proofs.lemmas.Cmp.{nat_list_eq_equiv}
 use Rattle.std.proofs.lemmas.List.Elements.{All-append, All-cons}
 use Rattle.std.proofs.lemmas.List.Sorted.{IsPermutation-refl, IsPermutation-sym, IsPermutation-push_more, Contains-permutation}
@@ -12,15 +11,14 @@ use Rattle.history.specs.declared.key.Key.{Key}
 use Rattle.history.specs.Rows.{NamedRows, records_in}
 use Rattle.history.specs.Writes.{Row}
 use Rattle.script_run.specs.Lines.{lines_of, onto_first}
-use Rattle.dump_text.specs.Dump.{IsRecord, AreTables, AreRising, IsDumpOf, record_words, count_words, is_same_name, with_name, met, tables_met}
-use Rattle.dump_text.specs.Causes.{SaysNothing, IsShort, IsRefused, IsRefusedAt, HasCause}
+use Rattle.dump_text.specs.Dump.{IsRecord, AreTables, AreRising, record_words, is_same_name, with_name, met}
+use Rattle.dump_text.specs.Causes.{SaysNothing, IsShort, IsRefused, HasCause}
 use Rattle.dump_text.specs.Gathering.{Adds, names_of}
 use Rattle.dump_text.specs.Taking.{HasRead, Takes, NotBehind}
 use Rattle.dump_text.specs.declared.fault.DumpFault.{DumpFault}
 use Rattle.dump_text.specs.declared.fault.DumpFault.TheVariants.{Line, Cut, Count, NoMemory}
 use Rattle.dump_text.specs.declared.fault.LineFault.{LineFault}
 use Rattle.dump_text.specs.declared.fault.LineFault.TheVariants.{NoRecord, NoName, NoKey, NoValue, Twice, NinthTable, BehindTheEnd}
-use Rattle.dump_text.proofs.Gathering.{as_many_names}
 
 abbrev pub Entry : Type 0
 Entry = Key × List ℕ
@@ -42,7 +40,7 @@ met_begins name names (entry ∷ read) = go (list_any (is_same_name entry.0.tabl
     go false same more = more
 
 -- and none stands twice
-met_apart : (names : List (List ℕ)) (read : List Entry) → IsDistinct is_same_name names → IsDistinct is_same_name (met names read)
+pub met_apart : (names : List (List ℕ)) (read : List Entry) → IsDistinct is_same_name names → IsDistinct is_same_name (met names read)
 met_apart names [] apart = apart
 met_apart names (entry ∷ read) apart = met_apart (with_name names entry.0.table) read (go (list_any (is_same_name entry.0.table) names) refl)
   where
@@ -50,7 +48,7 @@ met_apart names (entry ∷ read) apart = met_apart (with_name names entry.0.tabl
     go true is = apart
     go false is = IsDistinct-push nat_list_eq_equiv names entry.0.table apart is
 
-main_alone : IsDistinct is_same_name (main_name ∷ [])
+pub main_alone : IsDistinct is_same_name (main_name ∷ [])
 unfolding IsDistinct
 main_alone = search rules
 

@@ -1,9 +1,9 @@
 // The records of lines, table by table.
-ghost use Rattle.std.specs.Prelude.{◌≡◌, ◌<◌, ℕ, List, [], ◌∷◌, Some, false, IfOk, IfSome, IfNone, map, length, slice_get};
+ghost use Rattle.std.specs.Prelude.{◌≡◌, ◌<◌, ℕ, List, [], ◌∷◌, Some, false, IfOk, IfSome, IfNone, length, slice_get};
 ghost use Rattle.std.specs.List.{All, list_any};
 ghost use Rattle.history.specs.Key.{main_name};
 ghost use Rattle.history.specs.Rows.{NamedRows};
-ghost use Rattle.dump_text.specs.Dump.{AreRising, is_same_name, with_name};
+ghost use Rattle.dump_text.specs.Dump.{AreRising, is_same_name};
 ghost use Rattle.dump_text.specs.Gathering.{Adds, IsPlaced, IsPut, names_of};
 
 use crate::fault::LineFault;

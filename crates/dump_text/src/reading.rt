@@ -1,6 +1,5 @@
 // A text is read line by line.
-ghost use Rattle.std.specs.Prelude.{◌≡◌, ℕ, ◌+◌, ◌≤◌, ◌<◌, ◌^◌, suc, IfOk, List, length, map, ◌++◌, ◌∷◌};
-ghost use Rattle.history.specs.declared.key.Key.{Key};
+ghost use Rattle.std.specs.Prelude.{◌≡◌, ℕ, ◌+◌, ◌<◌, ◌^◌, List, length, map, ◌++◌, ◌∷◌};
 ghost use Rattle.script_run.specs.Lines.{lines_of};
 ghost use Rattle.dump_text.specs.Dump.{count_words, record_words};
 ghost use Rattle.dump_text.specs.Causes.{DumpSays};

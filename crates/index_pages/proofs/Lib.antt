@@ -7,6 +7,7 @@ pub mod Halves
 pub mod Reading
 pub mod Writing
 pub mod Looking
+pub mod May
 pub mod Sizes
 pub mod Acting
 pub mod Running

@@ -7,6 +7,7 @@ pub mod Written
 pub mod Fetched
 pub mod Held
 pub mod Acts
+pub mod May
 pub mod Parts
 pub mod Adding
 pub mod Giving

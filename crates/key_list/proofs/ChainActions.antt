@@ -182,6 +182,39 @@ module _ (table : ℕ) where
       let first = first_from (behind low (page_pairs bytes q)) key_end (page_pairs bytes (link_of bytes q)) some head.rises in
       (first.0, first.1, rise_wide (first_key (page_pairs bytes (link_of bytes q))) key_end (page_pairs bytes (link_of bytes q)) some first.1)
 
+  -- a page that keeps its link has other pairs, which still lie before those of the page behind it
+  pub page_changes : (old new : List ℕ) → Keeps old new → (change : List Pair → List Pair) (q : ℕ) → link_of new q ≡ link_of old q → page_pairs new q ≡ change (page_pairs old q)
+      → ((x : ℕ) → 1 ≤ x → x < next_page old → kind_of old x ≡ 1 → x ≢ q → page_bytes new x ≡ page_bytes old x)
+      → (n low : ℕ) → IsChain table (suc n) old q low → IsChainPage table new q low
+      → (link_of old q ≢ 0 → Rise low (first_key (page_pairs old (link_of old q))) (page_pairs old q) → Rise low (first_key (page_pairs old (link_of old q))) (change (page_pairs old q)))
+      → (link_of old q ≢ 0 → (rest : List Pair) → Rise (first_key (page_pairs old (link_of old q))) key_end rest → change (page_pairs old q ++ rest) ≡ change (page_pairs old q) ++ rest)
+      → IsChain table (above (suc n) 0) new q low × ((from : ℕ) → joined (chain_pieces (above (suc n) 0) new q from) ≡ change (joined (chain_pieces (suc n) old q from)))
+  page_changes old new keeps change q link pairs kept n low c here still left =
+      let z = above_zero n in
+      elim (eqb_tells (link_of old q) 0) [
+        | inl last ↦
+            let b : nat_eq (link_of old q) 0 ≡ true = last.0 in
+            let b' : nat_eq (link_of new q) 0 ≡ true = ap (λ (x : ℕ). nat_eq x 0) link ∙ b in (
+              (here, λ other. absurd (other (link ∙ last.1))),
+              λ from. rw (b, b') (append-nil (page_pairs new q) ∙ pairs ∙ ap (λ (ps : List Pair). change ps) (sym (append-nil (page_pairs old q)))),
+            )
+        | inr linked ↦
+            let b : nat_eq (link_of old q) 0 ≡ false = linked.0 in
+            let b' : nat_eq (link_of new q) 0 ≡ false = ap (λ (x : ℕ). nat_eq x 0) link ∙ b in
+            let first = next_first old n q low c linked.1 in
+            let up = still linked.1 (rise_behind low key_end (first_key (page_pairs old (link_of old q))) (page_pairs old q) c.0.rises first.0) in
+            let rest = rest_kept old new keeps n q low (behind low (change (page_pairs old q))) c linked.1
+            (behind_bound low (first_key (page_pairs old (link_of old q))) (change (page_pairs old q)) up) kept in
+            let tile = chain_tiles table n old (link_of old q) (behind low (page_pairs old q)) (first_key (page_pairs old (link_of old q))) (c.1 linked.1) first.1 first.2 in
+            let rises = joined_rises (first_key (page_pairs old (link_of old q))) key_end (chain_pieces n old (link_of old q) (first_key (page_pairs old (link_of old q)))) tile in (
+              (here, λ other. rw (z, link, pairs) rest.0),
+              λ from. rw (b, b') (rw (z, link, pairs)
+                  (ap (λ (ps : List Pair). change (page_pairs old q) ++ ps)
+                  (joined_from n new (link_of old q) (first_key (page_pairs new (link_of old q))) 0 ∙ rest.1 0 ∙ joined_from n old (link_of old q) 0 (first_key (page_pairs old (link_of old q))))
+                  ∙ sym (left linked.1 (joined (chain_pieces n old (link_of old q) (first_key (page_pairs old (link_of old q))))) rises))),
+            )
+      ]
+
   module _ (old new : List ℕ) (keeps : Keeps old new) (q key to : ℕ) (lt : key < key_end) where
     page_takes : TakesPairInChain old new table q key to → found (page_pairs old q) key ≡ None
         → ((x : ℕ) → 1 ≤ x → x < next_page old → kind_of old x ≡ 1 → x ≢ q → page_bytes new x ≡ page_bytes old x)
@@ -200,33 +233,9 @@ module _ (table : ℕ) where
               (given_inserted new table key to (page_pairs old q) takes.given takes.carries (given_kept old new keeps table (page_pairs old q) c.0.given));
           link = λ other. let l = c.0.link (λ e. other (takes.link ∙ e)) in (omega (arith, l.0, takes.link), omega (arith, l.1, takes.link, keeps.pages));
         } in
-        let z = above_zero n in
-        elim (eqb_tells (link_of old q) 0) [
-          | inl last ↦
-              let b : nat_eq (link_of old q) 0 ≡ true = last.0 in
-              let b' : nat_eq (link_of new q) 0 ≡ true = ap (λ (x : ℕ). nat_eq x 0) takes.link ∙ b in (
-                (here, λ other. absurd (other (takes.link ∙ last.1))),
-                λ from. rw (b, b') (append-nil (page_pairs new q) ∙ takes.pairs ∙ ap (λ (ps : List Pair). inserted ps key to) (sym (append-nil (page_pairs old q)))),
-              )
-          | inr more ↦
-              let b : nat_eq (link_of old q) 0 ≡ false = more.0 in
-              let b' : nat_eq (link_of new q) 0 ≡ false = ap (λ (x : ℕ). nat_eq x 0) takes.link ∙ b in
-              let first = next_first old n q low c more.1 in
-              let f : ℕ = first_key (page_pairs old (link_of old q)) in
-              let up = inserted-rises low (first_key (page_pairs old (link_of old q))) key to (page_pairs old q)
-              (rise_behind low key_end (first_key (page_pairs old (link_of old q))) (page_pairs old q) c.0.rises first.0) le (far more.1) none in
-              let rest = rest_kept old new keeps n q low (behind low (inserted (page_pairs old q) key to)) c more.1
-              (behind_bound low (first_key (page_pairs old (link_of old q))) (inserted (page_pairs old q) key to) up) kept in
-              let tile = chain_tiles table n old (link_of old q) (behind low (page_pairs old q)) (first_key (page_pairs old (link_of old q))) (c.1 more.1) first.1 first.2 in
-              let rises = joined_rises (first_key (page_pairs old (link_of old q))) key_end (chain_pieces n old (link_of old q) (first_key (page_pairs old (link_of old q)))) tile in (
-                (here, λ other. rw (z, takes.link, takes.pairs) rest.0),
-                λ from. rw (b, b') (rw (z, takes.link, takes.pairs)
-                    (ap (λ (ps : List Pair). inserted (page_pairs old q) key to ++ ps)
-                    (joined_from n new (link_of old q) (first_key (page_pairs new (link_of old q))) 0 ∙ rest.1 0 ∙ joined_from n old (link_of old q) 0 (first_key (page_pairs old (link_of old q))))
-                    ∙ sym (inserted-left (first_key (page_pairs old (link_of old q))) key_end key to (page_pairs old q)
-                    (joined (chain_pieces n old (link_of old q) (first_key (page_pairs old (link_of old q))))) rises (far more.1)))),
-              )
-        ]
+        page_changes old new keeps (λ ps. inserted ps key to) q takes.link takes.pairs kept n low c here
+        (λ linked rise. inserted-rises low (first_key (page_pairs old (link_of old q))) key to (page_pairs old q) rise le (far linked) none)
+        (λ linked rest rises. inserted-left (first_key (page_pairs old (link_of old q))) key_end key to (page_pairs old q) rest rises (far linked))
 
   -- a lookup goes to the key's page
   pub chain_finds : (n : ℕ) (bytes : List ℕ) (page low from key : ℕ) → IsChain table n bytes page low → low ≤ key

@@ -1,7 +1,6 @@
 -- A pair that is taken out of a chain.
-use Rattle.std.proofs.Common.{◌≡◌, ◌≢◌, ℕ, zero, suc, ◌<◌, ◌≤◌, ◌⊎◌, true, false, nat_eq, inl, inr, List, ◌++◌, length, Some, None, refl, sym, ◌∙◌, ap, subst, arith}
+use Rattle.std.proofs.Common.{◌≡◌, ◌≢◌, ℕ, zero, suc, ◌<◌, ◌≤◌, ◌⊎◌, true, false, nat_eq, inl, inr, List, length, Some, None, refl, sym, ◌∙◌, ap, subst, arith}
 use Rattle.std.proofs.lemmas.Bool.Decides.{eqb_tells}
-use Rattle.std.proofs.lemmas.List.{append-nil}
 use Rattle.record_slots.specs.Places.{page_bytes, next_slot, next_page, Carries, AreGiven}
 use Rattle.page_store.specs.Index.{HasCounts}
 use Rattle.page_store.specs.Pairs.{Pair, Rise, found, removed}
@@ -14,13 +13,12 @@ use Rattle.index_pages.proofs.Given.{above_zero}
 use Rattle.index_pages.proofs.Kept.{given_kept}
 use Rattle.index_pages.proofs.PageFacts.{length-page_pairs}
 use Rattle.index_pages.proofs.Removing.{length-removed, removed-rises, removed-left, given_removed, removed_local, found-removed}
-use Rattle.index_pages.proofs.Tiling.{joined_rises}
-use Rattle.key_list.specs.Chain.{behind, first_key, chain_pieces, chain_check, pairs_of_chain, page_of_key}
-use Rattle.key_list.specs.ChainFacts.{chain_tiles, rise_behind, sound_chain_rises}
+use Rattle.key_list.specs.Chain.{first_key, chain_pieces, chain_check, pairs_of_chain, page_of_key}
+use Rattle.key_list.specs.ChainFacts.{sound_chain_rises}
 use Rattle.key_list.specs.Changes.{LosesPairInChain}
-use Rattle.key_list.specs.Resting.{joined_from, sound_chain_given}
+use Rattle.key_list.specs.Resting.{sound_chain_given}
 use Rattle.key_list.specs.Seen.{IsChainPage, IsChain, pages_of_sound, sound_by_pages, pieces_have}
-use Rattle.key_list.proofs.ChainActions.{behind_bound, chain_graft, rest_kept, next_first}
+use Rattle.key_list.proofs.ChainActions.{chain_graft, page_changes}
 use Rattle.key_list.proofs.Chains.{key_page_own}
 use Rattle.key_list.proofs.Resting.{on_seen, chain_stays}
 
@@ -43,32 +41,9 @@ module _ (table : ℕ) (old new : List ℕ) (keeps : Keeps old new) (root q key 
             (given_removed new table key (page_pairs old q) (given_kept old new keeps table (page_pairs old q) c.0.given));
         link = λ other. let l = c.0.link (λ e. other (loses.link ∙ e)) in (omega (arith, l.0, loses.link), omega (arith, l.1, loses.link, keeps.pages));
       } in
-      let z = above_zero n in
-      elim (eqb_tells (link_of old q) 0) [
-        | inl last ↦
-            let b : nat_eq (link_of old q) 0 ≡ true = last.0 in
-            let b' : nat_eq (link_of new q) 0 ≡ true = ap (λ (x : ℕ). nat_eq x 0) loses.link ∙ b in (
-              (here, λ other. absurd (other (loses.link ∙ last.1))),
-              λ from. rw (b, b') (append-nil (page_pairs new q) ∙ loses.pairs ∙ ap (λ (ps : List Pair). removed ps key) (sym (append-nil (page_pairs old q)))),
-            )
-        | inr linked ↦
-            let b : nat_eq (link_of old q) 0 ≡ false = linked.0 in
-            let b' : nat_eq (link_of new q) 0 ≡ false = ap (λ (x : ℕ). nat_eq x 0) loses.link ∙ b in
-            let first = next_first table old n q low c linked.1 in
-            let up = removed-rises low (first_key (page_pairs old (link_of old q))) key (page_pairs old q)
-            (rise_behind low key_end (first_key (page_pairs old (link_of old q))) (page_pairs old q) c.0.rises first.0) in
-            let rest = rest_kept table old new keeps n q low (behind low (removed (page_pairs old q) key)) c linked.1
-            (behind_bound low (first_key (page_pairs old (link_of old q))) (removed (page_pairs old q) key) up) kept in
-            let tile = chain_tiles table n old (link_of old q) (behind low (page_pairs old q)) (first_key (page_pairs old (link_of old q))) (c.1 linked.1) first.1 first.2 in
-            let rises = joined_rises (first_key (page_pairs old (link_of old q))) key_end (chain_pieces n old (link_of old q) (first_key (page_pairs old (link_of old q)))) tile in (
-              (here, λ other. rw (z, loses.link, loses.pairs) rest.0),
-              λ from. rw (b, b') (rw (z, loses.link, loses.pairs)
-                  (ap (λ (ps : List Pair). removed (page_pairs old q) key ++ ps)
-                  (joined_from n new (link_of old q) (first_key (page_pairs new (link_of old q))) 0 ∙ rest.1 0 ∙ joined_from n old (link_of old q) 0 (first_key (page_pairs old (link_of old q))))
-                  ∙ sym (removed-left (first_key (page_pairs old (link_of old q))) key_end key (page_pairs old q)
-                  (joined (chain_pieces n old (link_of old q) (first_key (page_pairs old (link_of old q))))) rises (far linked.1)))),
-            )
-      ]
+      page_changes table old new keeps (λ ps. removed ps key) q loses.link loses.pairs kept n low c here
+      (λ linked rise. removed-rises low (first_key (page_pairs old (link_of old q))) key (page_pairs old q) rise)
+      (λ linked rest rises. removed-left (first_key (page_pairs old (link_of old q))) key_end key (page_pairs old q) rest rises (far linked))
 
   -- the root alone
   root_loses : (n : ℕ) → q ≡ root → link_of old q ≡ 0 → IsChain table n old root 0

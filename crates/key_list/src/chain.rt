@@ -5,6 +5,7 @@ ghost use Rattle.key_list.specs.Resting.{sound_table, sound_chain_given, sound_c
 ghost use Rattle.key_list.specs.Extending.{sound_chains_extend};
 ghost use Rattle.key_list.specs.Index.{chain};
 
+use crate::change::Change;
 use crate::checking::check_tables;
 use crate::insertion::{has_slot, insert_cut, insert_here};
 use crate::look::{page_for, reach};
@@ -77,13 +78,13 @@ impl KeyIndex for KeyList {
         table: u8,
         key: u64,
     ) -> Result<Sought, PageFault> {
-        let slots = SLOTS_IN_PAGE * index_page_count(pages);
+        let count = index_page_count(pages);
         let mut bytes = [0; PAGE_LEN];
         let at = page_for(pages, root, table, key, &mut bytes)?;
         let Some(slot) = slot_in(&at, &bytes, key) else {
             return Ok(room_in(&at, &bytes));
         };
-        if slot >= u64::from(slots) {
+        if slot >= u64::from(SLOTS_IN_PAGE * count) {
             return Err(PageFault::Damaged { page: at.page });
         }
         Ok(Sought::Slot(slot as u32))
@@ -116,15 +117,21 @@ impl KeyIndex for KeyList {
         key: u64,
         place: Option<LeafPage>,
     ) -> Result<u32, IndexFault> {
+        let change = Change {
+            tid,
+            root,
+            table,
+            key,
+        };
         let at = locate_for(pages, root, table, key, place)?;
         let slots = SLOTS_IN_PAGE * index_page_count(pages);
         if !has_slot(&at.front, slots) {
             return Err(IndexFault::SlotsFull { slots });
         }
         if at.pairs.len() < PAIRS_MAX {
-            return insert_here(pages, tid, root, table, key, at);
+            return insert_here(pages, change, at);
         }
-        insert_cut(pages, tid, root, table, key, at)
+        insert_cut(pages, change, at)
     }
 
     fn remove<S: EawStore>(
@@ -134,8 +141,14 @@ impl KeyIndex for KeyList {
         table: u8,
         key: u64,
     ) -> Result<bool, PageFault> {
+        let change = Change {
+            tid,
+            root,
+            table,
+            key,
+        };
         let at = locate(pages, root, table, key)?;
-        remove_here(pages, tid, root, table, key, at)
+        remove_here(pages, change, at)
     }
 
     ghost rises = { λ bytes table root sound is. sound_chain_rises bytes root table (sound_table bytes table root sound is) };

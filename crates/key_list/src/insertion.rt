@@ -1,20 +1,18 @@
 // Insertions into the chain of a table.
-ghost use Rattle.std.specs.Prelude.{false, ◌≡◌, ◌<◌, ◌≤◌, ◌↔◌, [], ◌∷◌, None, IsErrOf, IsTrue, length};
-ghost use Rattle.eaw_face.specs.Causes.{IsAlive};
-ghost use Rattle.page_store.specs.Index.{IsTable, slots_of};
+ghost use Rattle.std.specs.Prelude.{false, ◌≡◌, ◌<◌, ◌≤◌, ◌↔◌, [], ◌∷◌, IsErrOf, IsTrue, length};
 ghost use Rattle.page_store.specs.Inserts.{Inserts, are_slots_full};
-ghost use Rattle.page_store.specs.Pairs.{found};
-ghost use Rattle.page_store.specs.Shown.{pages_of, top_in};
+ghost use Rattle.page_store.specs.Shown.{pages_of};
 ghost use Rattle.page_store.specs.Works.{WorksFrom, blamed_index, is_done};
-ghost use Rattle.key_list.specs.Chain.{IsSoundChain, pairs_of_chain};
 ghost use Rattle.key_list.specs.Index.{chain, chain_actions, chain_within};
 ghost use Rattle.key_list.specs.Finds.{limits_here, limits_cut, no_way};
-ghost use Rattle.key_list.specs.Located.{IsLocated, Locates};
+ghost use Rattle.index_pages.specs.May.{MayAct};
+ghost use Rattle.key_list.specs.Located.{MayAdd};
 
+use crate::change::Change;
 use crate::place::Located;
-use crate::write::{add_pair, cut_page, half_of};
+use crate::write::{cut_page, half_of};
 use eaw_face::EawStore;
-use index_pages::{index_page_count, take_page, take_slot};
+use index_pages::{LeafPage, add_pair, index_page_count, take_page, take_slot};
 use page_store::{IndexFault, Pages};
 use record_slots::Super;
 
@@ -37,60 +35,43 @@ fn has_page(front: &Super, pages: u32) -> bool
 // Takes a slot and adds the pair to a page that has room.
 pub fn insert_here<S: EawStore>(
     pages: &mut Pages<S>,
-    tid: u8,
-    root: u32,
-    table: u8,
-    key: u64,
+    change: Change,
     at: Located,
 ) -> Result<u32, IndexFault>
-    requires tid { tid < (S.view pages.old.store).shape.numbers }
-    requires table { table < 8 }
-    requires closed { top_in pages.old.marks tid ≡ None }
-    requires alive { IsAlive (S.view pages.old.store) }
-    requires sound { IsTrue S.tells → IsSoundChain (S.view pages.old.store).state.bytes }
-    requires named { IsTrue S.tells → IsTable (S.view pages.old.store).state.bytes table root }
-    requires absent { IsTrue S.tells → found (pairs_of_chain (S.view pages.old.store).state.bytes root) key ≡ None }
-    requires located { IsLocated (S.view pages.old.store).shape at.front at.page at.link at.pairs.items }
-    requires said { IsTrue S.tells → Locates (S.view pages.old.store).state.bytes root key at.front at.page at.link at.pairs.items }
-    requires slot { at.front.free_slots ≡ 0 → at.front.next_slot < slots_of (S.view pages.old.store).shape }
+    requires may { MayAct S.tells chain change.tid change.table change.root (pages_of (S.view pages.old.store) pages.old) }
+    requires place { MayAdd S.tells (S.view pages.old.store) change.root change.key at.front at.page at.link at.pairs.items }
     requires room { length at.pairs.items < 30 }
-    ensures inserts { Inserts S.tells (S.opens (S.view pages.old.store).shape) (chain_within at.front.next_page) tid root table key
+    ensures inserts { Inserts S.tells (S.opens (S.view pages.old.store).shape) (chain_within at.front.next_page) change.tid change.root change.table change.key
         (pages_of (S.view pages.old.store) pages.old) (pages_of (S.view pages.new.store) pages.new) result }
-    ensures works { WorksFrom (0 ∷ []) (IsTrue S.tells) S.tells (is_done result) S.view S.calls tid no_way
-        limits_here (chain_actions (S.view pages.old.store).state.bytes root key)
+    ensures works { WorksFrom (0 ∷ []) (IsTrue S.tells) S.tells (is_done result) S.view S.calls change.tid no_way
+        limits_here (chain_actions (S.view pages.old.store).state.bytes change.root change.key)
         (blamed_index result) (S.view pages.old.store) (S.view pages.new.store) }
     ensures left { are_slots_full result ≡ false }
     ensures dead { IsErrOf result IndexFault.Dead → ⊥ }
 {
     let taken = take_slot(pages, &at.front)?;
-    add_pair(pages, tid, table, key, &taken, at)?;
+    let leaf = LeafPage {
+        page: at.page,
+        link: at.link,
+        pairs: at.pairs,
+    };
+    add_pair(pages, change.tid, change.table, change.key, &taken, leaf)?;
     Ok(taken.number)
 }
 
 // Takes a page, cuts the full page, and goes on with the half that has the key.
 pub fn insert_cut<S: EawStore>(
     pages: &mut Pages<S>,
-    tid: u8,
-    root: u32,
-    table: u8,
-    key: u64,
+    change: Change,
     at: Located,
 ) -> Result<u32, IndexFault>
-    requires tid { tid < (S.view pages.old.store).shape.numbers }
-    requires table { table < 8 }
-    requires closed { top_in pages.old.marks tid ≡ None }
-    requires alive { IsAlive (S.view pages.old.store) }
-    requires sound { IsTrue S.tells → IsSoundChain (S.view pages.old.store).state.bytes }
-    requires named { IsTrue S.tells → IsTable (S.view pages.old.store).state.bytes table root }
-    requires absent { IsTrue S.tells → found (pairs_of_chain (S.view pages.old.store).state.bytes root) key ≡ None }
-    requires located { IsLocated (S.view pages.old.store).shape at.front at.page at.link at.pairs.items }
-    requires said { IsTrue S.tells → Locates (S.view pages.old.store).state.bytes root key at.front at.page at.link at.pairs.items }
-    requires slot { at.front.free_slots ≡ 0 → at.front.next_slot < slots_of (S.view pages.old.store).shape }
+    requires may { MayAct S.tells chain change.tid change.table change.root (pages_of (S.view pages.old.store) pages.old) }
+    requires place { MayAdd S.tells (S.view pages.old.store) change.root change.key at.front at.page at.link at.pairs.items }
     requires full { length at.pairs.items ≡ 30 }
-    ensures inserts { Inserts S.tells (S.opens (S.view pages.old.store).shape) chain tid root table key
+    ensures inserts { Inserts S.tells (S.opens (S.view pages.old.store).shape) chain change.tid change.root change.table change.key
         (pages_of (S.view pages.old.store) pages.old) (pages_of (S.view pages.new.store) pages.new) result }
-    ensures works { WorksFrom (0 ∷ []) (IsTrue S.tells) S.tells (is_done result) S.view S.calls tid no_way
-        limits_cut (chain_actions (S.view pages.old.store).state.bytes root key)
+    ensures works { WorksFrom (0 ∷ []) (IsTrue S.tells) S.tells (is_done result) S.view S.calls change.tid no_way
+        limits_cut (chain_actions (S.view pages.old.store).state.bytes change.root change.key)
         (blamed_index result) (S.view pages.old.store) (S.view pages.new.store) }
     ensures left { are_slots_full result ≡ false }
     ensures dead { IsErrOf result IndexFault.Dead → ⊥ }
@@ -100,7 +81,7 @@ pub fn insert_cut<S: EawStore>(
         return Err(IndexFault::PagesFull { pages: count - 1 });
     }
     let taken = take_page(pages, &at.front)?;
-    cut_page(pages, tid, &taken, &at)?;
-    let half = half_of(&at, &taken, key);
-    insert_here(pages, tid, root, table, key, half)
+    cut_page(pages, change.tid, &taken, &at)?;
+    let half = half_of(&at, &taken, change.key);
+    insert_here(pages, change, half)
 }

@@ -5,6 +5,7 @@
 #![tactic(auto)]
 
 mod chain;
+mod change;
 mod checking;
 mod insertion;
 mod laws;

@@ -1,17 +1,18 @@
 // Look-ups along the chain.
 ghost use Rattle.std.specs.Prelude.{◌≡◌, ◌↔◌, ◌≢◌, ◌<◌, ◌≤◌, None, IfOk, IfSome, IfNone, OnOk, IsErrOf, IsTrue};
 ghost use Rattle.array_shape.specs.Places.{page_count};
-ghost use Rattle.eaw_face.specs.Causes.{IsAlive};
 ghost use Rattle.record_slots.specs.Places.{page_bytes};
 ghost use Rattle.page_store.specs.Follows.{HasRead, Walks, one_reading};
-ghost use Rattle.page_store.specs.Index.{index_pages_of, IsTable};
+ghost use Rattle.page_store.specs.Index.{index_pages_of};
 ghost use Rattle.page_store.specs.Looks.{Looks, LookCause, is_failed};
 ghost use Rattle.page_store.specs.Pairs.{next};
 ghost use Rattle.page_store.specs.Shown.{pages_of};
 ghost use Rattle.key_list.specs.Along.{Arrives, Stays, along, ends_at};
-ghost use Rattle.key_list.specs.Chain.{IsSoundChain, first_key, pairs_of_chain, page_of_key};
+ghost use Rattle.key_list.specs.Chain.{first_key, pairs_of_chain, page_of_key};
 ghost use Rattle.index_pages.specs.Fetched.{TestCause};
+ghost use Rattle.index_pages.specs.May.{MayLook};
 ghost use Rattle.index_pages.specs.Page.{count_said, pairs_said};
+ghost use Rattle.key_list.specs.Index.{chain};
 ghost use Rattle.key_list.specs.Linked.{IsLinked, Reaches, SaysLeaf};
 
 use crate::page::read_leaf_head;
@@ -63,10 +64,7 @@ pub fn reach<S: EawStore>(
     from: u64,
     bytes: &mut [u8; PAGE_LEN],
 ) -> Result<Option<Reached>, PageFault>
-    requires table { table < 8 }
-    requires root { root < page_count (S.view pages.old.store).shape }
-    requires sound { IsTrue S.tells → IsAlive (S.view pages.old.store) → IsSoundChain (S.view pages.old.store).state.bytes }
-    requires named { IsTrue S.tells → IsAlive (S.view pages.old.store) → IsTable (S.view pages.old.store).state.bytes table root }
+    requires may { MayLook S.tells chain table root (S.view pages.old.store) }
     ensures looks { Looks S.tells (S.opens (S.view pages.old.store).shape) (is_failed result)
         (pages_of (S.view pages.old.store) pages.old) (pages_of (S.view pages.new.store) pages.new) }
     ensures cause { LookCause S.tells (S.view pages.old.store) result }
@@ -114,10 +112,7 @@ pub fn page_for<S: EawStore>(
     key: u64,
     bytes: &mut [u8; PAGE_LEN],
 ) -> Result<KeyPage, PageFault>
-    requires table { table < 8 }
-    requires root { root < page_count (S.view pages.old.store).shape }
-    requires sound { IsTrue S.tells → IsAlive (S.view pages.old.store) → IsSoundChain (S.view pages.old.store).state.bytes }
-    requires named { IsTrue S.tells → IsAlive (S.view pages.old.store) → IsTable (S.view pages.old.store).state.bytes table root }
+    requires may { MayLook S.tells chain table root (S.view pages.old.store) }
     ensures looks { Looks S.tells (S.opens (S.view pages.old.store).shape) (is_failed result)
         (pages_of (S.view pages.old.store) pages.old) (pages_of (S.view pages.new.store) pages.new) }
     ensures cause { LookCause S.tells (S.view pages.old.store) result }

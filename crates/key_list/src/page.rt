@@ -9,9 +9,7 @@ pub fn read_leaf_head(page: &[u8; PAGE_LEN]) -> Option<Head>
     ensures says { IfSome result (SaysLeaf page.now) }
     ensures other { IfNone result (¬ IsLeaf page.now) }
 {
-    let Some(head) = read_head(page) else {
-        return None;
-    };
+    let head = read_head(page)?;
     if head.level != 0 {
         return None;
     }

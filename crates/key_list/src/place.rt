@@ -1,18 +1,17 @@
 // The page that a key is in or goes into, for insertions and removals, and for a look-up that an insertion follows.
 ghost use Rattle.std.specs.Prelude.{◌≡◌, ◌<◌, IfOk, IfSome, IsErrOf, IsTrue, is_some, length};
-ghost use Rattle.array_shape.specs.Places.{page_count};
 ghost use Rattle.eaw_face.specs.Causes.{IsAlive};
-ghost use Rattle.page_store.specs.Index.{IsTable, index_pages_of};
+ghost use Rattle.page_store.specs.Index.{index_pages_of};
 ghost use Rattle.page_store.specs.Looks.{Looks, LookCause, is_failed};
 ghost use Rattle.page_store.specs.Pairs.{AreSmall, next};
 ghost use Rattle.page_store.specs.Placed.{IsPlaceIn};
 ghost use Rattle.page_store.specs.Shown.{pages_of};
 ghost use Rattle.page_store.specs.Works.{IsMet};
+ghost use Rattle.index_pages.specs.May.{MayLook};
 ghost use Rattle.index_pages.specs.Page.{pairs_said};
 ghost use Rattle.key_list.specs.Along.{led_to};
-ghost use Rattle.key_list.specs.Chain.{IsSoundChain};
 ghost use Rattle.key_list.specs.Finds.{Finds, most_read};
-ghost use Rattle.key_list.specs.Index.{IsPlaceOf};
+ghost use Rattle.key_list.specs.Index.{chain, IsPlaceOf};
 ghost use Rattle.key_list.specs.Linked.{SaysLeaf};
 ghost use Rattle.key_list.specs.Located.{IsLocated, Locates, IsRoomIn};
 
@@ -79,10 +78,7 @@ pub fn locate_for<S: EawStore>(
     key: u64,
     place: Option<LeafPage>,
 ) -> Result<Located, PageFault>
-    requires table { table < 8 }
-    requires root { root < page_count (S.view pages.old.store).shape }
-    requires sound { IsTrue S.tells → IsAlive (S.view pages.old.store) → IsSoundChain (S.view pages.old.store).state.bytes }
-    requires named { IsTrue S.tells → IsAlive (S.view pages.old.store) → IsTable (S.view pages.old.store).state.bytes table root }
+    requires may { MayLook S.tells chain table root (S.view pages.old.store) }
     requires place { IfSome place (λ leaf. IsPlaceIn (S.view pages.old.store).shape leaf.page leaf.pairs.items) }
     requires fits { IsTrue S.tells → IsAlive (S.view pages.old.store)
         → IfSome place (λ leaf. IsPlaceOf (S.view pages.old.store).state.bytes root key leaf.page leaf.link leaf.pairs.items) }
@@ -110,7 +106,7 @@ fn locate_known<S: EawStore>(
     key: u64,
     leaf: LeafPage,
 ) -> Result<Located, PageFault>
-    requires sound { IsTrue S.tells → IsAlive (S.view pages.old.store) → IsSoundChain (S.view pages.old.store).state.bytes }
+    requires may { MayLook S.tells chain table root (S.view pages.old.store) }
     requires place { IsPlaceIn (S.view pages.old.store).shape leaf.page leaf.pairs.items }
     requires fits { IsTrue S.tells → IsAlive (S.view pages.old.store) → IsPlaceOf (S.view pages.old.store).state.bytes root key leaf.page leaf.link leaf.pairs.items }
     ensures looks { Looks S.tells (S.opens (S.view pages.old.store).shape) (is_failed result)
@@ -133,10 +129,7 @@ pub fn locate<S: EawStore>(
     table: u8,
     key: u64,
 ) -> Result<Located, PageFault>
-    requires table { table < 8 }
-    requires root { root < page_count (S.view pages.old.store).shape }
-    requires sound { IsTrue S.tells → IsAlive (S.view pages.old.store) → IsSoundChain (S.view pages.old.store).state.bytes }
-    requires named { IsTrue S.tells → IsAlive (S.view pages.old.store) → IsTable (S.view pages.old.store).state.bytes table root }
+    requires may { MayLook S.tells chain table root (S.view pages.old.store) }
     ensures looks { Looks S.tells (S.opens (S.view pages.old.store).shape) (is_failed result)
         (pages_of (S.view pages.old.store) pages.old) (pages_of (S.view pages.new.store) pages.new) }
     ensures cause { LookCause S.tells (S.view pages.old.store) result }

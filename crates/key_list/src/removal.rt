@@ -1,17 +1,16 @@
 // Removals from the chain of a table.
 ghost use Rattle.std.specs.Prelude.{◌≡◌, ◌<◌, ◌≤◌, ℕ, [], ◌∷◌, None, Some, IfSome, IfNone, IsErrOf, IsTrue, length};
-ghost use Rattle.eaw_face.specs.Causes.{IsAlive};
 ghost use Rattle.record_slots.specs.Places.{version_of};
-ghost use Rattle.page_store.specs.Index.{IsTable};
 ghost use Rattle.page_store.specs.Pairs.{found};
 ghost use Rattle.page_store.specs.Removes.{HasAbsent, Removes};
-ghost use Rattle.page_store.specs.Shown.{pages_of, top_in};
+ghost use Rattle.page_store.specs.Shown.{pages_of};
 ghost use Rattle.page_store.specs.Works.{WorksFrom, blamed, is_done, removal_actions};
-ghost use Rattle.key_list.specs.Chain.{IsSoundChain};
+ghost use Rattle.index_pages.specs.May.{MayAct};
 ghost use Rattle.key_list.specs.Index.{chain, chain_removal, keeps_last};
 ghost use Rattle.key_list.specs.Finds.{limits_here, no_way};
 ghost use Rattle.key_list.specs.Located.{IsLocated, Locates};
 
+use crate::change::Change;
 use crate::place::Located;
 use eaw_face::EawStore;
 use index_pages::{
@@ -22,33 +21,26 @@ use page_store::{PageFault, Pages};
 // Takes the pair out of its page, unless it is the last one and stays there.
 pub fn remove_here<S: EawStore>(
     pages: &mut Pages<S>,
-    tid: u8,
-    root: u32,
-    table: u8,
-    key: u64,
+    change: Change,
     at: Located,
 ) -> Result<bool, PageFault>
-    requires tid { tid < (S.view pages.old.store).shape.numbers }
-    requires closed { top_in pages.old.marks tid ≡ None }
-    requires alive { IsAlive (S.view pages.old.store) }
-    requires sound { IsTrue S.tells → IsSoundChain (S.view pages.old.store).state.bytes }
-    requires named { IsTrue S.tells → IsTable (S.view pages.old.store).state.bytes table root }
+    requires may { MayAct S.tells chain change.tid change.table change.root (pages_of (S.view pages.old.store) pages.old) }
     requires lists { IsTrue S.tells → version_of (S.view pages.old.store).state.bytes ≡ 2 }
-    requires absent { IsTrue S.tells → HasAbsent chain root table key (S.view pages.old.store).state.bytes }
+    requires absent { IsTrue S.tells → HasAbsent chain change.root change.table change.key (S.view pages.old.store).state.bytes }
     requires located { IsLocated (S.view pages.old.store).shape at.front at.page at.link at.pairs.items }
-    requires said { IsTrue S.tells → Locates (S.view pages.old.store).state.bytes root key at.front at.page at.link at.pairs.items }
-    ensures removes { Removes S.tells (S.opens (S.view pages.old.store).shape) chain tid root key
+    requires said { IsTrue S.tells → Locates (S.view pages.old.store).state.bytes change.root change.key at.front at.page at.link at.pairs.items }
+    ensures removes { Removes S.tells (S.opens (S.view pages.old.store).shape) chain change.tid change.root change.key
         (pages_of (S.view pages.old.store) pages.old) (pages_of (S.view pages.new.store) pages.new) result }
-    ensures works { WorksFrom (0 ∷ at.page ∷ []) (Unit {0}) S.tells (is_done result) S.view S.calls tid no_way
-        limits_here (removal_actions (chain_removal (S.view pages.old.store).state.bytes root key))
+    ensures works { WorksFrom (0 ∷ at.page ∷ []) (Unit {0}) S.tells (is_done result) S.view S.calls change.tid no_way
+        limits_here (removal_actions (chain_removal (S.view pages.old.store).state.bytes change.root change.key))
         (blamed result) (S.view pages.old.store) (S.view pages.new.store) }
     ensures dead { IsErrOf result PageFault.Dead → ⊥ }
 {
-    if keeps_last(&at, root) {
+    if keeps_last(&at, change.root) {
         return Ok(false);
     }
     let slots = SLOTS_IN_PAGE * index_page_count(pages);
-    let Some(slot) = slot_found(&at.pairs, key, slots) else {
+    let Some(slot) = slot_found(&at.pairs, change.key, slots) else {
         return Err(PageFault::Damaged { page: at.page });
     };
     let Some(released) = give_slot(&at.front, slot) else {
@@ -59,7 +51,7 @@ pub fn remove_here<S: EawStore>(
         link: at.link,
         pairs: at.pairs,
     };
-    remove_pair(pages, tid, key, &released, leaf)?;
+    remove_pair(pages, change.tid, change.key, &released, leaf)?;
     Ok(true)
 }
 

@@ -1,62 +1,21 @@
 // The nested top actions of an insertion.
-ghost use Rattle.std.specs.Prelude.{◌≡◌, ◌<◌, ℕ, None, IsErrOf, length, take, drop};
+ghost use Rattle.std.specs.Prelude.{◌≡◌, ◌<◌, None, IsErrOf, length, take, drop};
 ghost use Rattle.eaw_face.specs.Causes.{IsAlive};
 ghost use Rattle.eaw_face.specs.StoreView.{log_len};
-ghost use Rattle.page_store.specs.Index.{slots_of, index_pages_of};
+ghost use Rattle.page_store.specs.Index.{index_pages_of};
 ghost use Rattle.page_store.specs.Runs.{Runs, acting_of};
 ghost use Rattle.page_store.specs.Shown.{pages_of, top_in};
 ghost use Rattle.index_pages.specs.Acts.{Acts};
-ghost use Rattle.index_pages.specs.Adding.{adding_pages, adding_parts};
 ghost use Rattle.key_list.specs.Index.{by_half};
 ghost use Rattle.key_list.specs.Located.{IsLocated, cutting_pages, cutting_parts};
 
 use crate::place::Located;
 use eaw_face::EawStore;
 use index_pages::{
-    Claim, HALF, LeafPage, PAGE_LEN, act_all, copy_of, front_part, middle_of, whole_page,
-    write_page,
+    Claim, HALF, PAGE_LEN, act_all, copy_of, front_part, middle_of, whole_page, write_page,
 };
 use page_store::{PageFault, Pages};
 use record_slots::{PART_LEN, write_super_part};
-
-// Adds a pair of the key and the slot that is taken to its page.
-pub fn add_pair<S: EawStore>(
-    pages: &mut Pages<S>,
-    tid: u8,
-    table: u8,
-    key: u64,
-    taken: &Claim,
-    at: Located,
-) -> Result<(), PageFault>
-    requires tid { tid < (S.view pages.old.store).shape.numbers }
-    requires closed { IsAlive (S.view pages.old.store) → top_in pages.old.marks tid ≡ None }
-    requires table { table < 8 }
-    requires located { IsLocated (S.view pages.old.store).shape at.front at.page at.link at.pairs.items }
-    requires room { length at.pairs.items < 30 }
-    requires slot { taken.now.number < slots_of (S.view pages.old.store).shape }
-    ensures acts { Acts S.tells (S.opens (S.view pages.old.store).shape) tid (adding_pages (index_pages_of (S.view pages.old.store).shape) taken.now.number at.page)
-        (adding_parts (index_pages_of (S.view pages.old.store).shape) taken.now.front taken.now.number at.page at.link at.pairs.items table key)
-        (pages_of (S.view pages.old.store) pages.old) (pages_of (S.view pages.new.store) pages.new) result }
-    ensures runs { Runs S.tells S.view S.calls (acting_of tid (log_len (S.view pages.old.store) tid)
-        (adding_parts (index_pages_of (S.view pages.old.store).shape) taken.now.front taken.now.number at.page at.link at.pairs.items table key))
-        (S.view pages.old.store) (S.view pages.new.store) result }
-    ensures dead { IsErrOf result PageFault.Dead → pages.new ≡ pages.old }
-{
-    let Located {
-        front: _,
-        page,
-        link,
-        pairs,
-    } = at;
-    index_pages::add_pair(
-        pages,
-        tid,
-        table,
-        key,
-        taken,
-        LeafPage { page, link, pairs },
-    )
-}
 
 // Cuts a full page: its upper half goes to the page that is taken.
 pub fn cut_page<S: EawStore>(

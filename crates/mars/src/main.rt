@@ -20,7 +20,7 @@ use blank_media::BlankMedia;
 use mars_base::NoMemory;
 use mars_shell::Status;
 use media_file::FileMedia;
-use outside::{Sink, StdSink, StdSource};
+use outside::{Sink, StdStream};
 use pcm_media::Media;
 use std::fs::File;
 use std::io::{ErrorKind, Input, Result as IoResult};
@@ -34,7 +34,7 @@ fn main(rt: HostRuntime) -> ExitCode {
     // A file that is opened takes the number of a closed stream, if there is one, and replies would be written into an image.
     // These take them first, and stay open to the end.
     let _held = [null(&rt), null(&rt), null(&rt)];
-    let mut errors = StdSink::new(rt.stderr());
+    let mut errors = StdStream::new(rt.stderr());
     ExitCode::from(whole(&rt, &mut errors).number())
 }
 
@@ -114,7 +114,7 @@ fn run_over<R, M: Media + Drop + Send, E: Sink>(
 where
     R: AllocGlobal + Input + Print + Threads + Wait + Sync,
 {
-    let mut source = StdSource::new(rt.reader());
-    let mut sink = StdSink::new(io::writer(rt));
+    let mut source = StdStream::new(rt.reader());
+    let mut sink = StdStream::new(io::writer(rt));
     run_told(rt, words, &mut source, &mut sink, media, errors).0
 }

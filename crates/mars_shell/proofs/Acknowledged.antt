@@ -15,7 +15,7 @@ use Rattle.history.specs.declared.call.TableCall.{TableCall}
 use Rattle.history.specs.declared.call.TableCall.TheVariants.{Get, Put, Del, Scan, Save, Back}
 use Rattle.history.specs.declared.call.Control.TheVariants.{Settle}
 use Rattle.history.specs.declared.call.Reply.{Reply}
-use Rattle.history.specs.declared.call.Reply.TheVariants.{Fine, Found, Absent, Listed, Saved, Committed, Purged, NoTransaction, NoTable, Already, NoSave, SavesFull, Busy, LogFull, SlotsFull, PagesFull, Media, Dead, NoMemory, Damaged}
+use Rattle.history.specs.declared.call.Reply.TheVariants.{Committed, Media, NoMemory}
 use Rattle.history.specs.Table.{Work, found, removed, Answers}
 use Rattle.history.specs.declared.transaction.Done.{Done}
 use Rattle.caller_steps.specs.State.{State, done_by}
@@ -58,25 +58,7 @@ same_reply (Committed k) caller n fits is = (
   where
     without_last : (a b : List ℕ) → a ++ 10 ∷ [] ≡ b ++ 10 ∷ [] → a ≡ b
     without_last a b is = append_cancel_right a b (10 ∷ []) is
-same_reply Fine caller n fits is = absurd (let h = ap first is in omega (arith, h))
-same_reply (Found value) caller n fits is = absurd (let h = ap first is in omega (arith, h))
-same_reply Absent caller n fits is = absurd (let h = ap first is in omega (arith, h))
-same_reply (Listed rows) caller n fits is = absurd (let h = ap first is in omega (arith, h))
-same_reply (Saved m) caller n fits is = absurd (let h = ap first is in omega (arith, h))
-same_reply (Purged m) caller n fits is = absurd (let h = ap first is in omega (arith, h))
-same_reply NoTransaction caller n fits is = absurd (let h = ap first is in omega (arith, h))
-same_reply NoTable caller n fits is = absurd (let h = ap first is in omega (arith, h))
-same_reply Already caller n fits is = absurd (let h = ap first is in omega (arith, h))
-same_reply (NoSave m) caller n fits is = absurd (let h = ap first is in omega (arith, h))
-same_reply SavesFull caller n fits is = absurd (let h = ap first is in omega (arith, h))
-same_reply (Busy holder) caller n fits is = absurd (let h = ap first is in omega (arith, h))
-same_reply (LogFull g h m) caller n fits is = absurd (let e = ap first is in omega (arith, e))
-same_reply (SlotsFull m) caller n fits is = absurd (let h = ap first is in omega (arith, h))
-same_reply (PagesFull m) caller n fits is = absurd (let h = ap first is in omega (arith, h))
-same_reply Media caller n fits is = absurd (let h = ap first is in omega (arith, h))
-same_reply Dead caller n fits is = absurd (let h = ap first is in omega (arith, h))
-same_reply NoMemory caller n fits is = absurd (let h = ap first is in omega (arith, h))
-same_reply (Damaged page) caller n fits is = absurd (let h = ap first is in omega (arith, h))
+same_reply _ caller n fits is = absurd (let h = ap first is in omega (arith, h))
 
 -- a caller's line, split at its first space
 line_is : (caller : ℕ) (reply : Reply) → reply_line caller reply ≡ decimal caller ++ 32 ∷ ((reply_text reply ++ 10 ∷ []) ++ row_lines caller reply)

@@ -20,11 +20,17 @@ use Rattle.script_run.specs.Answers.{Answers}
 use Rattle.script_run.specs.declared.responder.Stop.{Stop}
 use Rattle.script_run.specs.declared.responder.Stop.TheVariants.{Media, NoMemory}
 use Rattle.mars_shell.specs.Lines.{Replied}
+use Rattle.mars_shell.specs.Tally.{Goes}
 use Rattle.mars_shell.specs.Standing.{Progress, callers_of, line_script, IsReady, Stands, Comes}
 
 -- what a responder answers
 abbrev pub Answer : Type 0
 Answer = Result (Unit {0}) Stop
+
+-- a reply that ends the script is told as such
+pub stopped : (caller : ℕ) (reply : Reply) (text : List ℕ) (fault : Stop) → (let r : Answer = Err fault in Goes caller reply r) → (let r : Answer = Err fault in Replied caller reply text text r)
+stopped caller reply text (Media number) ends = ends
+stopped caller reply text NoMemory ends = inl ends
 
 module _ (core : CoreView) (callers n : ℕ) (line : List ℕ) (progress : Progress) (ready : IsReady callers core) (stands : Stands core progress) where
   says_here : (what : Line) → LineSays callers line what → LineSays (callers_of progress) line what

@@ -1,17 +1,11 @@
 -- What a run leaves is what the next one needs.
-use Rattle.std.proofs.Common.{◌≡◌, ℕ, ◌*◌, ◌^◌, ◌<◌, ◌≤◌, ◌⊎◌, inl, inr, ⊎_elim, List, [], length, Bool, true, false, sym, ap, subst, ◌∙◌, arith}
+use Rattle.std.proofs.Common.{◌≡◌, ℕ, ◌^◌, ◌<◌, ◌≤◌, ◌⊎◌, inl, inr, ⊎_elim, List, [], length, Bool, true, false, sym, ap, subst, ◌∙◌}
 use Rattle.std.specs.Prelude.{IsTrue, ⊤}
 use Rattle.pcm_media.specs.Images.{MayLeave}
 use Rattle.pcm_media.specs.View.{View}
 use Rattle.pcm_media.proofs.Left.{left_as_read}
 use Rattle.array_shape.specs.declared.shape.Shape.{Shape}
-use Rattle.std.proofs.Math.Nat.{mul-le-mul_right}
-use Rattle.array_shape.specs.Places.{data_len}
-use Rattle.array_image.specs.Decided.{all_decided, settled_data}
-use Rattle.array_image.specs.Image.{data_of}
-use Rattle.array_image.proofs.Applied.{length-applied}
-use Rattle.array_image.proofs.Data.{length-data_of, all_fit_in}
-use Rattle.array_image.proofs.Parts.{decided_placed}
+use Rattle.array_image.specs.Decided.{settled_data}
 use Rattle.row_bytes.proofs.OneShape.{one_shape}
 use Rattle.device_recovery.proofs.Goods.{good_rows}
 use Rattle.command_words.specs.declared.words.EawOptions.{EawOptions}
@@ -85,17 +79,6 @@ pub premises : (media : View) → length media.content.bytes ≡ media.size → 
 premises media long shape form sound = (all_open media shape form sound, holds_records media shape form sound long)
 
 -- ---- what is left
-
--- data of an array has fewer than 2 ^ 32 bytes
-pub data_short : (shape : Shape) (image bytes : List ℕ) → Opens shape image bytes → length bytes < 2 ^ 32
-data_short shape image bytes opens =
-    let lawful = opens.stands.lawful in
-    let first : length (data_of shape image) ≡ data_len shape = length-data_of shape image in
-    let fits = all_fit_in shape (all_decided shape image) image (decided_placed shape image lawful.long lawful.good) in
-    let long : length bytes ≡ data_len shape = ap length (sym opens.stands.gives) ∙ length-applied (all_decided shape image) (data_of shape image) fits ∙ first in
-    let r = shape.in_range in
-    let most : shape.loggers * shape.pages ≤ 8 * shape.pages = mul-le-mul_right shape.pages r.most_loggers in
-    omega (arith, long, most, r.most_pages)
 
 -- an outcome gives what each of its cases gives
 pub outcome_gives : (P : Type 0) (spares : Bool) (Works : Ended → Type 0) (Broken : ℕ → Type 0) (Looks Lacks : Type 0) (old : View) (status : Status) (new : View) (cut : Bool) (text : List ℕ)

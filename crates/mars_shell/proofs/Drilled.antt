@@ -1,5 +1,5 @@
 -- What a drill comes to: the drawn calls are made, and then a look at the records.
-use Rattle.std.proofs.Common.{◌≡◌, ◌+◌, ◌<◌, ℕ, zero, suc, Bool, false, List, [], ◌∷◌, ◌++◌, length, map, take, get_or, refl, sym, ap, subst, ◌∙◌, arith, length-append, Result, Err}
+use Rattle.std.proofs.Common.{◌≡◌, ◌+◌, ◌<◌, ℕ, Bool, false, List, [], ◌∷◌, ◌++◌, length, map, take, get_or, refl, sym, ap, subst, ◌∙◌, arith, length-append, Result, Err}
 use Rattle.std.specs.Prelude.{IsTrue, Some, None}
 use Rattle.std.proofs.lemmas.List.{append_assoc, length-map, map-append}
 use Rattle.std.proofs.lemmas.List.Elements.{All-push}
@@ -22,10 +22,10 @@ use Rattle.command_words.specs.declared.words.DrillNumbers.{DrillNumbers}
 use Rattle.drill_gen.specs.Drill.{drill}
 use Rattle.script_run.specs.declared.responder.Stop.{Stop}
 use Rattle.script_run.specs.declared.responder.Stop.TheVariants.{Media, NoMemory}
-use Rattle.mars_shell.specs.Drill.{last_key, drill_calls}
+use Rattle.mars_shell.specs.Drill.{last_key}
 use Rattle.mars_shell.specs.Lines.{goes_on}
 use Rattle.mars_shell.specs.Made.{without_reply, GoOn, Made, MadeAll, EndsEarly, SummedUp}
-use Rattle.mars_shell.specs.Tally.{tally_of, tally_text, counted, Counted, Goes}
+use Rattle.mars_shell.specs.Tally.{tally_of, tally_text, counted, Goes}
 use Rattle.mars_shell.specs.declared.tally.Tally.{Tally}
 use Rattle.mars_shell.proofs.Making.{tally_more, clean_all, living, made_more, ends_early}
 use Rattle.mars_shell.proofs.Looking.{begins, looks, shown_main, shown_within}
@@ -52,10 +52,6 @@ module _ (tells : Bool) (old new : CoreView) (script more : List (ℕ × Call)) 
 next_call : (before : List (ℕ × Call)) (turn : ℕ × Call) (later : List (ℕ × Call)) (d : ℕ × Call) → get_or (before ++ turn ∷ later) (length before) d ≡ turn
 next_call [] turn later d = refl
 next_call (first ∷ before) turn later d = next_call before turn later d
-
-goes_counted : (tally later : Tally) (caller : ℕ) (call : Call) (reply : Reply) (stop : Stop) → (let r : Result (Unit {0}) Stop = Err stop in Goes caller reply r) → (let r : Result (Unit {0}) Stop = Err stop in Counted tally caller call reply later r)
-goes_counted tally later caller call reply (Media number) is = is
-goes_counted tally later caller call reply NoMemory is = is
 
 -- neither a begin nor a scan is counted
 begin_uncounted : (tally : Tally) → counted tally Begin Fine ≡ tally
@@ -87,7 +83,7 @@ module _ (tells : Bool) (old mid : CoreView) (drawn : List (ℕ × Call)) (tally
     at_begin = ap (λ (n : ℕ). get_or calls n (0, Begin)) long ∙ next_call drawn (0, Begin) ((0, Table (Scan main_name 0 last_key)) ∷ []) (0, Begin)
 
     pub begin_early : (stop : Stop) → (let r : Result (Unit {0}) Stop = Err stop in Goes 0 begun r) → EndsEarly tells old calls stop first
-    begin_early stop is = ends_early tells old calls all.0 mid first 0 Begin begun made one (0, Begin) less at_begin all.3 tally tally stop (goes_counted tally tally 0 Begin begun stop is)
+    begin_early = ends_early tells old calls all.0 mid first 0 Begin begun made one (0, Begin) less at_begin all.3
 
     abbrev turns_begun : List Turn
     turns_begun = all.0 ++ (0, Begin, begun) ∷ []
@@ -98,9 +94,6 @@ module _ (tells : Bool) (old mid : CoreView) (drawn : List (ℕ × Call)) (tally
     module _ (goes : IsTrue (goes_on begun)) where
       begun_on : GoOn turns_begun
       begun_on = All-push (λ (turn : Turn). IsTrue (goes_on turn.2)) all.0 (0, Begin, begun) all.3 goes
-
-      pub begun_early : EndsEarly tells old calls NoMemory first
-      begun_early = (turns_begun, begun_made, clean_all turns_begun begun_on)
 
       module _ (last : CoreView) (look : Reply) (two : Steps tells 0 (Table (Scan main_name 0 last_key)) first last look) where
         far : length turns_begun ≡ length (drawn ++ (0, Begin) ∷ [])
@@ -115,8 +108,7 @@ module _ (tells : Bool) (old mid : CoreView) (drawn : List (ℕ × Call)) (tally
             ∙ next_call (drawn ++ (0, Begin) ∷ []) (0, Table (Scan main_name 0 last_key)) [] (0, Begin)
 
         pub look_early : (stop : Stop) → (let r : Result (Unit {0}) Stop = Err stop in Goes 0 look r) → EndsEarly tells old calls stop last
-        look_early stop is = ends_early tells old calls turns_begun first last 0 (Table (Scan main_name 0 last_key)) look begun_made two (0, Begin) within at_scan begun_on tally tally stop
-            (goes_counted tally tally 0 (Table (Scan main_name 0 last_key)) look stop is)
+        look_early = ends_early tells old calls turns_begun first last 0 (Table (Scan main_name 0 last_key)) look begun_made two (0, Begin) within at_scan begun_on
 
         abbrev turns_looked : List Turn
         turns_looked = turns_begun ++ (0, Table (Scan main_name 0 last_key), look) ∷ []

@@ -1,14 +1,15 @@
 -- What the kinds of a status give, of a format and of work over records.
-use Rattle.std.proofs.Common.{◌≡◌, ℕ, refl, Result, Ok, Err}
+use Rattle.std.proofs.Common.{◌≡◌, ℕ, ⊎_elim, refl, Result, Ok, Err}
 use Rattle.command_words.specs.declared.words.FormatNumbers.{FormatNumbers}
 use Rattle.std.specs.Prelude.{IfOk, IfErr}
 use Rattle.mars_core.specs.declared.fault.CoreFault.{CoreFault}
 use Rattle.mars_core.specs.declared.fault.CoreFault.TheVariants as core
 use Rattle.script_run.specs.declared.ended.Ended.{Ended}
 use Rattle.script_run.specs.declared.ended.Ended.TheVariants as script
+use Rattle.mars_shell.specs.Contract.{Spares}
 use Rattle.mars_shell.specs.Formats.{FormatSays}
 use Rattle.mars_shell.specs.Served.{ServedCounts}
-use Rattle.array_runs.specs.Statuses.{Counts, IsEarly, served_status}
+use Rattle.array_runs.specs.Statuses.{Counts, IsEarly, IsRefusal, served_status}
 use Rattle.array_runs.specs.declared.status.Status.{Status}
 use Rattle.array_runs.specs.declared.status.Status.TheVariants.{Good, Usage, TooLong, ReadFault, WriteFault, MediaFault, NoMemory, Damaged, BadRow, NotMars, BadShape, Refused, BadFrame, Gap}
 use Rattle.array_runs.proofs.Endings.{script_counts}
@@ -29,6 +30,10 @@ format_late asked size NotMars Untold Untouched says early = early
 format_late asked size (Refused refusal) Untold Untouched says early = early
 format_late asked size (BadFrame n) Untold Untouched says early = early
 format_late asked size (Gap expected got) Untold Untouched says early = early
+
+-- a command that ends late leaves what a refusal does
+pub spares_of : (status : Status) (Untouched Untold : Type 0) → (status ≡ Usage → ⊥) → (IsEarly status → ⊥) → (IsRefusal status → Untold) → Spares status Untouched Untold
+spares_of status Untouched Untold no_usage late refused = record { no_usage = no_usage; early = λ early. absurd (late early); silent = ⊎_elim (λ early. absurd (late early)) refused }
 
 -- the status of work says which count rose, that of the medium through its store
 served_counts : (result : Result Ended CoreFault) (s k k' m m' : ℕ) → ServedCounts result k k' m m' → Counts (served_status result) s s k k' m m'

@@ -59,12 +59,9 @@ module _ (tells : Bool) (told : IsTrue tells) (old : View) (only_now : (image : 
   near_now frames later near image left = subst (λ (b : List ℕ). OpensNear Opens store.shape b frames later image) first_bytes (near told image (left_now image left))
 
   leaves_on : (ended : FollowEnd) (frames : List Frame) (later : List (List ℕ)) → LeavesStore tells Opens store store' ended frames later → LeavesFollowed store.shape old new ended frames later
-  leaves_on follow.All frames later on = stands_now frames on
-  leaves_on (follow.BadFrame n) frames later on = stands_now frames on
-  leaves_on (follow.Gap expected got) frames later on = stands_now frames on
-  leaves_on follow.WriteFault frames later on = stands_now frames on
   leaves_on follow.MediaFault frames later on = near_now frames later on
   leaves_on follow.NoMemory frames later on = near_now frames later on
+  leaves_on _ frames later on = stands_now frames on
 
   pub follows : (input : List ℕ) (ended : FollowEnd) (cut : Bool) (text : List ℕ) → FollowedLines store.shape (LeavesStore tells Opens store store' ended) (lines_of input) ended cut text
       → LeavesOnly (OpensFirst Opens store.shape store.state.bytes (lines_of input)) store store' → Follows old input ended new cut text
@@ -93,28 +90,16 @@ module _ (tells : Bool) (told : IsTrue tells) (old : View) (only_now : (image : 
 -- lines that were followed end a run late, and are no refusal of the array
 pub follow_late : (ended : FollowEnd) → IsEarly (follow_status ended) → ⊥
 follow_late follow.All early = early
-follow_late (follow.BadFrame n) early = early
-follow_late (follow.Gap expected got) early = early
-follow_late follow.WriteFault early = early
-follow_late follow.MediaFault early = early
-follow_late follow.NoMemory early = early
+follow_late _ early = early
 
 pub follow_accepted : (ended : FollowEnd) → IsRefusal (follow_status ended) → ⊥
 follow_accepted follow.All refusal = refusal
-follow_accepted (follow.BadFrame n) refusal = refusal
-follow_accepted (follow.Gap expected got) refusal = refusal
-follow_accepted follow.WriteFault refusal = refusal
-follow_accepted follow.MediaFault refusal = refusal
-follow_accepted follow.NoMemory refusal = refusal
+follow_accepted _ refusal = refusal
 
 -- the status says which count rose
 line_counts : (ended : FollowEnd) (s k k' m m' : ℕ) → LineCounts ended k k' m m' → Counts (follow_status ended) s s k k' m m'
-line_counts follow.All s k k' m m' counts = (refl, counts.0, counts.1)
-line_counts (follow.BadFrame n) s k k' m m' counts = (refl, counts.0, counts.1)
-line_counts (follow.Gap expected got) s k k' m m' counts = (refl, counts.0, counts.1)
-line_counts follow.WriteFault s k k' m m' counts = (refl, counts.0, counts.1)
 line_counts follow.MediaFault s k k' m m' counts = (refl, counts.1)
-line_counts follow.NoMemory s k k' m m' counts = (refl, counts.0, counts.1)
+line_counts _ s k k' m m' counts = (refl, counts.0, counts.1)
 
 pub follow_counted : (ended : FollowEnd) (status : Status) (s s' k k' m m' n n' : ℕ) → status ≡ follow_status ended → s' ≡ s → n ≡ m → m' ≡ n' → LineCounts ended k k' n n' → Counts status s s' k k' m m'
 follow_counted ended status s s' k k' m m' n n' is read before after counts = rw (is, read, ← before, after) (line_counts ended s k k' n n' counts)

@@ -49,7 +49,8 @@ use Rattle.mars_shell.specs.Late.{depth_of}
 use Rattle.mars_shell.specs.Next.{AllSound, IsOf, AllAreOf, IsOfPrefix, IsOfRecords, ChangesNone, MayName, records_on}
 use Rattle.mars_shell.specs.PrefixLaw.{PrefixLaw, Recovers}
 use Rattle.mars_shell.specs.Run.{TakesTurns, Answers}
-use Rattle.mars_shell.proofs.Composing.{data_short, outcome_gives, own_index, all_open}
+use Rattle.array_runs.proofs.Short.{data_short}
+use Rattle.mars_shell.proofs.Composing.{outcome_gives, own_index, all_open}
 use Rattle.mars_shell.proofs.FreshRecords.{fresh_names}
 
 -- the records of the data that an image settles to, under the index that this data names

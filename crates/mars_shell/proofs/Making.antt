@@ -22,12 +22,13 @@ use Rattle.caller_steps.proofs.Continuing.{continues_none, continues_step, conti
 use Rattle.drill_gen.specs.Draws.{drawn_on}
 use Rattle.drill_gen.specs.Drill.{drawn_from, alone, paired, in_turn, drill}
 use Rattle.drill_gen.specs.declared.transaction.Transaction.{Transaction}
+use Rattle.mars_base.specs.Causes.{Rose}
+use Rattle.script_run.specs.Answers.{HasStopCause}
 use Rattle.script_run.specs.declared.responder.Stop.{Stop}
 use Rattle.script_run.specs.declared.responder.Stop.TheVariants.{Media, NoMemory}
 use Rattle.mars_shell.specs.Lines.{goes_on}
 use Rattle.mars_shell.specs.Made.{without_reply, GoOn, Made, EndsEarly}
-use Rattle.mars_shell.specs.Tally.{counts, tally_of, more_if, counted, Counted}
-use Rattle.mars_shell.specs.declared.tally.Tally.{Tally}
+use Rattle.mars_shell.specs.Tally.{counts, tally_of, more_if, counted, Goes}
 
 -- ---- the tally
 
@@ -50,26 +51,8 @@ tally_more turns caller call reply = λ i. record {
 
 -- a reply after which the script goes on is no fault of the medium
 pub no_fault : (reply : Reply) → IsTrue (goes_on reply) → IsFalse (is_media reply)
-no_fault told.Fine goes = refl
-no_fault (told.Found value) goes = refl
-no_fault told.Absent goes = refl
-no_fault (told.Listed rows) goes = refl
-no_fault (told.Saved n) goes = refl
-no_fault (told.Committed n) goes = refl
-no_fault (told.Purged n) goes = refl
-no_fault told.NoTransaction goes = refl
-no_fault told.NoTable goes = refl
-no_fault told.Already goes = refl
-no_fault (told.NoSave n) goes = refl
-no_fault told.SavesFull goes = refl
-no_fault (told.Busy holder) goes = refl
-no_fault (told.LogFull logger held needed) goes = refl
-no_fault (told.SlotsFull n) goes = refl
-no_fault (told.PagesFull n) goes = refl
 no_fault told.Media goes = absurd (false≢true goes)
-no_fault told.Dead goes = refl
-no_fault told.NoMemory goes = refl
-no_fault (told.Damaged page) goes = refl
+no_fault _ goes = refl
 
 pub clean_more : (turns : List Turn) (turn : Turn) → has_fault turns ≡ false → is_media turn.2 ≡ false → has_fault (turns ++ turn ∷ []) ≡ false
 clean_more turns turn none here = list_any-append (λ (t : Turn). is_media t.2) turns (turn ∷ []) ∙ (λ i. none i || (here i || false))
@@ -87,6 +70,12 @@ runs_more : (limits : Limits) (old : State) (turns : List Turn) (mid : State) (t
     → Runs limits old (turns ++ turn ∷ []) new
 runs_more limits old [] mid turn new same step = (new, subst (λ (s : State). Step limits s turn.0 turn.1 turn.2 new) same step, refl)
 runs_more limits old (first ∷ turns) mid turn new runs step = (runs.0, runs.1, runs_more limits runs.0 turns mid turn new runs.2 step)
+
+-- a reply that ends the script says which count rose
+pub stop_cause : (tells : Bool) (caller : ℕ) (call : Call) (mid new : CoreView) (reply : Reply) → Steps tells caller call mid new reply → (faults : ℕ) → mid.faults ≡ faults → (stop : Stop)
+    → (let r : Result (Unit {0}) Stop = Err stop in Goes caller reply r) → (let r : Result (Unit {0}) Stop = Err stop in HasStopCause faults new.faults r)
+stop_cause tells caller call mid new reply steps faults same (Media number) ends = subst (λ (n : ℕ). Rose n new.faults) same (steps.failed (ap is_media ends.1))
+stop_cause tells caller call mid new reply steps faults same NoMemory ends = steps.kept (ap is_media ends) ∙ same
 
 module _ (tells : Bool) (old : CoreView) (script : List (ℕ × Call)) where
   pub made_none : Made tells old script [] old
@@ -114,10 +103,10 @@ module _ (tells : Bool) (old : CoreView) (script : List (ℕ × Call)) where
     }
 
     -- a reply that ends the script
-    pub ends_early : (d : ℕ × Call) → length turns < length script → get_or script (length turns) d ≡ (caller, call) → GoOn turns → (tally later : Tally) (stop : Stop)
-        → (let r : Result (Unit {0}) Stop = Err stop in Counted tally caller call reply later r) → EndsEarly tells old script stop new
-    ends_early d more is on tally later (Media number) counted = (more_turns, made_more d more is, (turns, caller, call, ap (λ (r : Reply). turns ++ (caller, call, r) ∷ []) counted.1, on))
-    ends_early d more is on tally later NoMemory counted = (more_turns, made_more d more is, clean_more turns (caller, call, reply) (clean_all turns on) (ap is_media counted))
+    pub ends_early : (d : ℕ × Call) → length turns < length script → get_or script (length turns) d ≡ (caller, call) → GoOn turns → (stop : Stop)
+        → (let r : Result (Unit {0}) Stop = Err stop in Goes caller reply r) → EndsEarly tells old script stop new
+    ends_early d more is on (Media number) ends = (more_turns, made_more d more is, (turns, caller, call, ap (λ (r : Reply). turns ++ (caller, call, r) ∷ []) ends.1, on))
+    ends_early d more is on NoMemory ends = (more_turns, made_more d more is, clean_more turns (caller, call, reply) (clean_all turns on) (ap is_media ends))
 
     -- a reply that is no fault of the medium leaves the core alive
     pub stays_alive : mid.state.is_dead ≡ false → IsFalse (is_media reply) → new.state.is_dead ≡ false

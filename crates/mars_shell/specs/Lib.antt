@@ -15,6 +15,7 @@ pub mod Follow
 pub mod Formats
 pub mod Joint
 pub mod Asked
+pub mod Contract
 pub mod Next
 pub mod Room
 pub mod Coming

@@ -64,9 +64,3 @@ abbrev pub Goes : ℕ → Reply → Result (Unit {0}) Stop → Type 0
 Goes caller reply (Ok x) = IsTrue (goes_on reply)
 Goes caller reply (Err (stop.Media number)) = (number ≡ caller) × (reply ≡ Media)
 Goes caller reply (Err stop.NoMemory) = reply ≡ NoMemory
-
--- the reply was counted, or it ends the script
-abbrev pub Counted : Tally → ℕ → Call → Reply → Tally → Result (Unit {0}) Stop → Type 0
-Counted old caller call reply new (Ok x) = IsTrue (goes_on reply) × (new ≡ counted old call reply)
-Counted old caller call reply new (Err (stop.Media number)) = (number ≡ caller) × (reply ≡ Media)
-Counted old caller call reply new (Err stop.NoMemory) = reply ≡ NoMemory

@@ -1,10 +1,7 @@
 // A run of raw commands.
-ghost use Rattle.std.specs.Prelude.{◌≡◌, ◌⊎◌, ℕ, List, IsTrue};
-ghost use Rattle.texts.specs.Written.{Wrote};
+ghost use Rattle.std.specs.Prelude.{◌≡◌, ℕ, List, IsTrue};
 ghost use Rattle.command_words.specs.declared.words.Words.TheVariants.{Eaw};
-ghost use Rattle.mars_shell.specs.Asked.{OutcomeFor};
-ghost use Rattle.array_runs.specs.Input.{InputSays};
-ghost use Rattle.array_runs.specs.Statuses.{Counts, IsEarly, IsRefusal};
+ghost use Rattle.mars_shell.specs.Contract.{Wrote, InputSays, Counts, OutcomeFor, Spares};
 
 use array_runs::{Status, open, script_status};
 use command_words::EawOptions;
@@ -23,9 +20,7 @@ pub(crate) fn run_commands<S: Source, K: Sink, M: Media>(
     media: M,
     options: EawOptions,
 ) -> (Status, M)
-    ensures no_usage { result.0 ≡ Status.Usage → ⊥ }
-    ensures early { IsEarly result.0 → result.1 ≡ media }
-    ensures silent { IsEarly result.0 ⊎ IsRefusal result.0 → sink.new ≡ sink.old }
+    ensures spares { Spares result.0 (result.1 ≡ media) (sink.new ≡ sink.old) }
     ensures counts { Counts result.0 (S.faults source.old) (S.faults source.new) (K.faults sink.old) (K.faults sink.new) (M.view media).faults (M.view result.1).faults }
     ensures steady { IsTrue (S.steady source.old) → result.0 ≡ Status.ReadFault → ⊥ }
     ensures input { IsTrue S.tells → InputSays result.0 (S.left source.old) (S.left source.new) }

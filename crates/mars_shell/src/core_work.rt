@@ -1,16 +1,14 @@
 // What is done on a core over the records of an array.
 ghost use Rattle.std.specs.Prelude.{◌≡◌, ℕ, Bool, List, None, IsTrue, IfOk, IfErr};
-ghost use Rattle.eaw_face.specs.Causes.{IsAlive};
 ghost use Rattle.caller_steps.specs.State.{State};
 ghost use Rattle.caller_steps.specs.Room.{Limits};
 ghost use Rattle.caller_steps.specs.Run.{Turn};
 ghost use Rattle.mars_core.specs.Held.{core_of};
 ghost use Rattle.mars_manager.specs.Sharing.{CanShare};
-ghost use Rattle.texts.specs.Written.{Wrote};
+ghost use Rattle.mars_shell.specs.Contract.{IsAlive, Wrote, Serves, ServedCounts};
 ghost use Rattle.script_run.specs.Counts.{Counts};
 ghost use Rattle.script_run.specs.declared.ended.Ended.{Ended};
 ghost use Rattle.mars_shell.specs.OnCore.{RanOut, Works};
-ghost use Rattle.mars_shell.specs.Served.{Serves, ServedCounts};
 
 use eaw_face::EawStore;
 use mars_base::NoMemory;

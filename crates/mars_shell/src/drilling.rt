@@ -105,21 +105,12 @@ fn sum_up<S: EawStore, I: KeyIndex, H: Keeper>(
     let Ok(turns) = script(alloc, numbers.seed, numbers.count, callers) else {
         return Err(Stop::NoMemory);
     };
-    let tally = match make_turns(core, turns.as_slice()) {
-        Ok(tally) => tally,
-        Err(stop) => return Err(stop),
-    };
+    let tally = make_turns(core, turns.as_slice())?;
     let begun = core.step(LOOKER, &Call::Begin);
-    match going_on(LOOKER, &begun) {
-        Ok(()) => {}
-        Err(stop) => return Err(stop),
-    }
+    going_on(LOOKER, &begun)?;
     let scan = whole_scan();
     let look = core.step(LOOKER, &scan);
-    match going_on(LOOKER, &look) {
-        Ok(()) => {}
-        Err(stop) => return Err(stop),
-    }
+    going_on(LOOKER, &look)?;
     match summary_text(alloc, numbers, &tally, &look) {
         Ok(text) => Ok(text),
         Err(_) => Err(Stop::NoMemory),

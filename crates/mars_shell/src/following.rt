@@ -1,11 +1,8 @@
 // A run of lines that say frames.
-ghost use Rattle.std.specs.Prelude.{◌≡◌, ◌⊎◌, ℕ, List, IsTrue};
-ghost use Rattle.texts.specs.Written.{Wrote};
+ghost use Rattle.std.specs.Prelude.{◌≡◌, ℕ, List, IsTrue};
 ghost use Rattle.command_words.specs.declared.words.Words.TheVariants.{Follow};
-ghost use Rattle.mars_shell.specs.Asked.{OutcomeFor};
+ghost use Rattle.mars_shell.specs.Contract.{Wrote, InputSays, Counts, OutcomeFor, Spares};
 ghost use Rattle.mars_shell.specs.Follow.{follow_status};
-ghost use Rattle.array_runs.specs.Input.{InputSays};
-ghost use Rattle.array_runs.specs.Statuses.{Counts, IsEarly, IsRefusal};
 
 use array_runs::{Status, open};
 use frame_lines::{FollowEnd, follow_lines};
@@ -21,9 +18,7 @@ pub(crate) fn run_follow<S: Source, K: Sink, M: Media>(
     sink: &mut K,
     media: M,
 ) -> (Status, M)
-    ensures no_usage { result.0 ≡ Status.Usage → ⊥ }
-    ensures early { IsEarly result.0 → result.1 ≡ media }
-    ensures silent { IsEarly result.0 ⊎ IsRefusal result.0 → sink.new ≡ sink.old }
+    ensures spares { Spares result.0 (result.1 ≡ media) (sink.new ≡ sink.old) }
     ensures counts { Counts result.0 (S.faults source.old) (S.faults source.new) (K.faults sink.old) (K.faults sink.new) (M.view media).faults (M.view result.1).faults }
     ensures steady { IsTrue (S.steady source.old) → result.0 ≡ Status.ReadFault → ⊥ }
     ensures input { IsTrue S.tells → InputSays result.0 (S.left source.old) (S.left source.new) }

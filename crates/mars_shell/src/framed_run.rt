@@ -1,13 +1,6 @@
 // The lines of callers over the records of an array, with the frames that it sends.
-ghost use Rattle.std.specs.Prelude.{◌≡◌, ◌⊎◌, ℕ, List, None, false, IsTrue, IfErr};
-ghost use Rattle.eaw_face.specs.Causes.{IsAlive};
-ghost use Rattle.texts.specs.Written.{Wrote};
-ghost use Rattle.array_runs.specs.Forms.{index_at};
-ghost use Rattle.array_runs.specs.Input.{InputSays};
-ghost use Rattle.array_runs.specs.Records.{OverRecords};
-ghost use Rattle.array_runs.specs.Statuses.{Counts, IsEarly, IsRefusal};
-ghost use Rattle.mars_shell.specs.Late.{depth_of, HasDepth};
-ghost use Rattle.mars_shell.specs.Served.{Serves, ServedCounts};
+ghost use Rattle.std.specs.Prelude.{◌≡◌, ℕ, List, None, false, IsTrue, IfErr};
+ghost use Rattle.mars_shell.specs.Contract.{IsAlive, Wrote, index_at, InputSays, OverRecords, Counts, depth_of, HasDepth, Serves, ServedCounts, Spares};
 ghost use Rattle.mars_shell.specs.FramedRun.{TakesFramed, says_framed};
 
 use crate::late::depth_of;
@@ -40,9 +33,7 @@ pub(crate) fn run_framed<S: Source, K: Sink, M: Media + Drop + Send, D: Depth + 
 ) -> (Status, M)
     requires depth { HasDepth writing }
     requires of_type { (D.least ≡ depth_of writing) × (D.most ≡ depth_of writing) }
-    ensures no_usage { result.0 ≡ Status.Usage → ⊥ }
-    ensures early { IsEarly result.0 → result.1 ≡ media }
-    ensures silent { IsEarly result.0 ⊎ IsRefusal result.0 → sink.new ≡ sink.old }
+    ensures spares { Spares result.0 (result.1 ≡ media) (sink.new ≡ sink.old) }
     ensures counts { Counts result.0 (S.faults source.old) (S.faults source.new) (K.faults sink.old) (K.faults sink.new) (M.view media).faults (M.view result.1).faults }
     ensures steady { IsTrue (S.steady source.old) → result.0 ≡ Status.ReadFault → ⊥ }
     ensures input { IsTrue S.tells → InputSays result.0 (S.left source.old) (S.left source.new) }

@@ -1,11 +1,7 @@
 // Callers that take turns by the lines of the input.
-ghost use Rattle.std.specs.Prelude.{◌≡◌, ◌⊎◌, ℕ, List, IsTrue};
-ghost use Rattle.texts.specs.Written.{Wrote};
+ghost use Rattle.std.specs.Prelude.{◌≡◌, ℕ, List, IsTrue};
 ghost use Rattle.command_words.specs.declared.words.Words.TheVariants.{Run};
-ghost use Rattle.array_runs.specs.Input.{InputSays};
-ghost use Rattle.array_runs.specs.Statuses.{Counts, IsEarly, IsRefusal};
-ghost use Rattle.mars_shell.specs.Asked.{OutcomeFor};
-ghost use Rattle.mars_shell.specs.Late.{depth_of, HasDepth};
+ghost use Rattle.mars_shell.specs.Contract.{Wrote, InputSays, Counts, depth_of, HasDepth, OutcomeFor, Spares};
 
 use crate::core_work::CoreWork;
 use crate::framed_run::run_framed;
@@ -35,9 +31,7 @@ pub(crate) fn run_lines<S: Source, K: Sink, M: Media + Drop + Send, D: Depth + S
 ) -> (Status, M)
     requires depth { HasDepth options.writing }
     requires of_type { (D.least ≡ depth_of options.writing) × (D.most ≡ depth_of options.writing) }
-    ensures no_usage { result.0 ≡ Status.Usage → ⊥ }
-    ensures early { IsEarly result.0 → result.1 ≡ media }
-    ensures silent { IsEarly result.0 ⊎ IsRefusal result.0 → sink.new ≡ sink.old }
+    ensures spares { Spares result.0 (result.1 ≡ media) (sink.new ≡ sink.old) }
     ensures counts { Counts result.0 (S.faults source.old) (S.faults source.new) (K.faults sink.old) (K.faults sink.new) (M.view media).faults (M.view result.1).faults }
     ensures steady { IsTrue (S.steady source.old) → result.0 ≡ Status.ReadFault → ⊥ }
     ensures input { IsTrue S.tells → InputSays result.0 (S.left source.old) (S.left source.new) }

@@ -1,15 +1,8 @@
 // Work over the records of the array that a medium holds.
 ghost use Rattle.std.specs.Prelude.{◌≡◌, ◌⊎◌, ℕ, List, None, false, IsTrue, IsFalse, IfOk, IfErr};
-ghost use Rattle.eaw_face.specs.Causes.{IsAlive};
-ghost use Rattle.texts.specs.Written.{Wrote};
-ghost use Rattle.array_runs.specs.Forms.{index_at};
-ghost use Rattle.array_runs.specs.Input.{InputSays};
-ghost use Rattle.mars_shell.specs.Late.{depth_of, HasDepth};
-ghost use Rattle.array_runs.specs.Records.{OverRecords};
+ghost use Rattle.mars_shell.specs.Contract.{IsAlive, Wrote, index_at, InputSays, OverRecords, Counts, IsEarly, IsRefusal, depth_of, HasDepth, Serves, ServedCounts};
 ghost use Rattle.mars_shell.specs.OnCore.{RanOut};
 ghost use Rattle.mars_shell.specs.Run.{TakesTurns};
-ghost use Rattle.mars_shell.specs.Served.{Serves, ServedCounts};
-ghost use Rattle.array_runs.specs.Statuses.{Counts, IsEarly, IsRefusal};
 
 use crate::core_work::{CoreWork, work_over};
 use crate::late::depth_of;

@@ -2,6 +2,7 @@
 ghost use Rattle.std.specs.Prelude.{◌≡◌};
 ghost use Rattle.mars_shell.specs.Lines.{Replied};
 
+use crate::tally::going_on;
 use caller_steps::Core;
 use history::Reply;
 use script_run::{Responder, Stop};
@@ -62,29 +63,9 @@ impl<C: Core> Responder for LineCore<C> {
 fn tell(out: &mut Vec<u8>, caller: u8, reply: &Reply) -> Result<(), Stop>
     ensures { Replied caller reply.now out.old.items out.new.items result }
 {
-    match reply {
-        Reply::Media => Err(Stop::Media { number: caller }),
-        Reply::NoMemory => Err(Stop::NoMemory),
-        Reply::Fine
-        | Reply::Found(_)
-        | Reply::Absent
-        | Reply::Listed(_)
-        | Reply::Saved(_)
-        | Reply::Committed(_)
-        | Reply::Purged(_)
-        | Reply::NoTransaction
-        | Reply::NoTable
-        | Reply::Already
-        | Reply::NoSave { .. }
-        | Reply::SavesFull
-        | Reply::Busy { .. }
-        | Reply::LogFull { .. }
-        | Reply::SlotsFull { .. }
-        | Reply::PagesFull { .. }
-        | Reply::Dead
-        | Reply::Damaged { .. } => match write_reply(out, caller, reply) {
-            Ok(()) => Ok(()),
-            Err(_) => Err(Stop::NoMemory),
-        },
+    going_on(caller, reply)?;
+    match write_reply(out, caller, reply) {
+        Ok(()) => Ok(()),
+        Err(_) => Err(Stop::NoMemory),
     }
 }

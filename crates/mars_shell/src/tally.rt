@@ -1,7 +1,7 @@
 // The tally of the replies to a script.
 ghost use Rattle.std.specs.Prelude.{◌≡◌, ◌≤◌, ◌<◌, ◌+◌, ◌-◌, ◌^◌, []};
 ghost use Rattle.history.specs.declared.call.Reply.TheVariants.{Fine};
-ghost use Rattle.mars_shell.specs.Tally.{tally_of, total, counted, Counted, Goes};
+ghost use Rattle.mars_shell.specs.Tally.{tally_of, total, counted, Goes};
 
 use history::{Call, Control, Reply};
 use script_run::Stop;
@@ -27,30 +27,18 @@ impl Tally {
         }
     }
 
-    /// Counts the reply to a caller's call, after which the script goes on, or says why the script ends.
-    pub fn count(&mut self, caller: u8, call: &Call, reply: &Reply) -> Result<(), Stop>
+    /// Counts the reply to a call.
+    pub fn count(&mut self, call: &Call, reply: &Reply)
         requires { total self.old < 2 ^ 64 - 1 }
-        ensures counted { Counted self.old caller call.now reply.now self.new result }
+        ensures counts { self.new ≡ counted self.old call.now reply.now }
         ensures one { total self.new ≤ total self.old + 1 }
     {
         match reply {
-            Reply::Media => Err(Stop::Media { number: caller }),
-            Reply::NoMemory => Err(Stop::NoMemory),
-            Reply::Committed(_) => {
-                self.committed += 1;
-                Ok(())
-            }
-            Reply::Fine => {
-                self.count_fine(call);
-                Ok(())
-            }
-            Reply::Busy { .. } => {
-                self.busy += 1;
-                Ok(())
-            }
+            Reply::Committed(_) => self.committed += 1,
+            Reply::Fine => self.count_fine(call),
+            Reply::Busy { .. } => self.busy += 1,
             Reply::LogFull { .. } | Reply::SlotsFull { .. } | Reply::PagesFull { .. } => {
-                self.refused += 1;
-                Ok(())
+                self.refused += 1
             }
             Reply::Found(_)
             | Reply::Absent
@@ -62,8 +50,10 @@ impl Tally {
             | Reply::Already
             | Reply::NoSave { .. }
             | Reply::SavesFull
+            | Reply::Media
+            | Reply::NoMemory
             | Reply::Dead
-            | Reply::Damaged { .. } => Ok(()),
+            | Reply::Damaged { .. } => {}
         }
     }
 
@@ -90,23 +80,6 @@ pub fn going_on(caller: u8, reply: &Reply) -> Result<(), Stop>
     match reply {
         Reply::Media => Err(Stop::Media { number: caller }),
         Reply::NoMemory => Err(Stop::NoMemory),
-        Reply::Fine
-        | Reply::Found(_)
-        | Reply::Absent
-        | Reply::Listed(_)
-        | Reply::Saved(_)
-        | Reply::Committed(_)
-        | Reply::Purged(_)
-        | Reply::NoTransaction
-        | Reply::NoTable
-        | Reply::Already
-        | Reply::NoSave { .. }
-        | Reply::SavesFull
-        | Reply::Busy { .. }
-        | Reply::LogFull { .. }
-        | Reply::SlotsFull { .. }
-        | Reply::PagesFull { .. }
-        | Reply::Dead
-        | Reply::Damaged { .. } => Ok(()),
+        _ => Ok(()),
     }
 }

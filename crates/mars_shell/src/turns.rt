@@ -4,7 +4,7 @@ ghost use Rattle.std.specs.List.{All};
 ghost use Rattle.script_run.specs.Answers.{HasStopCause};
 ghost use Rattle.mars_shell.specs.Made.{MadeAll, EndsEarly};
 
-use crate::tally::Tally;
+use crate::tally::{Tally, going_on};
 use caller_steps::Core;
 use history::Call;
 use script_run::Stop;
@@ -20,10 +20,8 @@ pub fn make_turns<C: Core>(core: &mut C, script: &[(u8, Call)]) -> Result<Tally,
     let mut tally = Tally::new();
     for turn in script {
         let reply = core.step(turn.0, &turn.1);
-        match tally.count(turn.0, &turn.1, &reply) {
-            Ok(()) => {}
-            Err(stop) => return Err(stop),
-        }
+        going_on(turn.0, &reply)?;
+        tally.count(&turn.1, &reply);
     }
     Ok(tally)
 }

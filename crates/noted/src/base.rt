@@ -2,9 +2,9 @@
 ghost use Rattle.std.specs.Prelude.{◌≡◌, [], ◌∷◌, ◌++◌, IsTrue, IsSome, IfSome, OnOk};
 
 use crate::keeper::Keeper;
-use crate::notes::TableNotes;
 use crate::rows::NotedRows;
-use history::Tables;
+use ghost_notes::Notes;
+use history::{Rows, Tables};
 use mars_base::NoMemory;
 use record_slots::Name;
 use std::alloc::Global;
@@ -14,7 +14,7 @@ use std::marker::{Model, PhantomData};
 #[derive(Drop)]
 pub struct Base<H: Keeper> {
     kept: Option<Tables>,
-    notes: TableNotes,
+    notes: Notes<(Name, Rows)>,
     keeper: PhantomData<H>,
 }
 
@@ -24,9 +24,9 @@ impl<H: Keeper> Model for Base<H> {
 
     ghost Value = { List NamedRows };
 
-    ghost view = { λ b. b.notes.tables };
+    ghost view = { λ b. b.notes.said };
 
-    ghost invariant = { λ b. IfSome b.kept (λ tables. tables ≡ b.notes.tables) × (IsTrue H.keeps → IsSome b.kept) };
+    ghost invariant = { λ b. IfSome b.kept (λ tables. tables ≡ b.notes.said) × (IsTrue H.keeps → IsSome b.kept) };
 }
 
 impl<H: Keeper> Base<H> {
@@ -40,7 +40,7 @@ impl<H: Keeper> Base<H> {
         };
         Base {
             kept,
-            notes: TableNotes::new(),
+            notes: Notes::new(),
             keeper: PhantomData,
         }
     }
@@ -50,7 +50,7 @@ impl<H: Keeper> Base<H> {
         ensures ok { OnOk result (self.new ≡ self.old ++ (name, rows) ∷ []) }
     {
         let (rows, told) = rows.into_parts();
-        let told = self.notes.then(&name, &told);
+        let told = self.notes.then(&(&name, &told));
         match rows {
             Some(rows) => {
                 if let Some(tables) = &mut self.kept {

@@ -3,7 +3,7 @@ ghost use Rattle.std.specs.Prelude.{◌≡◌, [], ◌∷◌, ◌++◌, List, �
 ghost use Rattle.history.specs.Writes.{Row};
 
 use crate::keeper::Keeper;
-use crate::notes::CallNotes;
+use ghost_notes::Notes;
 use history::{Calls, CallsWithRoom, Reply, TableCall};
 use std::alloc::Global;
 use std::marker::{Model, PhantomData};
@@ -12,7 +12,7 @@ use std::marker::{Model, PhantomData};
 #[derive(Drop)]
 pub struct LiveCalls<H: Keeper> {
     kept: Option<Calls>,
-    notes: CallNotes,
+    notes: Notes<(TableCall, Reply)>,
     keeper: PhantomData<H>,
 }
 
@@ -23,9 +23,9 @@ impl<H: Keeper> Model for LiveCalls<H> {
 
     ghost Value = { List (TableCall × Reply) };
 
-    ghost view = { λ c. c.notes.entries };
+    ghost view = { λ c. c.notes.said };
 
-    ghost invariant = { λ c. IfSome c.kept (λ calls. calls ≡ c.notes.entries) × (IsTrue H.keeps → IsSome c.kept) };
+    ghost invariant = { λ c. IfSome c.kept (λ calls. calls ≡ c.notes.said) × (IsTrue H.keeps → IsSome c.kept) };
 }
 
 impl<H: Keeper> LiveCalls<H> {
@@ -39,7 +39,7 @@ impl<H: Keeper> LiveCalls<H> {
         };
         LiveCalls {
             kept,
-            notes: CallNotes::new(),
+            notes: Notes::new(),
             keeper: PhantomData,
         }
     }
@@ -76,10 +76,10 @@ impl<H: Keeper> LiveCalls<H> {
     }
 
     /// What is kept of them, if anything is, and what proofs know.
-    pub(crate) fn into_parts(self) -> (Option<Calls>, CallNotes)
+    pub(crate) fn into_parts(self) -> (Option<Calls>, Notes<(TableCall, Reply)>)
         ensures calls { IfSome result.0 (λ calls. calls ≡ self) }
         ensures kept { IsTrue H.keeps → IsSome result.0 }
-        ensures notes { result.1.entries ≡ self }
+        ensures notes { result.1.said ≡ self }
     {
         let LiveCalls {
             kept,
@@ -94,7 +94,7 @@ impl<H: Keeper> LiveCalls<H> {
 #[derive(Drop)]
 pub struct LiveCallsWithRoom<H: Keeper> {
     kept: Option<CallsWithRoom>,
-    notes: CallNotes,
+    notes: Notes<(TableCall, Reply)>,
     keeper: PhantomData<H>,
 }
 
@@ -105,9 +105,9 @@ impl<H: Keeper> Model for LiveCallsWithRoom<H> {
 
     ghost Value = { List (TableCall × Reply) };
 
-    ghost view = { λ c. c.notes.entries };
+    ghost view = { λ c. c.notes.said };
 
-    ghost invariant = { λ c. IfSome c.kept (λ calls. calls ≡ c.notes.entries) × (IsTrue H.keeps → IsSome c.kept) };
+    ghost invariant = { λ c. IfSome c.kept (λ calls. calls ≡ c.notes.said) × (IsTrue H.keeps → IsSome c.kept) };
 }
 
 impl<H: Keeper> LiveCallsWithRoom<H> {
@@ -122,7 +122,7 @@ impl<H: Keeper> LiveCallsWithRoom<H> {
             notes,
             keeper,
         } = self;
-        let told = notes.then(call, reply);
+        let told = notes.then(&(call, reply));
         match kept {
             None => Ok(LiveCalls {
                 kept: None,

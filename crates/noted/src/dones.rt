@@ -3,7 +3,7 @@ ghost use Rattle.std.specs.Prelude.{◌≡◌, ◌≤◌, ◌+◌, ◌-◌, ◌^
 
 use crate::calls::LiveCalls;
 use crate::keeper::Keeper;
-use crate::notes::DoneNotes;
+use ghost_notes::Notes;
 use history::Done;
 use mars_base::NoMemory;
 use std::alloc::Global;
@@ -19,7 +19,7 @@ pub struct Dones<H: Keeper> {
     first: u64,
     count: u64,
     room: u64,
-    notes: DoneNotes,
+    notes: Notes<Done>,
     keeper: PhantomData<H>,
 }
 
@@ -29,10 +29,10 @@ impl<H: Keeper> Model for Dones<H> {
 
     ghost Value = { Roomy };
 
-    ghost view = { λ d. record { items = d.notes.dones; first = d.first; capacity = d.room } };
+    ghost view = { λ d. record { items = d.notes.said; first = d.first; capacity = d.room } };
 
-    ghost invariant = { λ d. (d.count ≡ length d.notes.dones) × (d.count ≤ d.room) × (d.room ≤ 2 ^ 63) × (d.first ≤ d.count) × (IsFalse H.forgets → d.first ≡ 0)
-        × IfSome d.kept (λ dones. (dones.items ≡ drop d.first d.notes.dones) × (d.room ≤ d.first + vec_capacity dones)) × (IsTrue H.keeps → IsSome d.kept) };
+    ghost invariant = { λ d. (d.count ≡ length d.notes.said) × (d.count ≤ d.room) × (d.room ≤ 2 ^ 63) × (d.first ≤ d.count) × (IsFalse H.forgets → d.first ≡ 0)
+        × IfSome d.kept (λ dones. (dones.items ≡ drop d.first d.notes.said) × (d.room ≤ d.first + vec_capacity dones)) × (IsTrue H.keeps → IsSome d.kept) };
 }
 
 impl<H: Keeper> Dones<H> {
@@ -50,7 +50,7 @@ impl<H: Keeper> Dones<H> {
             first: 0,
             count: 0,
             room: 0,
-            notes: DoneNotes::new(),
+            notes: Notes::new(),
             keeper: PhantomData,
         }
     }
@@ -90,7 +90,7 @@ impl<H: Keeper> Dones<H> {
     {
         let (calls, told) = calls.into_parts();
         self.count += 1;
-        self.notes = self.notes.then(caller, &told, at, last);
+        self.notes = self.notes.then(&(caller, &told, at, last));
         let Some(calls) = calls else {
             self.kept = None;
             return;
@@ -128,11 +128,11 @@ impl<H: Keeper> Dones<H> {
     }
 
     /// What is kept of them, if anything is, and what proofs know. None was given up.
-    pub(crate) fn into_parts(self) -> (Option<Vec<Done>>, DoneNotes)
+    pub(crate) fn into_parts(self) -> (Option<Vec<Done>>, Notes<Done>)
         requires { self.first ≡ 0 }
         ensures dones { IfSome result.0 (λ dones. dones.items ≡ self.items) }
         ensures kept { IsTrue H.keeps → IsSome result.0 }
-        ensures notes { result.1.dones ≡ self.items }
+        ensures notes { result.1.said ≡ self.items }
     {
         let Dones {
             kept,

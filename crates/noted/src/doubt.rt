@@ -4,7 +4,7 @@ ghost use Rattle.std.specs.Prelude.{◌≡◌, [], ◌∷◌, IsTrue, IsSome, If
 use crate::calls::LiveCalls;
 use crate::dones::Dones;
 use crate::keeper::Keeper;
-use crate::notes::DoneNotes;
+use ghost_notes::Notes;
 use history::Done;
 use std::marker::{Model, PhantomData};
 
@@ -18,7 +18,7 @@ pub enum Doubted {
 #[derive(Drop)]
 pub struct Doubt<H: Keeper> {
     kept: Option<Doubted>,
-    notes: DoneNotes,
+    notes: Notes<Done>,
     keeper: PhantomData<H>,
 }
 
@@ -29,9 +29,9 @@ impl<H: Keeper> Model for Doubt<H> {
 
     ghost Value = { List Done };
 
-    ghost view = { λ d. d.notes.dones };
+    ghost view = { λ d. d.notes.said };
 
-    ghost invariant = { λ d. IfSome d.kept (λ dones. all_of dones ≡ d.notes.dones) × (IsTrue H.keeps → IsSome d.kept) };
+    ghost invariant = { λ d. IfSome d.kept (λ dones. all_of dones ≡ d.notes.said) × (IsTrue H.keeps → IsSome d.kept) };
 }
 
 impl<H: Keeper> Doubt<H> {
@@ -45,7 +45,7 @@ impl<H: Keeper> Doubt<H> {
         };
         Doubt {
             kept,
-            notes: DoneNotes::new(),
+            notes: Notes::new(),
             keeper: PhantomData,
         }
     }
@@ -66,7 +66,7 @@ impl<H: Keeper> Doubt<H> {
         };
         Doubt {
             kept,
-            notes: DoneNotes::new().then(caller, &told, at, at),
+            notes: Notes::new().then(&(caller, &told, at)),
             keeper: PhantomData,
         }
     }

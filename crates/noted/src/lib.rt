@@ -1,7 +1,7 @@
 //! Calls, transactions and records that contracts see whole, and that are kept in memory only where somebody is to read them.
 //!
-//! Read first `notes.rt`: lists of no bytes, which exist only in proofs. `calls.rt`, `dones.rt`, `doubt.rt`, `rows.rt` and `base.rt` have one beside
-//! what is kept, if anything is, and `keeper.rt` says whether it is.
+//! `calls.rt`, `dones.rt`, `doubt.rt`, `rows.rt` and `base.rt` have notes of no bytes, which exist only in proofs, beside what is kept, if anything is,
+//! and `keeper.rt` says whether it is.
 #![tactic(auto)]
 
 mod base;
@@ -9,7 +9,6 @@ mod calls;
 mod dones;
 mod doubt;
 mod keeper;
-mod notes;
 mod rows;
 
 pub use base::Base;

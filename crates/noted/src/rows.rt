@@ -2,7 +2,7 @@
 ghost use Rattle.std.specs.Prelude.{◌≡◌, [], ◌∷◌, ◌++◌, List, ℕ, IsTrue, IsSome, IfSome, OnOk, OnErr};
 
 use crate::keeper::Keeper;
-use crate::notes::RowNotes;
+use ghost_notes::Notes;
 use history::Rows;
 use mars_base::NoMemory;
 use record_slots::Value;
@@ -13,7 +13,7 @@ use std::marker::{Model, PhantomData};
 #[derive(Drop)]
 pub struct NotedRows<H: Keeper> {
     kept: Option<Rows>,
-    notes: RowNotes,
+    notes: Notes<(u64, Value)>,
     keeper: PhantomData<H>,
 }
 
@@ -22,9 +22,9 @@ impl<H: Keeper> Model for NotedRows<H> {
 
     ghost Value = { List (ℕ × List ℕ) };
 
-    ghost view = { λ r. r.notes.rows };
+    ghost view = { λ r. r.notes.said };
 
-    ghost invariant = { λ r. IfSome r.kept (λ rows. rows ≡ r.notes.rows) × (IsTrue H.keeps → IsSome r.kept) };
+    ghost invariant = { λ r. IfSome r.kept (λ rows. rows ≡ r.notes.said) × (IsTrue H.keeps → IsSome r.kept) };
 }
 
 impl<H: Keeper> NotedRows<H> {
@@ -38,7 +38,7 @@ impl<H: Keeper> NotedRows<H> {
         };
         NotedRows {
             kept,
-            notes: RowNotes::new(),
+            notes: Notes::new(),
             keeper: PhantomData,
         }
     }
@@ -51,10 +51,10 @@ impl<H: Keeper> NotedRows<H> {
         // What keeps nothing is known as the program is built, and then the value need not be made.
         if !H::keeps() {
             self.kept = None;
-            self.notes = self.notes.then(key, &value);
+            self.notes = self.notes.then(&(key, &value));
             return Ok(());
         }
-        let told = self.notes.then(key, &value);
+        let told = self.notes.then(&(key, &value));
         if let Some(rows) = &mut self.kept {
             if rows.push(key, value).is_err() {
                 return Err(NoMemory);
@@ -78,10 +78,10 @@ impl<H: Keeper> NotedRows<H> {
     }
 
     /// What is kept of them, if anything is, and what proofs know.
-    pub(crate) fn into_parts(self) -> (Option<Rows>, RowNotes)
+    pub(crate) fn into_parts(self) -> (Option<Rows>, Notes<(u64, Value)>)
         ensures rows { IfSome result.0 (λ rows. rows ≡ self) }
         ensures kept { IsTrue H.keeps → IsSome result.0 }
-        ensures notes { result.1.rows ≡ self }
+        ensures notes { result.1.said ≡ self }
     {
         let NotedRows {
             kept,

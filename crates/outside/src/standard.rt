@@ -1,9 +1,8 @@
-// The source over std's reader and the sink over std's writer.
+// The source over a reader of std, and the sink over a writer.
 ghost use Rattle.std.specs.Prelude.{◌≡◌, ◌≤◌, false, [], length, IfOk};
 ghost use Rattle.std.specs.Io.KnownBytes.{ReadConsumes, WriteAppends};
-ghost use Rattle.mars_base.specs.Causes.{HasCause};
+ghost use Rattle.mars_base.specs.Causes.{HasCause, faults_after};
 ghost use Rattle.outside.specs.Told.{TakesPart};
-ghost use Rattle.mars_base.specs.Causes.{faults_after};
 
 use crate::turn::{Turn, turn_of};
 use crate::{Sink, Source};
@@ -11,31 +10,31 @@ use mars_base::Failed;
 use std::io::{Read, Write};
 use std::marker::Model;
 
-/// A source over a reader. As a source it does not tell its bytes: no contract says what a reader over the outside gives.
+/// A reader or a writer of std as a source or a sink. It does not tell its bytes: no contract says what the outside gives or takes.
 #[derive(Drop)]
-pub struct StdSource<R: Read> {
-    reader: R,
+pub struct StdStream<T> {
+    inner: T,
     faults: u64,
 }
 
-impl<R: Read> Model for StdSource<R> {
-    ghost use Rattle.outside.specs.Standard.{Reader};
+impl<T> Model for StdStream<T> {
+    ghost use Rattle.outside.specs.Standard.{Stream};
 
-    ghost Value = { Reader };
+    ghost Value = { Stream T };
 
-    ghost view = { λ s. record { coming = R.remaining s.reader; faults = s.faults } };
+    ghost view = { λ s. record { inner = s.inner; faults = s.faults } };
 }
 
-impl<R: Read> StdSource<R> {
-    /// A source that has not failed yet.
-    pub fn new(reader: R) -> Self
-        ensures { result ≡ record { coming = R.remaining reader; faults = 0 } }
+impl<T> StdStream<T> {
+    /// One that has not failed yet.
+    pub fn new(inner: T) -> Self
+        ensures { result ≡ record { inner = inner; faults = 0 } }
     {
-        StdSource { reader, faults: 0 }
+        StdStream { inner, faults: 0 }
     }
 }
 
-impl<R: Read> Source for StdSource<R> {
+impl<R: Read> Source for StdStream<R> {
     ghost tells = { false };
 
     ghost left = { λ _. [] };
@@ -48,11 +47,11 @@ impl<R: Read> Source for StdSource<R> {
 
     fn read(&mut self, buf: &mut [u8]) -> Result<usize, Failed>
         ensures bound { IfOk result (λ n. n ≤ length buf.new) }
-        ensures passed_on { ReadConsumes self.old.coming self.new.coming result buf.new }
+        ensures passed_on { ReadConsumes (R.remaining self.old.inner) (R.remaining self.new.inner) result buf.new }
         ensures faults { self.new.faults ≡ faults_after self.old.faults result }
         ensures cause { HasCause self.old.faults self.new.faults result }
     {
-        read_again(&mut self.reader, &mut self.faults, buf)
+        read_again(&mut self.inner, &mut self.faults, buf)
     }
 
     fn fails_when_spent(&self) {}
@@ -76,31 +75,7 @@ fn read_again<R: Read>(reader: &mut R, faults: &mut u64, buf: &mut [u8]) -> Resu
     Err(Failed)
 }
 
-/// A sink over a writer. As a sink it does not tell its bytes: no contract says what a writer to the outside takes.
-#[derive(Drop)]
-pub struct StdSink<W: Write> {
-    writer: W,
-    faults: u64,
-}
-
-impl<W: Write> Model for StdSink<W> {
-    ghost use Rattle.outside.specs.Standard.{Writer};
-
-    ghost Value = { Writer };
-
-    ghost view = { λ s. record { held = W.contents s.writer; faults = s.faults } };
-}
-
-impl<W: Write> StdSink<W> {
-    /// A sink that has not failed yet.
-    pub fn new(writer: W) -> Self
-        ensures { result ≡ record { held = W.contents writer; faults = 0 } }
-    {
-        StdSink { writer, faults: 0 }
-    }
-}
-
-impl<W: Write> Sink for StdSink<W> {
+impl<W: Write> Sink for StdStream<W> {
     ghost tells = { false };
 
     ghost written = { λ _. [] };
@@ -114,11 +89,11 @@ impl<W: Write> Sink for StdSink<W> {
     /// A writer that takes nothing of a nonempty piece has failed.
     fn write(&mut self, piece: &[u8]) -> Result<usize, Failed>
         ensures part { TakesPart result piece.now }
-        ensures passed_on { WriteAppends self.old.held self.new.held result piece.now }
+        ensures passed_on { WriteAppends (W.contents self.old.inner) (W.contents self.new.inner) result piece.now }
         ensures faults { self.new.faults ≡ faults_after self.old.faults result }
         ensures cause { HasCause self.old.faults self.new.faults result }
     {
-        write_again(&mut self.writer, &mut self.faults, piece)
+        write_again(&mut self.inner, &mut self.faults, piece)
     }
 
     fn fails_when_spent(&self) {}

@@ -25,4 +25,4 @@ pub record HasRead (was now : ReadWorker) : Type 0 where
   pub book : read_book now.reader ≡ read_book was.reader
   pub base : read_base now.reader ≡ read_base was.reader
   pub answers : AreAnswers was.names (read_base was.reader) (joined (read now.reader)) 0 was.keys now.answers.items
-  pub told : now.told.places ≡ was.told.places ++ read_places was.number 1 was.keys
+  pub told : now.told.said ≡ was.told.said ++ read_places was.number 1 was.keys

@@ -1,5 +1,5 @@
 // Callers and readers beside each other.
-ghost use Rattle.std.specs.Prelude.{◌≡◌, ◌<◌, ◌≤◌, ◌+◌, ℕ, List, [], All, length, slice_index_or, vec_capacity, IfOk, IfErr, OnOk};
+ghost use Rattle.std.specs.Prelude.{◌≡◌, ◌<◌, ◌≤◌, ◌+◌, ℕ, List, [], All, length, slice_index_or, vec_capacity, IfOk, IfErr};
 ghost use mathlib.Core.List.{IsPrefix};
 ghost use Rattle.history.specs.Writes.{Table};
 ghost use Rattle.mars_manager.specs.Sharing.{CanShare};
@@ -9,7 +9,6 @@ ghost use Rattle.caller_work.specs.Crew.{IsBlank, KnowsFirst};
 ghost use Rattle.caller_work.specs.Standing.{CanWork, HasWorked};
 ghost use Rattle.caller_work.specs.Telling.{AllMore};
 ghost use Rattle.caller_work.specs.Worked.{Worked};
-ghost use Rattle.snapshot_readers.specs.Batches.{joined};
 ghost use Rattle.snapshot_readers.specs.Feeds.{fed, fed_book, read, read_book};
 ghost use Rattle.reader_work.specs.declared.reading.ReadWorker.{ReadWorker};
 ghost use Rattle.reader_work.specs.News.{IsBehind, IsOnlooker};
@@ -45,7 +44,7 @@ fn all_worked<R: Threads + Wait + Sync, C: Core + Drop + Send, G: Gate + Sync>(
     requires ready { (i : ℕ) (w : Worker C) → i < length workers.items → CanWork mars.now (slice_index_or workers.items i w) }
     ensures many { length result.items ≡ length workers.items }
     ensures worked { (i : ℕ) (w : Worker C) → i < length workers.items → HasWorked (slice_index_or workers.items i w) (slice_index_or result.items i w) }
-    ensures told { (i : ℕ) (w : Worker C) → i < length workers.items → AllMore (G.told gate.now) (slice_index_or workers.items i w).told.places (slice_index_or result.items i w).told.places }
+    ensures told { (i : ℕ) (w : Worker C) → i < length workers.items → AllMore (G.told gate.now) (slice_index_or workers.items i w).told.said (slice_index_or result.items i w).told.said }
 {
     work_all(rt, mars, &mut workers, gate);
     workers
@@ -134,7 +133,7 @@ fn all_work<
     requires open { (names : List (List ℕ)) × (base : Table) × All (IsReady names B.book base) crew.1.items }
     ensures many { length result.0.items ≡ length crew.0.items }
     ensures worked { (i : ℕ) (w : Worker C) → i < length crew.0.items → HasWorked (slice_index_or crew.0.items i w) (slice_index_or result.0.items i w) }
-    ensures told { (i : ℕ) (w : Worker C) → i < length crew.0.items → AllMore (G.told gate.now) (slice_index_or crew.0.items i w).told.places (slice_index_or result.0.items i w).told.places }
+    ensures told { (i : ℕ) (w : Worker C) → i < length crew.0.items → AllMore (G.told gate.now) (slice_index_or crew.0.items i w).told.said (slice_index_or result.0.items i w).told.said }
     ensures pass { (result.1.table ≡ B.table) × IsOnlooker B.number result.1.known }
     ensures answered { IfOk result.2 (λ told. (names : List (List ℕ)) (base : Table) → All (IsReady names B.book base) crew.1.items → AllAnswer names base result.1.known.seen (keys_of crew.1.items) told.items) }
 {
@@ -160,7 +159,7 @@ fn all_work<
         move || -> Vec<Worker<C>>
             requires { (0 < length workers.items) × ((i : ℕ) (w : Worker C) → i < length workers.items → CanWork mars.now (slice_index_or workers.items i w)) }
             ensures { (length result.items ≡ length workers.items) × ((i : ℕ) (w : Worker C) → i < length workers.items → HasWorked (slice_index_or workers.items i w) (slice_index_or result.items i w))
-                × ((i : ℕ) (w : Worker C) → i < length workers.items → AllMore (G.told at_ends.entry.now.gate.now) (slice_index_or workers.items i w).told.places (slice_index_or result.items i w).told.places) }
+                × ((i : ℕ) (w : Worker C) → i < length workers.items → AllMore (G.told at_ends.entry.now.gate.now) (slice_index_or workers.items i w).told.said (slice_index_or result.items i w).told.said) }
         { all_worked(rt, mars, workers, at_ends) },
         move || -> Vec<ReadWorker>
             requires { (0 < length readers.items) × ((i : ℕ) (w : ReadWorker) → i < length readers.items → CanRead (slice_index_or readers.items i w)) }

@@ -1,6 +1,6 @@
 // The feed of what callers commit.
 ghost use Rattle.std.specs.Prelude.{◌≡◌, ◌+◌, ℕ, IfOk, IfErr, IfSome};
-ghost use Rattle.mars_manager.specs.Pass.{told_of, finds};
+ghost use Rattle.mars_manager.specs.Pass.{finds};
 ghost use Rattle.mars_manager.specs.Sharing.{Reads};
 ghost use Rattle.snapshot_readers.specs.Batches.{joined};
 ghost use Rattle.snapshot_readers.specs.Feeds.{fed_book, told};
@@ -80,19 +80,18 @@ fn try_publish<R: Wait, C: Core + Drop>(
     ensures again { IfErr result (λ a. pass.new.known ≡ finds (a.holder + 1) pass.old.known) }
 {
     let fed = feed.fed();
-    match mars.since(alloc, pass, fed, fed) {
-        Ok(Ok(news)) => match feed.feed(rt, news.as_slice()) {
-            Ok(receipt) => Ok(Some(receipt)),
-            Err(NoMemory) => Ok(None),
-        },
-        Ok(Err(_)) => Ok(None),
-        Err(again) => Err(again),
+    let Ok(news) = mars.since(alloc, pass, fed, fed)? else {
+        return Ok(None);
+    };
+    match feed.feed(rt, news.as_slice()) {
+        Ok(receipt) => Ok(Some(receipt)),
+        Err(NoMemory) => Ok(None),
     }
 }
 
-/// Publishes all that callers have committed so far: the receipt says all that the pass has then seen. `None` if memory was short, and what is
-/// left out then goes out with the next; or if the core does not have the history any longer. It waits for its turn on the core.
-pub fn publish<R: Wait, C: Core + Drop>(
+// Publishes all that callers have committed so far: the receipt says all that the pass has then seen. `None` if memory was short, and what is
+// left out then goes out with the next; or if the core does not have the history any longer. It waits for its turn on the core.
+fn publish<R: Wait, C: Core + Drop>(
     rt: &R,
     alloc: Global,
     mars: &Mars<C>,

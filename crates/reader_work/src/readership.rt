@@ -1,5 +1,5 @@
 // The readers of a script before their work.
-ghost use Rattle.std.specs.Prelude.{◌≡◌, ◌<◌, ◌≤◌, [], All, length, vec_capacity, IfOk, IfSome};
+ghost use Rattle.std.specs.Prelude.{◌≡◌, ◌<◌, ◌≤◌, All, length, IfOk};
 ghost use Rattle.logbook.specs.Pages.{Book};
 ghost use Rattle.history.specs.Writes.{Table};
 ghost use Rattle.history.specs.Rows.{table_of};
@@ -8,7 +8,7 @@ ghost use Rattle.reader_work.specs.Readership.{keys_of, asks_with, passes_for, I
 
 use crate::reading::ReadWorker;
 use caller_plans::Keys;
-use caller_work::PlaceNotes;
+use ghost_notes::Notes;
 use history::Tables;
 use mars_base::NoMemory;
 use record_slots::Names;
@@ -45,7 +45,7 @@ fn hire_readers(
             names: names.copy(),
             keys,
             answers,
-            told: PlaceNotes::new(),
+            told: Notes::new(),
         });
     }
     Ok(workers)

@@ -7,7 +7,8 @@ ghost use Rattle.history.specs.Answers.{IsAnswer};
 ghost use Rattle.reader_work.specs.Reading.{CanRead, HasRead};
 
 use caller_plans::Keys;
-use caller_work::{Gate, Place, PlaceNotes, tell};
+use caller_work::{Gate, Place, tell};
+use ghost_notes::Notes;
 use history::{Answer, Key};
 use record_slots::Names;
 use snapshot_readers::Reader;
@@ -22,8 +23,8 @@ pub struct ReadWorker {
     pub names: Names,
     pub keys: Keys,
     pub answers: Vec<Answer>,
-    /// What it has told its gate.
-    pub told: PlaceNotes,
+    /// The places that it has told its gate, in order. They exist only in proofs.
+    pub told: Notes<Place>,
 }
 
 /// Asks for each key, and calls the gate before each.

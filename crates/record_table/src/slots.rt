@@ -22,6 +22,7 @@ ghost use Rattle.record_table.specs.Sought.{LooksAs, Finds, value_at};
 
 use crate::hearings::Hearings;
 use eaw_face::EawStore;
+use ghost_notes::Notes;
 use page_store::{KeyIndex, PageFault, Pages};
 use record_slots::{SLOT_LEN, Slot, Value, read_slot, write_slot};
 
@@ -119,16 +120,8 @@ pub fn heard(
     ensures none { IfErr result (λ fault. (fault ≡ PageFault.Damaged page) × (said ≡ None)) }
     ensures hears { hearings.new.said ≡ (key, slot, said) ∷ hearings.old.said }
 {
-    match said {
-        Some(said) => {
-            *hearings = hearings.then(key, slot, &said);
-            Ok(said)
-        }
-        None => {
-            *hearings = hearings.silent(key, slot);
-            Err(PageFault::Damaged { page })
-        }
-    }
+    *hearings = Notes::of(&(&*hearings, key, slot, &said));
+    said.ok_or(PageFault::Damaged { page })
 }
 
 // Looks up a key in the index of its table, and then reads its slot.

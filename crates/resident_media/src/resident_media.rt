@@ -9,7 +9,7 @@ ghost use Rattle.resident_media.specs.Once.{Does, handed, written_at};
 ghost use Rattle.resident_media.specs.Resident.{shown, is_steady, IsTicked, IsAnew, Knows, Called, Served};
 
 use crate::blocks::Blocks;
-use crate::moment_notes::MomentNotes;
+use ghost_notes::Notes;
 use mars_base::Failed;
 use pcm_media::Media;
 use std::alloc::{AllocFailed, Global};
@@ -27,7 +27,8 @@ pub struct ResidentMedia<M: Media> {
     scratch: Vec<u8>,
     moment: u64,
     faults: u64,
-    notes: MomentNotes,
+    // Which moment of the medium below stood at each moment, from 0 on.
+    notes: Notes<u64>,
 }
 
 impl<M: Media> Model for ResidentMedia<M> {
@@ -36,9 +37,9 @@ impl<M: Media> Model for ResidentMedia<M> {
 
     ghost Value = { Resident M };
 
-    ghost view = { λ m. record { inner = m.inner; kept = m.blocks; moment = m.moment; faults = m.faults; stood = m.notes.stood } };
+    ghost view = { λ m. record { inner = m.inner; kept = m.blocks; moment = m.moment; faults = m.faults; stood = m.notes.said } };
 
-    ghost invariant = { λ m. Lies M.tells (M.view m.inner) m.blocks (vec_capacity m.scratch) m.moment m.notes.stood };
+    ghost invariant = { λ m. Lies M.tells (M.view m.inner) m.blocks (vec_capacity m.scratch) m.moment m.notes.said };
 }
 
 impl<M: Media> ResidentMedia<M> {
@@ -61,7 +62,7 @@ impl<M: Media> ResidentMedia<M> {
             scratch,
             moment,
             faults: 0,
-            notes: MomentNotes::new(moment),
+            notes: Notes::of(&moment),
         })
     }
 
@@ -88,7 +89,7 @@ impl<M: Media> ResidentMedia<M> {
             self.faults = self.faults.saturating_add(1);
             return Err(Failed);
         }
-        self.notes = self.notes.then(self.inner.moment());
+        self.notes = self.notes.then(&self.inner.moment());
         self.moment += 1;
         Ok(())
     }

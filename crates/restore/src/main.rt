@@ -10,7 +10,7 @@ mod refusal;
 use crate::image_file::{put_image, test_place};
 use crate::refusal::Refusal;
 use command_words::read_restore_words;
-use outside::StdSource;
+use outside::StdStream;
 use restore_runs::make_image;
 use std::fs::File;
 use std::io::{ErrorKind, Input, IsTerminal, Result as IoResult};
@@ -55,7 +55,7 @@ where
     };
     let asked = read_restore_words(rt.alloc(), words)?;
     let place = test_place(rt, asked.image, asked.replace)?;
-    let mut source = StdSource::new(rt.reader());
+    let mut source = StdStream::new(rt.reader());
     let mut made = make_image(rt.alloc(), &asked.numbers, &mut source)?;
     put_image(rt, &place, process, &mut made.image)?;
     Ok(made.records)

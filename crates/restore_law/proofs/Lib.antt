@@ -1,5 +1,4 @@
 mod Found
 mod Named
 mod Proper
-mod Short
 mod Restoring

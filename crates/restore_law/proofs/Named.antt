@@ -1,12 +1,11 @@
 -- The tables that records are of.
 use Rattle.std.proofs.Common.{◌≡◌, ℕ, zero, suc, ◌-◌, ◌<◌, ◌≤◌, Bool, true, false, ◌⊎◌, inl, inr, ⊎_elim, List, [], ◌∷◌, ◌++◌, length, drop, Some, refl, sym, ap, subst, ◌∙◌, arith}
 use Rattle.std.specs.Prelude.{if◌then◌else◌, slice_get}
-use Rattle.std.specs.List.{Contains, IsDistinct, list_any}
+use Rattle.std.specs.List.{Contains, list_any}
 use Rattle.std.proofs.lemmas.Bool.{cases_eq}
 use Rattle.std.proofs.lemmas.Cmp.{nat_list_eq_equiv}
 use Rattle.std.proofs.lemmas.List.{length-drop}
 use Rattle.std.proofs.lemmas.List.Elements.{Contains-append_left, Contains-append_right, Contains-append_cases}
-use Rattle.std.proofs.lemmas.Map.Keys.{IsDistinct-push}
 use Rattle.std.proofs.lemmas.Map.Made.{is_member-Decides, length-le_from_is_member}
 use Rattle.std.proofs.lemmas.Option.{slice_get_within, get_or_from_slice_get}
 use Rattle.record_slots.specs.Names.{names_in}
@@ -24,6 +23,7 @@ use Rattle.record_table.specs.Names.{names_of}
 use Rattle.record_table.proofs.Joint.{main_first}
 use Rattle.record_table.proofs.Sharing.{name_there}
 use Rattle.dump_text.specs.Dump.{is_same_name, with_name, met, tables_met}
+use Rattle.dump_text.proofs.Taken.{met_apart, main_alone}
 use Rattle.restore_law.proofs.Found.{Entry}
 
 -- a name in a place is among the names
@@ -115,18 +115,6 @@ met_from names [] name has = inl has
 met_from names (entry ∷ records) name has = ⊎_elim
     (λ before. ⊎_elim (λ there. inl there) (λ here. inr (entry, (0, omega arith, refl), here)) (from-with names entry.0.table name before))
     (λ later. inr (more entry records name later)) (met_from (with_name names entry.0.table) records name has)
-
-met_apart : (names : List (List ℕ)) (records : List Entry) → IsDistinct is_same_name names → IsDistinct is_same_name (met names records)
-met_apart names [] apart = apart
-met_apart names (entry ∷ records) apart = met_apart (with_name names entry.0.table) records (go (list_any (is_same_name entry.0.table) names) refl)
-  where
-    go : (b : Bool) → list_any (is_same_name entry.0.table) names ≡ b → IsDistinct is_same_name (if b then names else names ++ entry.0.table ∷ [])
-    go true is = apart
-    go false is = IsDistinct-push nat_list_eq_equiv names entry.0.table apart is
-
-main_alone : IsDistinct is_same_name (main_name ∷ [])
-unfolding IsDistinct
-main_alone = (tt, tt)
 
 -- ---- of an array
 

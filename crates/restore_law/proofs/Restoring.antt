@@ -42,7 +42,7 @@ use Rattle.restore_runs.specs.declared.making.Made.{Made}
 use Rattle.restore_runs.specs.declared.stop.Stop.TheVariants as stop
 use Rattle.restore_law.specs.Told.{IsTold, AreTold}
 use Rattle.restore_law.specs.Kept.{IsRestoredFrom, TellsWhole, records_held}
-use Rattle.restore_law.proofs.Short.{data_short}
+use Rattle.array_runs.proofs.Short.{data_short}
 use Rattle.restore_law.proofs.Found.{Entry, entry_got, got_entry, made_again}
 use Rattle.restore_law.proofs.Named.{IsOfOne, is_met, is_of_met}
 

@@ -13,11 +13,6 @@ pub record Made : Type 0 where
   pub moment : ℕ
   pub step : Step
 
--- the first bytes, and the steps that were done on the device, the oldest first
-pub record Behind : Type 0 where
-  pub start : List ℕ
-  pub done : List Made
-
 -- the first bytes; the steps that were done on the device; and those that are still ahead: the oldest first
 pub record Past : Type 0 where
   pub start : List ℕ

@@ -1,38 +1,21 @@
-// What proofs know of the pieces that were done. It takes no memory, and its functions do nothing at run time.
-ghost use Rattle.std.specs.Prelude.{◌≡◌, [], ◌∷◌, ◌++◌};
-ghost use base.Fml.{ftrue};
-ghost use Rattle.tape_media.specs.Steps.{Behind};
-ghost use Rattle.tape_media.specs.Pieces.{made_of};
+// What notes of steps are lists of.
+ghost use Rattle.tape_media.specs.Steps.{Made};
 
-use crate::image::Image;
-use crate::piece::Entry;
 use std::marker::Model;
 
+/// A step of a medium with its moment, for notes of steps: contracts see it whole, and no code makes one.
 #[derive(Drop)]
-pub struct Notes {
-    pub ghost behind: { Behind },
+pub struct MadeStep {
+    ghost made: { Made },
 }
 
-impl Model for Notes {
+impl Model for MadeStep {
+    ghost use base.Fml.{ftrue};
+    ghost use Rattle.tape_media.specs.Steps.{Made};
+
     ghost also_owns = { λ _. ftrue };
-}
 
-// It owns nothing, so it may go to another thread.
-unsafe impl Send for Notes {}
+    ghost Value = { Made };
 
-impl Notes {
-    // Nothing was done yet.
-    pub fn of(_image: &Image) -> Notes
-        ensures { result.behind ≡ record { start = _image.now; done = [] } }
-    {
-        Notes {}
-    }
-
-    // The same with one more piece done.
-    #[inline(always)]
-    pub fn then(&self, _entry: &Entry) -> Notes
-        ensures { result.behind ≡ record { start = self.now.behind.start; done = self.now.behind.done ++ made_of _entry.now ∷ [] } }
-    {
-        Notes {}
-    }
+    ghost view = { λ s. s.made };
 }

@@ -1,4 +1,5 @@
 use Rattle.std.proofs.Common.{inl, refl, sym, subst, ap, ◌∙◌, arith}
+use Rattle.std.proofs.lemmas.Result.{err_from_is_err_and}
 use Rattle.eaw_device.specs.Opens.{HoldsArray}
 use Rattle.array_runs.specs.Opening.{IsUnopened}
 use Rattle.array_runs.specs.Records.{IsDamaged, Exceeds}
@@ -20,25 +21,46 @@ returns-in-Err-clause-steady g c = λ steady is. subst IsEarly (sym is) tt
 pub returns-in-Err-clause-counts : goal.returns-in-Err-clause-counts
 returns-in-Err-clause-counts g c = λ sink. (refl, refl, refl)
 
-pub returns-in-Err-open-clause-outcome : goal.returns-in-Err-open-clause-outcome
-returns-in-Err-open-clause-outcome g c = λ told.
+pub returns-in_err-input-clause-outcome : goal.returns-in_err-input-clause-outcome
+returns-in_err-input-clause-outcome g c = λ told.
     let old = g.M.Media.view c.args.media in
-    unopened_as (λ none. ⊥) (λ page. IsDamaged old page × (Exceeds c.args.callers old → ⊥)) (HoldsArray old × (Exceeds c.args.callers old → ⊥)) (Exceeds c.args.callers old) old c.in-Err-open.ended.0
-    (g.M.Media.view c.in-Err-open.ended.1) c.in-Err-open.ensures.kind (c.in-Err-open.ensures.unopened told)
+    let ended = c.in_err-input.field-0.0 in
+    let exit = err_from_is_err_and c.from_residual.result c.from_residual.ensures.1 in
+    rw (exit.1, exit.2) (unopened_as (λ none. ⊥) (λ page. IsDamaged old page × (Exceeds c.args.callers old → ⊥)) (HoldsArray old × (Exceeds c.args.callers old → ⊥)) (Exceeds c.args.callers old) old ended.0
+    (g.M.Media.view ended.1) c.in_err-input.ensures.kind (c.in_err-input.ensures.unopened told))
 
-pub returns-in-Err-open-clause-usage : goal.returns-in-Err-open-clause-usage
-returns-in-Err-open-clause-usage g c = λ is. absurd (subst IsUnopened is c.in-Err-open.ensures.kind)
+pub returns-in_err-input-clause-usage : goal.returns-in_err-input-clause-usage
+returns-in_err-input-clause-usage g c =
+    let exit = err_from_is_err_and c.from_residual.result c.from_residual.ensures.1 in
+    rw (exit.1, exit.2) (λ is. absurd (subst IsUnopened is c.in_err-input.ensures.kind))
 
-pub returns-in-Err-open-clause-counts : goal.returns-in-Err-open-clause-counts
-returns-in-Err-open-clause-counts g c = λ sink. counts_unwritten c.in-Err-open.ended.0 _ _ sink _ _ c.in-Err-open.ensures.kind c.in-Err-open.ensures.counts
+pub returns-in_err-input-clause-early : goal.returns-in_err-input-clause-early
+returns-in_err-input-clause-early g c =
+    let exit = err_from_is_err_and c.from_residual.result c.from_residual.ensures.1 in
+    rw (exit.1, exit.2) c.in_err-input.ensures.early
+
+pub returns-in_err-input-clause-steady : goal.returns-in_err-input-clause-steady
+returns-in_err-input-clause-steady g c = λ steady.
+    let exit = err_from_is_err_and c.from_residual.result c.from_residual.ensures.1 in
+    rw (exit.1, exit.2) (c.in_err-input.ensures.steady steady)
+
+pub returns-in_err-input-clause-input : goal.returns-in_err-input-clause-input
+returns-in_err-input-clause-input g c =
+    let exit = err_from_is_err_and c.from_residual.result c.from_residual.ensures.1 in
+    rw (exit.1, exit.2) c.in_err-input.ensures.input
+
+pub returns-in_err-input-clause-counts : goal.returns-in_err-input-clause-counts
+returns-in_err-input-clause-counts g c =
+    let exit = err_from_is_err_and c.from_residual.result c.from_residual.ensures.1 in
+    rw (exit.1, exit.2) (λ sink. counts_unwritten c.in_err-input.field-0.0.0 _ _ sink _ _ c.in_err-input.ensures.kind c.in_err-input.ensures.counts)
 
 pub returns-then-callers-shape-clause-outcome : goal.returns-then-callers-shape-clause-outcome
 returns-then-callers-shape-clause-outcome g c = λ told.
     let media = g.M.Media in
     let old = media.view c.args.media in
-    let attached = c.in-Ok-open.ensures.attached in
-    left_alone media.tells told old (g.met.M.Media.only_now c.args.media) _ attached c.in-Ok-open.ensures.keeps _ _ (media.view c.into_media.result) c.into_media.ensures.behind _ refl
-    (_, array media.tells told old (g.met.M.Media.only_now c.args.media) _ attached c.in-Ok-open.ensures.keeps, omega (arith, c.if-callers-shape.true, ap (λ s. s.numbers) c.shape.ensures))
+    let attached = c.in_ok-input.ensures.attached in
+    left_alone media.tells told old (g.met.M.Media.only_now c.args.media) _ attached c.in_ok-input.ensures.keeps _ _ (media.view c.into_media.result) c.into_media.ensures.behind _ refl
+    (_, array media.tells told old (g.met.M.Media.only_now c.args.media) _ attached c.in_ok-input.ensures.keeps, omega (arith, c.if-callers-shape.true, ap (λ s. s.numbers) c.shape.ensures))
 
 pub returns-then-callers-shape-clause-usage : goal.returns-then-callers-shape-clause-usage
 returns-then-callers-shape-clause-usage g c = λ is. omega (arith, c.if-callers-shape.true)
@@ -47,7 +69,7 @@ pub returns-then-callers-shape-clause-steady : goal.returns-then-callers-shape-c
 returns-then-callers-shape-clause-steady g c = λ steady is. subst IsEarly (sym is) tt
 
 pub returns-then-callers-shape-clause-counts : goal.returns-then-callers-shape-clause-counts
-returns-then-callers-shape-clause-counts g c = λ sink. (c.in-Ok-open.ensures.kept, refl, c.into_media.ensures.behind.faults ∙ c.in-Ok-open.ensures.attached.faults)
+returns-then-callers-shape-clause-counts g c = λ sink. (c.in_ok-input.ensures.kept, refl, c.into_media.ensures.behind.faults ∙ c.in_ok-input.ensures.attached.faults)
 
 pub returns-clause-enough : goal.returns-clause-enough
 returns-clause-enough g c = omega (arith, c.if-callers-shape.false, ap (λ s. s.numbers) c.shape.ensures)

@@ -34,16 +34,16 @@ use Rattle.btree_pages.proofs.look.descend.Goals as goal
 
 pub loop-step-init : goal.loop-step-init
 loop-step-init g c = record {
-  inside = c.requires.inside;
+  inside = c.requires.may.inside;
   looks = looks_none g.S.EawStore.tells (g.S.EawStore.opens (g.S.EawStore.view c.args.pages.now.store).shape) (pages_of (g.S.EawStore.view c.args.pages.now.store) c.args.pages.now);
   alive = λ some. absurd (omega arith);
   dead = λ dead. refl;
   lasts = tt;
   on = (on_first g.S.EawStore.tells (g.S.EawStore.calls c.args.pages.now.store) (down c.args.start.page c.args.start.key) c.args.start.page c.args.start.page (g.S.EawStore.view c.args.pages.now.store) refl, refl);
   few = omega arith;
-  crowd = λ told alive all. ap (λ (p : ℕ). is_crowded (g.S.EawStore.view c.args.pages.now.store).state.bytes p c.args.start.key) (sym (start_root c.args.root (g.S.EawStore.view c.args.pages.now.store).state.bytes c.args.start (c.requires.start told alive) all));
+  crowd = λ told alive all. ap (λ (p : ℕ). is_crowded (g.S.EawStore.view c.args.pages.now.store).state.bytes p c.args.start.key) (sym (start_root c.args.root (g.S.EawStore.view c.args.pages.now.store).state.bytes c.args.start (c.requires.may.begins told alive) all));
   down = λ told alive.
-      let r = start_down c.args.root (g.S.EawStore.view c.args.pages.now.store).state.bytes c.args.start (table_sound (g.S.EawStore.view c.args.pages.now.store).state.bytes c.args.root (c.requires.sound told alive) (c.requires.named told alive)) (omega arith) (c.requires.start told alive) in
+      let r = start_down c.args.root (g.S.EawStore.view c.args.pages.now.store).state.bytes c.args.start (table_sound (g.S.EawStore.view c.args.pages.now.store).state.bytes c.args.root (c.requires.may.sound told alive) (c.requires.may.named told alive)) (omega arith) (c.requires.may.begins told alive) in
       (r.0, r.1, omega (arith, r.2), r.3, r.4);
   begins = λ told alive. tt;
 }
@@ -84,7 +84,7 @@ returns-then-not-are_inside-clause-cause g c =
           let entry : c.child_in-child.result.1 ≡ behind_in (page_pairs bytes c.loop-step.page) c.args.start.key = c.child_in-child.ensures.behind ∙ ap (λ (b : List ℕ). behind_in (pairs_said b) c.args.start.key) buf in
           let d = c.loop-step.invariant.down told alive in
           let next = down_step c.args.root bytes c.args.start.key d.0 c.loop-step.page d.1 d.4 inner in
-          let given : next_page bytes ≤ c.index_page_count-count.result = omega (arith, (whole_of bytes (c.requires.sound told alive)).front.pages, index_pages_are view.shape bytes (g.met.S.EawStore.long c.args.pages.now.store told), c.index_page_count-count.ensures.count) in
+          let given : next_page bytes ≤ c.index_page_count-count.result = omega (arith, (whole_of bytes (c.requires.may.sound told alive)).front.pages, index_pages_are view.shape bytes (g.met.S.EawStore.long c.args.pages.now.store told), c.index_page_count-count.ensures.count) in
           let less : c.child_in-child.result.0 < c.index_page_count-count.result = omega (arith, next.inside, child, given) in
           false≢true (c.if-not-are_inside.ensures.1 (less, less_entry (next_page bytes) c.index_page_count-count.result c.child_in-child.result.1 given (inside_behind c.args.root bytes c.args.start.key d.0 c.loop-step.page 0 d.1 d.4 inner c.child_in-child.result.1 entry))),
     )

@@ -22,7 +22,7 @@ returns-in_default-clause-cause g c =
       c.in_ok-leaf.ensures.cause,
       λ told.
           let at = (c.in_ok-leaf.ensures.leaf told).1 in
-          let few : next_slot view.state.bytes ≤ (8 * c.index_page_count-slots.result) = omega (arith, (whole_of view.state.bytes (c.requires.sound told c.in_ok-leaf.ensures.cause)).front.slots, slots_are view.shape view.state.bytes (g.met.S.EawStore.long c.args.pages.now.store told), c.index_page_count-slots.ensures.all) in
+          let few : next_slot view.state.bytes ≤ (8 * c.index_page_count-slots.result) = omega (arith, (whole_of view.state.bytes (c.requires.may.sound told c.in_ok-leaf.ensures.cause)).front.slots, slots_are view.shape view.state.bytes (g.met.S.EawStore.long c.args.pages.now.store told), c.index_page_count-slots.ensures.all) in
           (rw c.in_default.is at c.rest_of.ensures.none) (rest_inside view.state.bytes c.args.root.table (8 * c.index_page_count-slots.result) at.rises.0 at.rises.1 c.args.start.key (pairs_said c.descend.new.bytes) at.rises.2 at.given few),
     )
 

@@ -20,8 +20,8 @@ returns-clause-removes g c =
     let V = g.S.EawStore.view in
     let v0 = pages_of (V c.args.pages.now.store) c.args.pages.now in
     let v1 = pages_of (V c.remove_pair.new.pages.store) c.remove_pair.new.pages in
-    let fits : c.args.key < 2 ^ 64 = omega arith in
-    lose_done g.S.EawStore.tells g.S.EawStore.opens c.args.tid c.args.root c.args.key v0 fits c.requires.alive (λ told. g.met.S.EawStore.long c.args.pages.now.store told) c.requires.sound c.requires.named
+    let fits : c.args.change.key < 2 ^ 64 = omega arith in
+    lose_done g.S.EawStore.tells g.S.EawStore.opens c.args.change.tid c.args.change.root c.args.change.key v0 fits c.requires.may.alive (λ told. g.met.S.EawStore.long c.args.pages.now.store told) c.requires.may.sound c.requires.may.named
     c.args.slot.now.number c.args.slot.now.free c.args.slot.now.front c.requires.released v1 c.args.leaf.page c.args.leaf.level c.args.leaf.pairs.items c.requires.leaf c.requires.bottom c.requires.reached c.requires.finds c.requires.more
     c.in_ok-remove_pair.ensures.acts
 
@@ -32,8 +32,8 @@ returns-in_err-remove_pair-clause-removes g c =
     let V = g.S.EawStore.view in
     let v0 = pages_of (V c.args.pages.now.store) c.args.pages.now in
     let v1 = pages_of (V c.remove_pair.new.pages.store) c.remove_pair.new.pages in
-    let fits : c.args.key < 2 ^ 64 = omega arith in
-    lose_err g.S.EawStore.tells g.S.EawStore.opens c.args.tid c.args.root c.args.key v0 fits c.requires.alive (λ told. g.met.S.EawStore.long c.args.pages.now.store told) c.requires.sound c.requires.named
+    let fits : c.args.change.key < 2 ^ 64 = omega arith in
+    lose_err g.S.EawStore.tells g.S.EawStore.opens c.args.change.tid c.args.change.root c.args.change.key v0 fits c.requires.may.alive (λ told. g.met.S.EawStore.long c.args.pages.now.store told) c.requires.may.sound c.requires.may.named
     c.args.slot.now.number c.args.slot.now.free c.args.slot.now.front c.requires.released v1 c.args.leaf.page c.args.leaf.level c.args.leaf.pairs.items c.requires.leaf c.requires.bottom c.requires.reached c.requires.finds c.requires.more
     c.in_err-remove_pair.field-0.0 c.in_err-remove_pair.ensures.acts)
 
@@ -45,25 +45,25 @@ returns-in_err-remove_pair-clause-dead g c =
     let exit = err_from_is_err_and c.from_residual.result c.from_residual.ensures.1 in
     rw (exit.1, exit.2) (λ told.
     let V = g.S.EawStore.view in
-    dead_act (V c.args.pages.now.store) c.args.tid (removing_pages (index_pages_of (V c.args.pages.now.store).shape) c.args.slot.now.number c.args.leaf.page) c.in_err-remove_pair.field-0.0 c.requires.alive (error_is _ _ told) c.in_err-remove_pair.ensures.acts.cause)
+    dead_act (V c.args.pages.now.store) c.args.change.tid (removing_pages (index_pages_of (V c.args.pages.now.store).shape) c.args.slot.now.number c.args.leaf.page) c.in_err-remove_pair.field-0.0 c.requires.may.alive (error_is _ _ told) c.in_err-remove_pair.ensures.acts.cause)
 
 pub returns-clause-works : goal.returns-clause-works
 returns-clause-works g c =
     let V = g.S.EawStore.view in
     let v0 = pages_of (V c.args.pages.now.store) c.args.pages.now in
     let v1 = pages_of (V c.remove_pair.new.pages.store) c.remove_pair.new.pages in
-    let fits : c.args.key < 2 ^ 64 = omega arith in
+    let fits : c.args.change.key < 2 ^ 64 = omega arith in
     let half = index_pages_of v0.store.shape in
     let slot = c.args.slot.now in
     let leaf = c.args.leaf in
-    let mark = log_len v0.store c.args.tid in
+    let mark = log_len v0.store c.args.change.tid in
     let action : Action = record { pages = removing_pages half slot.number leaf.page; takes = 0 } in
-    let parts = removing_parts half slot.front slot.number slot.free leaf.page 0 leaf.pairs.items c.args.key in
-    let due = removal_actions (tree_removal v0.store.state.bytes c.args.root.page c.args.key) in
-    let is = λ (told : IsTrue g.S.EawStore.tells). ap removal_actions (sym (takes g.S.EawStore.tells g.S.EawStore.opens c.args.tid c.args.root c.args.key v0 fits c.requires.alive (λ tell. g.met.S.EawStore.long c.args.pages.now.store tell) c.requires.sound c.requires.named
+    let parts = removing_parts half slot.front slot.number slot.free leaf.page 0 leaf.pairs.items c.args.change.key in
+    let due = removal_actions (tree_removal v0.store.state.bytes c.args.change.root.page c.args.change.key) in
+    let is = λ (told : IsTrue g.S.EawStore.tells). ap removal_actions (sym (takes g.S.EawStore.tells g.S.EawStore.opens c.args.change.tid c.args.change.root c.args.change.key v0 fits c.requires.may.alive (λ tell. g.met.S.EawStore.long c.args.pages.now.store tell) c.requires.may.sound c.requires.may.named
     slot.number slot.free slot.front c.requires.released v1 leaf.page leaf.level leaf.pairs.items c.requires.leaf c.requires.bottom c.requires.reached c.requires.finds c.requires.more told)) in
     let r : Result (Unit {0}) PageFault = Ok tt in
-    act_alone g.S.EawStore.tells V g.S.EawStore.calls c.args.tid due (None) c.args.key [] c.args.pages.now action (acting_of c.args.tid mark parts) (mark, parts, refl, removing_in half slot.front slot.number slot.free leaf.page 0 leaf.pairs.items c.args.key) refl is r v0.store v1.store c.in_ok-remove_pair.ensures.runs
+    act_alone g.S.EawStore.tells V g.S.EawStore.calls c.args.change.tid due (None) c.args.change.key [] c.args.pages.now action (acting_of c.args.change.tid mark parts) (mark, parts, refl, removing_in half slot.front slot.number slot.free leaf.page 0 leaf.pairs.items c.args.change.key) refl is r v0.store v1.store c.in_ok-remove_pair.ensures.runs
 
 pub returns-in_err-remove_pair-clause-works : goal.returns-in_err-remove_pair-clause-works
 returns-in_err-remove_pair-clause-works g c =
@@ -72,16 +72,16 @@ returns-in_err-remove_pair-clause-works g c =
     let V = g.S.EawStore.view in
     let v0 = pages_of (V c.args.pages.now.store) c.args.pages.now in
     let v1 = pages_of (V c.remove_pair.new.pages.store) c.remove_pair.new.pages in
-    let fits : c.args.key < 2 ^ 64 = omega arith in
+    let fits : c.args.change.key < 2 ^ 64 = omega arith in
     let half = index_pages_of v0.store.shape in
     let slot = c.args.slot.now in
     let leaf = c.args.leaf in
-    let mark = log_len v0.store c.args.tid in
+    let mark = log_len v0.store c.args.change.tid in
     let action : Action = record { pages = removing_pages half slot.number leaf.page; takes = 0 } in
-    let parts = removing_parts half slot.front slot.number slot.free leaf.page 0 leaf.pairs.items c.args.key in
-    let due = removal_actions (tree_removal v0.store.state.bytes c.args.root.page c.args.key) in
-    let is = λ (told : IsTrue g.S.EawStore.tells). ap removal_actions (sym (takes g.S.EawStore.tells g.S.EawStore.opens c.args.tid c.args.root c.args.key v0 fits c.requires.alive (λ tell. g.met.S.EawStore.long c.args.pages.now.store tell) c.requires.sound c.requires.named
+    let parts = removing_parts half slot.front slot.number slot.free leaf.page 0 leaf.pairs.items c.args.change.key in
+    let due = removal_actions (tree_removal v0.store.state.bytes c.args.change.root.page c.args.change.key) in
+    let is = λ (told : IsTrue g.S.EawStore.tells). ap removal_actions (sym (takes g.S.EawStore.tells g.S.EawStore.opens c.args.change.tid c.args.change.root c.args.change.key v0 fits c.requires.may.alive (λ tell. g.met.S.EawStore.long c.args.pages.now.store tell) c.requires.may.sound c.requires.may.named
     slot.number slot.free slot.front c.requires.released v1 leaf.page leaf.level leaf.pairs.items c.requires.leaf c.requires.bottom c.requires.reached c.requires.finds c.requires.more told)) in
     let r : Result (Unit {0}) PageFault = Err c.in_err-remove_pair.field-0.0 in
     let s : Result Bool PageFault = Err c.in_err-remove_pair.field-0.0 in
-    act_alone g.S.EawStore.tells V g.S.EawStore.calls c.args.tid due (blamed s) c.args.key [] c.args.pages.now action (acting_of c.args.tid mark parts) (mark, parts, refl, removing_in half slot.front slot.number slot.free leaf.page 0 leaf.pairs.items c.args.key) (act_blames Bool v0.store c.args.tid (removing_pages half slot.number leaf.page) c.in_err-remove_pair.field-0.0 c.in_err-remove_pair.ensures.acts.cause) is r v0.store v1.store c.in_err-remove_pair.ensures.runs)
+    act_alone g.S.EawStore.tells V g.S.EawStore.calls c.args.change.tid due (blamed s) c.args.change.key [] c.args.pages.now action (acting_of c.args.change.tid mark parts) (mark, parts, refl, removing_in half slot.front slot.number slot.free leaf.page 0 leaf.pairs.items c.args.change.key) (act_blames Bool v0.store c.args.change.tid (removing_pages half slot.number leaf.page) c.in_err-remove_pair.field-0.0 c.in_err-remove_pair.ensures.acts.cause) is r v0.store v1.store c.in_err-remove_pair.ensures.runs)

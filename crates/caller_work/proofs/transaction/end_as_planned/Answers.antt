@@ -17,7 +17,7 @@ pub returns-then-eq : goal.returns-then-eq
 returns-then-eq g c =
     let offers : c.args.end ≡ end.Offer = same_true the_type (search rules) _ _ (sym c.if-eq.ensures) in
     let spot = c.args.spot.now in
-    subst (λ (e : PlanEnd). Tells (g.G.Gate.told spot.gate.now) c.args.pass.now c.offer.new.pass c.args.told.now.places c.offer.new.told.places (λ (more : Heard) (places : List Place). Ends e more c.offer.result × (places ≡ end_places spot.caller spot.nth e more)))
+    subst (λ (e : PlanEnd). Tells (g.G.Gate.told spot.gate.now) c.args.pass.now c.offer.new.pass c.args.told.now.said c.offer.new.told.said (λ (more : Heard) (places : List Place). Ends e more c.offer.result × (places ≡ end_places spot.caller spot.nth e more)))
     (sym offers) c.offer.ensures
 
 pub returns : goal.returns

@@ -31,7 +31,7 @@ returns-in_err-head-clause-cause g c =
     rw (exit.1, exit.2) (
     let view = g.S.EawStore.view c.args.pages.now.store in
     look_cause Head KeyPage g.S.EawStore.tells view view (IsLinked (index_pages_of view.shape) (page_bytes view.state.bytes c.args.root)) c.args.root c.in_err-head.field-0.0 (still_same g.S.EawStore.tells view)
-    (λ told alive. first_linked view.state.bytes c.args.root c.args.table (index_pages_of view.shape) (c.requires.sound told alive).0 (sound_table view.state.bytes c.args.table c.args.root (c.requires.sound told alive) (c.requires.named told alive)) (index_pages_are view.shape view.state.bytes (g.met.S.EawStore.long c.args.pages.now.store told)))
+    (λ told alive. first_linked view.state.bytes c.args.root c.args.table (index_pages_of view.shape) (c.requires.may.sound told alive).0 (sound_table view.state.bytes c.args.table c.args.root (c.requires.may.sound told alive) (c.requires.may.named told alive)) (index_pages_are view.shape view.state.bytes (g.met.S.EawStore.long c.args.pages.now.store told)))
     c.in_err-head.ensures.cause)
 
 pub returns-in_err-head-clause-walks : goal.returns-in_err-head-clause-walks
@@ -58,7 +58,7 @@ returns-then-root-eq0-clause-cause g c =
     let view = g.S.EawStore.view c.args.pages.now.store in (
       c.in_ok-head.ensures.cause,
       λ told.
-          let own = root_own view.state.bytes c.args.table c.args.root (c.requires.sound told c.in_ok-head.ensures.cause) (c.requires.named told c.in_ok-head.ensures.cause) in
+          let own = root_own view.state.bytes c.args.table c.args.root (c.requires.may.sound told c.in_ok-head.ensures.cause) (c.requires.may.named told c.in_ok-head.ensures.cause) in
           omega (arith, own.0, c.if-root-eq0.true),
     )
 
@@ -74,8 +74,8 @@ returns-then-root-count-clause-cause g c =
     let view = g.S.EawStore.view c.args.pages.now.store in (
       c.in_ok-head.ensures.cause,
       λ told.
-          let own = root_own view.state.bytes c.args.table c.args.root (c.requires.sound told c.in_ok-head.ensures.cause) (c.requires.named told c.in_ok-head.ensures.cause) in
-          omega (arith, own.1, (c.requires.sound told c.in_ok-head.ensures.cause).0.pages, index_pages_are view.shape view.state.bytes (g.met.S.EawStore.long c.args.pages.now.store told), c.index_page_count-count.ensures.count, c.if-root-count.true),
+          let own = root_own view.state.bytes c.args.table c.args.root (c.requires.may.sound told c.in_ok-head.ensures.cause) (c.requires.may.named told c.in_ok-head.ensures.cause) in
+          omega (arith, own.1, (c.requires.may.sound told c.in_ok-head.ensures.cause).0.pages, index_pages_are view.shape view.state.bytes (g.met.S.EawStore.long c.args.pages.now.store told), c.index_page_count-count.ensures.count, c.if-root-count.true),
     )
 
 pub loop-step-init : goal.loop-step-init
@@ -91,8 +91,8 @@ loop-step-init g c =
       bytes = λ told. c.in_ok-head.ensures.bytes told;
       on = along_first g.S.EawStore.tells (g.S.EawStore.calls c.args.pages.now.store) (g.S.EawStore.calls c.read_page.new.pages.store) c.args.root c.args.key c.read_page.new.bytes view (g.S.EawStore.view c.read_page.new.pages.store) c.in_ok-head.ensures.reads;
       few = omega (arith, c.index_page_count-count.ensures.count, c.index_page_count-count.ensures.some);
-      place = λ told. place_first view.state.bytes c.args.root c.args.table c.args.key c.in_ok-head.head.link (omega (arith, (c.requires.sound told c.in_ok-head.ensures.cause).0.some_pages))
-          (sound_table view.state.bytes c.args.table c.args.root (c.requires.sound told c.in_ok-head.ensures.cause) (c.requires.named told c.in_ok-head.ensures.cause))
+      place = λ told. place_first view.state.bytes c.args.root c.args.table c.args.key c.in_ok-head.head.link (omega (arith, (c.requires.may.sound told c.in_ok-head.ensures.cause).0.some_pages))
+          (sound_table view.state.bytes c.args.table c.args.root (c.requires.may.sound told c.in_ok-head.ensures.cause) (c.requires.may.named told c.in_ok-head.ensures.cause))
           (c.in_ok-head.ensures.head.link ∙ ap link_said (c.in_ok-head.ensures.bytes told));
     }
 
@@ -109,7 +109,7 @@ returns-in_err-behind-clause-cause g c =
     look_cause Head KeyPage g.S.EawStore.tells view mid (IsLinked (index_pages_of mid.shape) (page_bytes mid.state.bytes c.loop-step.head.link)) c.loop-step.head.link c.in_err-behind.field-0.0 still
     (λ told alive.
     let pages = index_pages_are view.shape view.state.bytes (g.met.S.EawStore.long c.args.pages.now.store told) in
-    let linked = place_linked view.state.bytes c.args.root c.args.table (index_pages_of view.shape) c.args.key c.loop-step._step c.loop-step.page c.loop-step.head.link (c.requires.sound told alive).0 pages (inv.place told) more in
+    let linked = place_linked view.state.bytes c.args.root c.args.table (index_pages_of view.shape) c.args.key c.loop-step._step c.loop-step.page c.loop-step.head.link (c.requires.may.sound told alive).0 pages (inv.place told) more in
     subst (λ (n : ℕ). IsLinked n (page_bytes mid.state.bytes c.loop-step.head.link)) (ap index_pages_of (sym inv.looks.shape))
     (subst (λ (s : State). IsLinked (index_pages_of view.shape) (page_bytes s.bytes c.loop-step.head.link)) (sym (still.state told)) linked))
     c.in_err-behind.ensures.cause)
@@ -267,5 +267,5 @@ returns-clause-cause g c =
       λ told.
           let goes : ends_at c.args.key c.loop-step.bytes ≡ false = sym c.if-ends_at-2.ensures in
           place_out view.state.bytes c.args.root c.args.table c.args.key c.loop-step._step c.loop-step.page c.loop-step.head.link (inv.place told) (λ e. ends_linked c.args.key c.loop-step.bytes goes (sym inv.says.link ∙ e))
-          (omega (arith, (c.requires.sound told alive).0.pages, index_pages_are view.shape view.state.bytes (g.met.S.EawStore.long c.args.pages.now.store told), c.index_page_count-count.ensures.count, c.index_page_count-count.ensures.some, c.loop-step-test.false)),
+          (omega (arith, (c.requires.may.sound told alive).0.pages, index_pages_are view.shape view.state.bytes (g.met.S.EawStore.long c.args.pages.now.store told), c.index_page_count-count.ensures.count, c.index_page_count-count.ensures.some, c.loop-step-test.false)),
     )

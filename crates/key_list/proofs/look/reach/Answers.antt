@@ -25,13 +25,13 @@ use Rattle.key_list.proofs.look.reach.Goals as goal
 
 pub loop-step-init : goal.loop-step-init
 loop-step-init g c = record {
-  inside = c.requires.root;
+  inside = c.requires.may.inside;
   looks = looks_none g.S.EawStore.tells (g.S.EawStore.opens (g.S.EawStore.view c.args.pages.now.store).shape) (pages_of (g.S.EawStore.view c.args.pages.now.store) c.args.pages.now);
   alive = λ some. absurd (omega arith);
   dead = λ dead. refl;
   on = on_first g.S.EawStore.tells (g.S.EawStore.calls c.args.pages.now.store) (along c.args.root c.args.from) c.args.root c.args.root (g.S.EawStore.view c.args.pages.now.store) refl;
   few = omega arith;
-  chain = λ told alive. (let b = (g.S.EawStore.view c.args.pages.now.store).state.bytes in next_first b c.args.root c.args.table c.args.from (omega (arith, (c.requires.sound told alive).0.some_pages)) (sound_table b c.args.table c.args.root (c.requires.sound told alive) (c.requires.named told alive)));
+  chain = λ told alive. (let b = (g.S.EawStore.view c.args.pages.now.store).state.bytes in next_first b c.args.root c.args.table c.args.from (omega (arith, (c.requires.may.sound told alive).0.some_pages)) (sound_table b c.args.table c.args.root (c.requires.may.sound told alive) (c.requires.may.named told alive)));
 }
 
 pub loop-step-preserved : goal.loop-step-preserved
@@ -70,7 +70,7 @@ returns-clause-cause g c =
       alive,
       λ told.
           let at = c.loop-step.invariant.chain told alive in
-          omega (arith, at.left, (c.requires.sound told alive).0.pages, index_pages_are view.shape view.state.bytes (g.met.S.EawStore.long c.args.pages.now.store told), c.index_page_count-count.ensures.count, c.loop-step-test.false),
+          omega (arith, at.left, (c.requires.may.sound told alive).0.pages, index_pages_are view.shape view.state.bytes (g.met.S.EawStore.long c.args.pages.now.store told), c.index_page_count-count.ensures.count, c.loop-step-test.false),
     )
 
 pub returns-then-is_some-clause-looks : goal.returns-then-is_some-clause-looks

@@ -33,7 +33,7 @@ returns-in_err-front-clause-finds g c =
     rw (exit.1, exit.2) (
     let view = g.S.EawStore.view c.args.pages.now.store in
     front_fails g.S.EawStore.tells g.S.EawStore.view g.S.EawStore.calls c.args.root c.args.key (index_pages_of view.shape) Super Located (λ (at : Located) (steps : List Step). IsMet 0 steps × IsMet at.page steps) (IsSuper 0 view.state.bytes) c.args.pages.now.store (g.S.EawStore.calls c.fetch_super.new.pages.store) view (g.S.EawStore.view c.fetch_super.new.pages.store)
-    c.in_err-front.ensures.reads.0 (page_bytes view.state.bytes 0) c.in_err-front.field-0.0 (omega (arith, c.requires.root)) c.in_err-front.ensures.reads.1 c.in_err-front.ensures.cause)
+    c.in_err-front.ensures.reads.0 (page_bytes view.state.bytes 0) c.in_err-front.field-0.0 (omega (arith, c.requires.may.inside)) c.in_err-front.ensures.reads.1 c.in_err-front.ensures.cause)
 
 pub returns-in_err-at-clause-finds : goal.returns-in_err-at-clause-finds
 returns-in_err-at-clause-finds g c =

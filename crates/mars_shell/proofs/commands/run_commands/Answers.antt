@@ -1,10 +1,11 @@
-use Rattle.std.proofs.Common.{[], true, false, ⊎_elim, refl, sym, subst}
+use Rattle.std.proofs.Common.{[], true, false, refl, sym, subst}
 use Rattle.std.proofs.lemmas.List.{append-nil}
 use Rattle.command_words.specs.declared.words.Words.TheVariants.{Eaw}
 use Rattle.mars_shell.specs.Asked.{OutcomeFor}
 use Rattle.mars_shell.specs.Commands.{ObeysAs}
 use Rattle.array_runs.specs.declared.status.Status.{Status}
 use Rattle.mars_shell.proofs.Commanding.{obeys_as}
+use Rattle.mars_shell.proofs.Endings.{spares_of}
 use Rattle.array_runs.proofs.Statuses.{outcome_of}
 use Rattle.array_runs.proofs.Unopened.{unopened_as}
 use Rattle.array_runs.specs.Opening.{IsUnopened}
@@ -49,14 +50,8 @@ returns-clause-ran g c =
       );
     }
 
-pub returns-in-Err-clause-no_usage : goal.returns-in-Err-clause-no_usage
-returns-in-Err-clause-no_usage g c = λ is. subst IsUnopened is c.in-Err.ensures.kind
-
-pub returns-in-Err-clause-early : goal.returns-in-Err-clause-early
-returns-in-Err-clause-early g c = λ early. (c.in-Err.ensures.early early).1
-
-pub returns-in-Err-clause-silent : goal.returns-in-Err-clause-silent
-returns-in-Err-clause-silent g c = λ refused. refl
+pub returns-in-Err-clause-spares : goal.returns-in-Err-clause-spares
+returns-in-Err-clause-spares g c = record { no_usage = λ is. subst IsUnopened is c.in-Err.ensures.kind; early = λ early. (c.in-Err.ensures.early early).1; silent = λ either. refl }
 
 pub returns-in-Err-clause-counts : goal.returns-in-Err-clause-counts
 returns-in-Err-clause-counts g c = counts_unwritten c.in-Err.ended.0 _ _ _ _ _ c.in-Err.ensures.kind c.in-Err.ensures.counts
@@ -67,15 +62,11 @@ returns-in-Err-clause-steady g c = λ steady. c.in-Err.ensures.steady steady
 pub returns-in-Err-clause-input : goal.returns-in-Err-clause-input
 returns-in-Err-clause-input g c = c.in-Err.ensures.input refl
 
-pub returns-clause-no_usage : goal.returns-clause-no_usage
-returns-clause-no_usage g c = λ is. script_accepted c.answer_script-ended.result.0 (subst IsRefusal c.script_status.ensures (subst IsRefusal (sym is) tt))
-
-pub returns-clause-early : goal.returns-clause-early
-returns-clause-early g c = λ early. absurd (script_late c.answer_script-ended.result.0 (subst IsEarly c.script_status.ensures (early)))
-
-pub returns-clause-silent : goal.returns-clause-silent
-returns-clause-silent g c = λ either. ⊎_elim (λ early. absurd (script_late c.answer_script-ended.result.0 (subst IsEarly c.script_status.ensures early)))
-    (λ refused. absurd (script_accepted c.answer_script-ended.result.0 (subst IsRefusal c.script_status.ensures refused))) either
+pub returns-clause-spares : goal.returns-clause-spares
+returns-clause-spares g c =
+    let ended = c.answer_script-ended.result.0 in
+    spares_of c.script_status.result _ _ (λ is. script_accepted ended (subst IsRefusal c.script_status.ensures (subst IsRefusal (sym is) tt))) (λ early. script_late ended (subst IsEarly c.script_status.ensures early))
+    (λ refused. absurd (script_accepted ended (subst IsRefusal c.script_status.ensures refused)))
 
 pub returns-clause-counts : goal.returns-clause-counts
 returns-clause-counts g c = scripted c.answer_script-ended.result.0 c.script_status.result _ _ _ _ _ _ _ _ c.script_status.ensures c.in-Ok.ensures.kept c.in-Ok.ensures.attached.faults c.into_media.ensures.behind.faults c.answer_script-ended.ensures.counts

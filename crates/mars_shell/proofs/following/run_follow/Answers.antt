@@ -1,9 +1,10 @@
-use Rattle.std.proofs.Common.{[], false, inl, inr, ⊎_elim, refl, sym, subst}
+use Rattle.std.proofs.Common.{[], false, inl, inr, refl, sym, subst}
 use Rattle.std.proofs.lemmas.List.{append-nil}
 use Rattle.array_runs.specs.Opening.{IsUnopened}
 use Rattle.array_runs.specs.Statuses.{IsEarly, IsRefusal}
 use Rattle.array_runs.proofs.Endings.{counts_unwritten, input_read}
 use Rattle.mars_shell.proofs.FramesFollowed.{follows, follow_late, follow_accepted, follow_counted}
+use Rattle.mars_shell.proofs.Endings.{spares_of}
 use Rattle.mars_shell.proofs.following.run_follow.Goals as goal
 
 pub returns-in-Err-clause-ran : goal.returns-in-Err-clause-ran
@@ -40,14 +41,8 @@ returns-clause-ran g c =
       );
     }
 
-pub returns-in-Err-clause-no_usage : goal.returns-in-Err-clause-no_usage
-returns-in-Err-clause-no_usage g c = λ is. subst IsUnopened is c.in-Err.ensures.kind
-
-pub returns-in-Err-clause-early : goal.returns-in-Err-clause-early
-returns-in-Err-clause-early g c = λ early. (c.in-Err.ensures.early early).1
-
-pub returns-in-Err-clause-silent : goal.returns-in-Err-clause-silent
-returns-in-Err-clause-silent g c = λ refused. refl
+pub returns-in-Err-clause-spares : goal.returns-in-Err-clause-spares
+returns-in-Err-clause-spares g c = record { no_usage = λ is. subst IsUnopened is c.in-Err.ensures.kind; early = λ early. (c.in-Err.ensures.early early).1; silent = λ either. refl }
 
 pub returns-in-Err-clause-counts : goal.returns-in-Err-clause-counts
 returns-in-Err-clause-counts g c = counts_unwritten c.in-Err.ended.0 _ _ _ _ _ c.in-Err.ensures.kind c.in-Err.ensures.counts
@@ -58,15 +53,11 @@ returns-in-Err-clause-steady g c = λ steady. c.in-Err.ensures.steady steady
 pub returns-in-Err-clause-input : goal.returns-in-Err-clause-input
 returns-in-Err-clause-input g c = c.in-Err.ensures.input refl
 
-pub returns-clause-no_usage : goal.returns-clause-no_usage
-returns-clause-no_usage g c = λ is. follow_accepted c.follow_lines-ended.result.0 (subst IsRefusal c.follow_status.ensures (subst IsRefusal (sym is) tt))
-
-pub returns-clause-early : goal.returns-clause-early
-returns-clause-early g c = λ early. absurd (follow_late c.follow_lines-ended.result.0 (subst IsEarly c.follow_status.ensures early))
-
-pub returns-clause-silent : goal.returns-clause-silent
-returns-clause-silent g c = λ either. ⊎_elim (λ early. absurd (follow_late c.follow_lines-ended.result.0 (subst IsEarly c.follow_status.ensures early)))
-    (λ refused. absurd (follow_accepted c.follow_lines-ended.result.0 (subst IsRefusal c.follow_status.ensures refused))) either
+pub returns-clause-spares : goal.returns-clause-spares
+returns-clause-spares g c =
+    let ended = c.follow_lines-ended.result.0 in
+    spares_of c.follow_status.result _ _ (λ is. follow_accepted ended (subst IsRefusal c.follow_status.ensures (subst IsRefusal (sym is) tt))) (λ early. follow_late ended (subst IsEarly c.follow_status.ensures early))
+    (λ refused. absurd (follow_accepted ended (subst IsRefusal c.follow_status.ensures refused)))
 
 pub returns-clause-counts : goal.returns-clause-counts
 returns-clause-counts g c = follow_counted c.follow_lines-ended.result.0 c.follow_status.result _ _ _ _ _ _ _ _ c.follow_status.ensures c.in-Ok.ensures.kept c.in-Ok.ensures.attached.faults c.into_media.ensures.behind.faults c.follow_lines-ended.ensures.counts

@@ -1,11 +1,11 @@
-use Rattle.std.proofs.Common.{[], false, ⊎_elim, refl, sym, subst, ◌∙◌, arith}
+use Rattle.std.proofs.Common.{[], false, refl, sym, subst, ◌∙◌, arith}
 use Rattle.std.proofs.lemmas.List.{append-nil}
 use Rattle.array_runs.specs.Records.{OverRecords}
 use Rattle.array_runs.specs.Statuses.{IsEarly, IsRefusal}
 use Rattle.array_runs.specs.declared.status.Status.{Status}
 use Rattle.array_runs.proofs.Endings.{served_late, served_refused, served_usage, input_read}
 use Rattle.mars_shell.specs.FramedRun.{TakesFramed}
-use Rattle.mars_shell.proofs.Endings.{served}
+use Rattle.mars_shell.proofs.Endings.{served, spares_of}
 use Rattle.mars_shell.proofs.FramedOutcomes.{framed_outcome, framed_none}
 use Rattle.mars_shell.specs.Late.{depth_of}
 use Rattle.mars_shell.proofs.Waiting.{handed_back, of_depth}
@@ -31,11 +31,8 @@ returns-in-Err-clause-ran g c =
       );
     }
 
-pub returns-in-Err-clause-no_usage : goal.returns-in-Err-clause-no_usage
-returns-in-Err-clause-no_usage g c = λ is. omega (arith, c.in-Err.ensures.usage is)
-
-pub returns-in-Err-clause-early : goal.returns-in-Err-clause-early
-returns-in-Err-clause-early g c = λ early. (c.in-Err.ensures.early early).1
+pub returns-in-Err-clause-spares : goal.returns-in-Err-clause-spares
+returns-in-Err-clause-spares g c = record { no_usage = λ is. omega (arith, c.in-Err.ensures.usage is); early = λ early. (c.in-Err.ensures.early early).1; silent = λ either. refl }
 
 pub returns-in-Err-clause-counts : goal.returns-in-Err-clause-counts
 returns-in-Err-clause-counts g c = c.in-Err.ensures.counts _
@@ -69,15 +66,11 @@ returns-clause-ran g c =
       );
     }
 
-pub returns-clause-no_usage : goal.returns-clause-no_usage
-returns-clause-no_usage g c = λ is. served_usage c.serve_framed-served.result.0 (sym c.served_status.ensures ∙ is)
-
-pub returns-clause-early : goal.returns-clause-early
-returns-clause-early g c = λ early. absurd (served_late c.serve_framed-served.result.0 (subst IsEarly c.served_status.ensures early))
-
-pub returns-clause-silent : goal.returns-clause-silent
-returns-clause-silent g c = λ either. ⊎_elim (λ early. absurd (served_late c.serve_framed-served.result.0 (subst IsEarly c.served_status.ensures early)))
-    (λ refused. served_refused _ c.serve_framed-served.result.0 c.serve_framed-served.ensures.untold (subst IsRefusal c.served_status.ensures refused)) either
+pub returns-clause-spares : goal.returns-clause-spares
+returns-clause-spares g c =
+    let end = c.serve_framed-served in
+    spares_of c.served_status.result _ _ (λ is. served_usage end.result.0 (sym c.served_status.ensures ∙ is)) (λ early. served_late end.result.0 (subst IsEarly c.served_status.ensures early))
+    (λ refused. served_refused _ end.result.0 end.ensures.untold (subst IsRefusal c.served_status.ensures refused))
 
 pub returns-clause-counts : goal.returns-clause-counts
 returns-clause-counts g c = served c.serve_framed-served.result.0 c.served_status.result _ _ _ _ _ _ _ _ c.served_status.ensures c.in-Ok.ensures.kept c.in-Ok.ensures.attached.faults c.into_media.ensures.behind.faults c.serve_framed-served.ensures.counts

@@ -40,3 +40,9 @@ returns-clause-ran g c =
             (sym c.if-options.false) (ran.holds.2 told),
       );
     }
+
+pub returns-then-options-clause-spares : goal.returns-then-options-clause-spares
+returns-then-options-clause-spares g c = c.run_framed.ensures.spares
+
+pub returns-clause-spares : goal.returns-clause-spares
+returns-clause-spares g c = record { no_usage = c.over_records.ensures.no_usage; early = λ early. (c.over_records.ensures.early early).1; silent = c.over_records.ensures.silent }

@@ -21,10 +21,10 @@ use Rattle.mars_shell.proofs.Waiting.{callers_depth, callers_few, readers_few}
 use Rattle.mars_shell.proofs.obeying.obey.Goals as goal
 
 pub returns-in-Run-clause-early : goal.returns-in-Run-clause-early
-returns-in-Run-clause-early g c = λ either. c.run_lines.ensures.early (is_early c.run_lines.result.0 either)
+returns-in-Run-clause-early g c = λ either. c.run_lines.ensures.spares.early (is_early c.run_lines.result.0 either)
 
 pub returns-in-Run-clause-silent : goal.returns-in-Run-clause-silent
-returns-in-Run-clause-silent g c = λ silent. c.run_lines.ensures.silent (silent_kind c.run_lines.result.0 silent)
+returns-in-Run-clause-silent g c = λ silent. c.run_lines.ensures.spares.silent (silent_kind c.run_lines.result.0 silent)
 
 pub returns-in-Run-clause-counts : goal.returns-in-Run-clause-counts
 returns-in-Run-clause-counts g c = c.run_lines.ensures.counts
@@ -181,10 +181,10 @@ returns-in-Format-clause-ran g c =
     rw c.in-Format.is (record { cut = ran.cut; text = ran.text; wrote = ran.wrote; counts = ran.counts; holds = (g.S.Source.left c.args.source.now, (λ _. refl), ran.holds) })
 
 pub returns-in-Eaw-clause-early : goal.returns-in-Eaw-clause-early
-returns-in-Eaw-clause-early g c = λ either. c.run_commands.ensures.early (is_early c.run_commands.result.0 either)
+returns-in-Eaw-clause-early g c = λ either. c.run_commands.ensures.spares.early (is_early c.run_commands.result.0 either)
 
 pub returns-in-Eaw-clause-silent : goal.returns-in-Eaw-clause-silent
-returns-in-Eaw-clause-silent g c = λ silent. c.run_commands.ensures.silent (silent_kind c.run_commands.result.0 silent)
+returns-in-Eaw-clause-silent g c = λ silent. c.run_commands.ensures.spares.silent (silent_kind c.run_commands.result.0 silent)
 
 pub returns-in-Eaw-clause-counts : goal.returns-in-Eaw-clause-counts
 returns-in-Eaw-clause-counts g c = c.run_commands.ensures.counts
@@ -303,10 +303,10 @@ returns-in-Purge-clause-complete g c =
     complete_purge old new said.ran.cut said.ran.text _ _ _ _ _ _ fit.1.0 fit.1.1 no_source no_sink no_media c.run_told-in-Purge.result.0 said.late said.counts (said.ran.holds fit.0))
 
 pub returns-in-Follow-clause-early : goal.returns-in-Follow-clause-early
-returns-in-Follow-clause-early g c = λ either. c.run_follow.ensures.early (is_early c.run_follow.result.0 either)
+returns-in-Follow-clause-early g c = λ either. c.run_follow.ensures.spares.early (is_early c.run_follow.result.0 either)
 
 pub returns-in-Follow-clause-silent : goal.returns-in-Follow-clause-silent
-returns-in-Follow-clause-silent g c = λ silent. c.run_follow.ensures.silent (silent_kind c.run_follow.result.0 silent)
+returns-in-Follow-clause-silent g c = λ silent. c.run_follow.ensures.spares.silent (silent_kind c.run_follow.result.0 silent)
 
 pub returns-in-Follow-clause-counts : goal.returns-in-Follow-clause-counts
 returns-in-Follow-clause-counts g c = c.run_follow.ensures.counts
@@ -336,13 +336,13 @@ returns-in-Follow-clause-complete g c =
     fit.0.1 fit.2.0 fit.2.1 no_source no_sink no_media c.run_follow.result.0 said.counts (said.input fit.0.0) (said.ran.holds.2 fit.1))
 
 pub returns-in-Run-clause-usage : goal.returns-in-Run-clause-usage
-returns-in-Run-clause-usage g c = λ is. absurd (c.run_lines.ensures.no_usage is)
+returns-in-Run-clause-usage g c = λ is. absurd (c.run_lines.ensures.spares.no_usage is)
 
 pub returns-in-Eaw-clause-usage : goal.returns-in-Eaw-clause-usage
-returns-in-Eaw-clause-usage g c = λ is. absurd (c.run_commands.ensures.no_usage is)
+returns-in-Eaw-clause-usage g c = λ is. absurd (c.run_commands.ensures.spares.no_usage is)
 
 pub returns-in-Follow-clause-usage : goal.returns-in-Follow-clause-usage
-returns-in-Follow-clause-usage g c = λ is. absurd (c.run_follow.ensures.no_usage is)
+returns-in-Follow-clause-usage g c = λ is. absurd (c.run_follow.ensures.spares.no_usage is)
 
 pub returns-in-Dump-clause-usage : goal.returns-in-Dump-clause-usage
 returns-in-Dump-clause-usage g c = λ is. absurd (c.run_told.ensures.no_usage is)

@@ -28,7 +28,7 @@ loop-nth-preserved g c =
     let is = subst (λ (x : List (List ℕ) × Table × Key). IsAnswer x.0 x.1 (joined (read now)) (length (joined (read now))) x.2 answer) (λ j. (i.names j, same j, its j)) c.answer_for-answer.ensures.answer in
     record {
       number = i.number;
-      told = c.tell.ensures.notes ∙ (λ k. i.told k ++ ReadBegan (i.number k) (nth + 1) ∷ []) ∙ told_next first.number nth first.keys first.told.places within;
+      told = c.tell.ensures.notes ∙ (λ k. i.told k ++ ReadBegan (i.number k) (nth + 1) ∷ []) ∙ told_next first.number nth first.keys first.told.said within;
       keys = i.keys;
       names = i.names;
       room = c.push_reserved.ensures.capacity ∙ i.room;

@@ -10,7 +10,7 @@ use Rattle.reader_work.proofs.reading.read_keys.Given as goal
 abbrev pub invariant-loop-nth : goal.invariant-loop-nth
 invariant-loop-nth g l = record {
   number : l.worker.number ≡ l.fn.worker.number;
-  told : l.worker.told.places ≡ l.fn.worker.told.places ++ read_places l.fn.worker.number 1 (take l.nth l.fn.worker.keys);
+  told : l.worker.told.said ≡ l.fn.worker.told.said ++ read_places l.fn.worker.number 1 (take l.nth l.fn.worker.keys);
   keys : l.worker.keys ≡ l.fn.worker.keys;
   names : l.worker.names ≡ l.fn.worker.names;
   room : vec_capacity l.worker.answers ≡ vec_capacity l.fn.worker.answers;

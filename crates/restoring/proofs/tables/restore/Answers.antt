@@ -1,4 +1,4 @@
-use Rattle.std.proofs.Common.{◌≡◌, ℕ, List, ◌∙◌, ap, subst}
+use Rattle.std.proofs.Common.{◌≡◌, ℕ, ◌∙◌, ap, subst}
 use Rattle.array_shape.specs.Places.{page_count}
 use Rattle.mars_base.proofs.Going.{weaker}
 use Rattle.eaw_device.specs.Made.{HasPages, IsOldOrNew}
@@ -7,32 +7,14 @@ use Rattle.restoring.specs.Restored.{plan_for}
 use Rattle.restoring.proofs.Restoring.{old_or_restored, restored}
 use Rattle.restoring.proofs.tables.restore.Goals as goal
 
-pub returns-in-Ok-make-clause-sound : goal.returns-in-Ok-make-clause-sound
-returns-in-Ok-make-clause-sound g c = λ told.
+pub returns-in-Ok-make-clause-just : goal.returns-in-Ok-make-clause-just
+returns-in-Ok-make-clause-just g c = λ told.
     let shape = c.args.shape.now in
     let bytes = (g.M.Media.view c.make.new.media).content.bytes in
     let same : c.in-Ok.image ≡ plan_for shape c.args.fill c.args.tables =
     c.in-Ok.ensures.image ∙ ap (λ (n : ℕ). let plan : Plan = record { fill = c.args.fill; half = n; tables = c.args.tables } in plan) c.index_pages.ensures.half in
-    (restored shape c.args.fill c.args.tables (subst CanMake same c.in-Ok.ensures.can) bytes
-    (subst (λ (plan : Plan). HasPages shape (planned_page plan) (page_count shape) bytes) same (c.in-Ok-make.ensures.made told).parts.pages)).sound
-
-pub returns-in-Ok-make-clause-records : goal.returns-in-Ok-make-clause-records
-returns-in-Ok-make-clause-records g c = λ told.
-    let shape = c.args.shape.now in
-    let bytes = (g.M.Media.view c.make.new.media).content.bytes in
-    let same : c.in-Ok.image ≡ plan_for shape c.args.fill c.args.tables =
-    c.in-Ok.ensures.image ∙ ap (λ (n : ℕ). let plan : Plan = record { fill = c.args.fill; half = n; tables = c.args.tables } in plan) c.index_pages.ensures.half in
-    (restored shape c.args.fill c.args.tables (subst CanMake same c.in-Ok.ensures.can) bytes
-    (subst (λ (plan : Plan). HasPages shape (planned_page plan) (page_count shape) bytes) same (c.in-Ok-make.ensures.made told).parts.pages)).records
-
-pub returns-in-Ok-make-clause-names : goal.returns-in-Ok-make-clause-names
-returns-in-Ok-make-clause-names g c = λ told.
-    let shape = c.args.shape.now in
-    let bytes = (g.M.Media.view c.make.new.media).content.bytes in
-    let same : c.in-Ok.image ≡ plan_for shape c.args.fill c.args.tables =
-    c.in-Ok.ensures.image ∙ ap (λ (n : ℕ). let plan : Plan = record { fill = c.args.fill; half = n; tables = c.args.tables } in plan) c.index_pages.ensures.half in
-    (restored shape c.args.fill c.args.tables (subst CanMake same c.in-Ok.ensures.can) bytes
-    (subst (λ (plan : Plan). HasPages shape (planned_page plan) (page_count shape) bytes) same (c.in-Ok-make.ensures.made told).parts.pages)).names
+    restored shape c.args.fill c.args.tables (subst CanMake same c.in-Ok.ensures.can) bytes
+    (subst (λ (plan : Plan). HasPages shape (planned_page plan) (page_count shape) bytes) same (c.in-Ok-make.ensures.made told).parts.pages)
 
 pub returns-in-Ok-make-clause-any_moment : goal.returns-in-Ok-make-clause-any_moment
 returns-in-Ok-make-clause-any_moment g c = λ told.

@@ -163,16 +163,20 @@ insert_below-requires-then-len-lt-PAIRS_MAX g c =
     let pairs = λ (told : IsTrue g.S.EawStore.tells). c.in_ok-top.ensures.pairs told ∙ ap (λ (st : State). page_pairs st.bytes c.args.root) (still.state told) in
     let room : length c.in_ok-top.top.pairs.items < 30 = room_for c.in_ok-top.top.pairs.items c.len.result c.len.ensures.value c.if-len-lt-PAIRS_MAX.true in
     record {
-      tid = subst (λ (sh : Shape). c.args.tid < sh.numbers) (sym looks.shape) c.requires.tid;
-      table = c.requires.table;
-      closed = ap (λ (f : ℕ → Option ℕ). f c.args.tid) (c.in_ok-top.ensures.looks.tops ∙ c.in_ok-front.ensures.looks.tops) ∙ c.requires.closed c.in_ok-front.ensures.cause;
-      alive = alive_yet T E t root key v0 c.requires.sound c.requires.named v1 looks c.in_ok-front.ensures.cause;
-      sound = sound_yet T E t root key v0 c.requires.sound c.requires.named v1 looks c.in_ok-front.ensures.cause;
-      named = named_yet T E t root key v0 c.requires.sound c.requires.named v1 looks c.in_ok-front.ensures.cause;
-      absent = absent_yet T E t root key v0 c.requires.sound c.requires.named v1 looks c.in_ok-front.ensures.cause c.requires.absent;
-      front = subst (λ (sh : Shape). IsFront sh c.in_ok-front.front) (sym looks.shape) c.in_ok-front.ensures.front;
-      slot = λ none. subst (λ (sh : Shape). c.in_ok-front.front.next_slot < slots_of sh) (sym looks.shape) ((slot_there v0.store.shape c.index_page_count-count.result front n.all c.in_ok-front.ensures.front (c.if-not-is_slot_left.ensures.0 refl)) none);
-      says = says_yet T E t root key v0 c.requires.sound c.requires.named v1 looks c.in_ok-front.ensures.cause front c.in_ok-front.ensures.says;
+      may = record {
+        act = record {
+          number = subst (λ (sh : Shape). c.args.tid < sh.numbers) (sym looks.shape) c.requires.tid;
+          one_of = c.requires.table;
+          closed = ap (λ (f : ℕ → Option ℕ). f c.args.tid) (c.in_ok-top.ensures.looks.tops ∙ c.in_ok-front.ensures.looks.tops) ∙ c.requires.closed c.in_ok-front.ensures.cause;
+          alive = alive_yet T E t root key v0 c.requires.sound c.requires.named v1 looks c.in_ok-front.ensures.cause;
+          sound = sound_yet T E t root key v0 c.requires.sound c.requires.named v1 looks c.in_ok-front.ensures.cause;
+          named = named_yet T E t root key v0 c.requires.sound c.requires.named v1 looks c.in_ok-front.ensures.cause;
+        };
+        absent = absent_yet T E t root key v0 c.requires.sound c.requires.named v1 looks c.in_ok-front.ensures.cause c.requires.absent;
+        front_is = subst (λ (sh : Shape). IsFront sh c.in_ok-front.front) (sym looks.shape) c.in_ok-front.ensures.front;
+        slot = λ none. subst (λ (sh : Shape). c.in_ok-front.front.next_slot < slots_of sh) (sym looks.shape) ((slot_there v0.store.shape c.index_page_count-count.result front n.all c.in_ok-front.ensures.front (c.if-not-is_slot_left.ensures.0 refl)) none);
+        says = says_yet T E t root key v0 c.requires.sound c.requires.named v1 looks c.in_ok-front.ensures.cause front c.in_ok-front.ensures.says;
+      };
       read = root_read T E t root key v0 c.requires.sound c.requires.named v1 looks c.in_ok-front.ensures.cause top.page top.level top.pairs.items c.in_ok-top.ensures.page read;
       some = c.in_ok-top.ensures.some;
       room = room;
@@ -229,16 +233,20 @@ insert_above-requires g c =
     let pairs = λ (told : IsTrue g.S.EawStore.tells). c.in_ok-top.ensures.pairs told ∙ ap (λ (st : State). page_pairs st.bytes c.args.root) (still.state told) in
     let full : length c.in_ok-top.top.pairs.items ≡ 30 = full_with c.in_ok-top.top.pairs.items c.len.result c.len.ensures.value c.if-len-lt-PAIRS_MAX.false c.in_ok-top.ensures.read.most in
     record {
-      tid = subst (λ (sh : Shape). c.args.tid < sh.numbers) (sym looks.shape) c.requires.tid;
-      table = c.requires.table;
-      closed = ap (λ (f : ℕ → Option ℕ). f c.args.tid) (c.in_ok-top.ensures.looks.tops ∙ c.in_ok-front.ensures.looks.tops) ∙ c.requires.closed c.in_ok-front.ensures.cause;
-      alive = alive_yet T E t root key v0 c.requires.sound c.requires.named v1 looks c.in_ok-front.ensures.cause;
-      sound = sound_yet T E t root key v0 c.requires.sound c.requires.named v1 looks c.in_ok-front.ensures.cause;
-      named = named_yet T E t root key v0 c.requires.sound c.requires.named v1 looks c.in_ok-front.ensures.cause;
-      absent = absent_yet T E t root key v0 c.requires.sound c.requires.named v1 looks c.in_ok-front.ensures.cause c.requires.absent;
-      front = subst (λ (sh : Shape). IsFront sh c.in_ok-front.front) (sym looks.shape) c.in_ok-front.ensures.front;
-      slot = λ none. subst (λ (sh : Shape). c.in_ok-front.front.next_slot < slots_of sh) (sym looks.shape) ((slot_there v0.store.shape c.index_page_count-count.result front n.all c.in_ok-front.ensures.front (c.if-not-is_slot_left.ensures.0 refl)) none);
-      says = says_yet T E t root key v0 c.requires.sound c.requires.named v1 looks c.in_ok-front.ensures.cause front c.in_ok-front.ensures.says;
+      may = record {
+        act = record {
+          number = subst (λ (sh : Shape). c.args.tid < sh.numbers) (sym looks.shape) c.requires.tid;
+          one_of = c.requires.table;
+          closed = ap (λ (f : ℕ → Option ℕ). f c.args.tid) (c.in_ok-top.ensures.looks.tops ∙ c.in_ok-front.ensures.looks.tops) ∙ c.requires.closed c.in_ok-front.ensures.cause;
+          alive = alive_yet T E t root key v0 c.requires.sound c.requires.named v1 looks c.in_ok-front.ensures.cause;
+          sound = sound_yet T E t root key v0 c.requires.sound c.requires.named v1 looks c.in_ok-front.ensures.cause;
+          named = named_yet T E t root key v0 c.requires.sound c.requires.named v1 looks c.in_ok-front.ensures.cause;
+        };
+        absent = absent_yet T E t root key v0 c.requires.sound c.requires.named v1 looks c.in_ok-front.ensures.cause c.requires.absent;
+        front_is = subst (λ (sh : Shape). IsFront sh c.in_ok-front.front) (sym looks.shape) c.in_ok-front.ensures.front;
+        slot = λ none. subst (λ (sh : Shape). c.in_ok-front.front.next_slot < slots_of sh) (sym looks.shape) ((slot_there v0.store.shape c.index_page_count-count.result front n.all c.in_ok-front.ensures.front (c.if-not-is_slot_left.ensures.0 refl)) none);
+        says = says_yet T E t root key v0 c.requires.sound c.requires.named v1 looks c.in_ok-front.ensures.cause front c.in_ok-front.ensures.says;
+      };
       page = c.in_ok-top.ensures.page;
       read = root_read T E t root key v0 c.requires.sound c.requires.named v1 looks c.in_ok-front.ensures.cause top.page top.level top.pairs.items c.in_ok-top.ensures.page read;
       full = full;
@@ -430,16 +438,20 @@ insert_below-requires g c =
     } in
     let small : c.args.key < 2 ^ 64 = omega arith in
     record {
-      tid = subst (λ (sh : Shape). c.args.tid < sh.numbers) (sym looks.shape) c.requires.tid;
-      table = c.requires.table;
-      closed = ap (λ (f : ℕ → Option ℕ). f c.args.tid) c.in_ok-front.ensures.looks.tops ∙ c.requires.closed c.in_ok-front.ensures.cause;
-      alive = alive_yet T E t root key v0 c.requires.sound c.requires.named vs looks c.in_ok-front.ensures.cause;
-      sound = sound_yet T E t root key v0 c.requires.sound c.requires.named vs looks c.in_ok-front.ensures.cause;
-      named = named_yet T E t root key v0 c.requires.sound c.requires.named vs looks c.in_ok-front.ensures.cause;
-      absent = absent_yet T E t root key v0 c.requires.sound c.requires.named vs looks c.in_ok-front.ensures.cause c.requires.absent;
-      front = subst (λ (sh : Shape). IsFront sh c.in_ok-front.front) (sym looks.shape) c.in_ok-front.ensures.front;
-      slot = λ none. subst (λ (sh : Shape). c.in_ok-front.front.next_slot < slots_of sh) (sym looks.shape) ((slot_there v0.store.shape c.index_page_count-count.result c.in_ok-front.front n.all c.in_ok-front.ensures.front (c.if-not-is_slot_left.ensures.0 refl)) none);
-      says = says_yet T E t root key v0 c.requires.sound c.requires.named vs looks c.in_ok-front.ensures.cause c.in_ok-front.front c.in_ok-front.ensures.says;
+      may = record {
+        act = record {
+          number = subst (λ (sh : Shape). c.args.tid < sh.numbers) (sym looks.shape) c.requires.tid;
+          one_of = c.requires.table;
+          closed = ap (λ (f : ℕ → Option ℕ). f c.args.tid) c.in_ok-front.ensures.looks.tops ∙ c.requires.closed c.in_ok-front.ensures.cause;
+          alive = alive_yet T E t root key v0 c.requires.sound c.requires.named vs looks c.in_ok-front.ensures.cause;
+          sound = sound_yet T E t root key v0 c.requires.sound c.requires.named vs looks c.in_ok-front.ensures.cause;
+          named = named_yet T E t root key v0 c.requires.sound c.requires.named vs looks c.in_ok-front.ensures.cause;
+        };
+        absent = absent_yet T E t root key v0 c.requires.sound c.requires.named vs looks c.in_ok-front.ensures.cause c.requires.absent;
+        front_is = subst (λ (sh : Shape). IsFront sh c.in_ok-front.front) (sym looks.shape) c.in_ok-front.ensures.front;
+        slot = λ none. subst (λ (sh : Shape). c.in_ok-front.front.next_slot < slots_of sh) (sym looks.shape) ((slot_there v0.store.shape c.index_page_count-count.result c.in_ok-front.front n.all c.in_ok-front.ensures.front (c.if-not-is_slot_left.ensures.0 refl)) none);
+        says = says_yet T E t root key v0 c.requires.sound c.requires.named vs looks c.in_ok-front.ensures.cause c.in_ok-front.front c.in_ok-front.ensures.says;
+      };
       read = subst (λ (sh : Shape). IsRead sh c.node_of.result.page c.node_of.result.level c.node_of.result.pairs.items) (sym looks.shape) read;
       some = λ inner. absurd (inner made.level);
       room = subst (λ (ps : List Pair). length ps < 30) (sym made.pairs) place.room;

@@ -24,6 +24,7 @@ use Rattle.record_slots.specs.declared.super_page.Super.{Super}
 use Rattle.btree_pages.specs.Downward.{below, tree_finding}
 use Rattle.btree_pages.proofs.Removing.{blamed_as, ends_none, front_ends, goes_leaf, root_fails, root_then, root_two, super_fails}
 use Rattle.std.proofs.lemmas.Result.{err_from_is_err_and}
+use Rattle.index_pages.proofs.May.{may_then, may_yet}
 use Rattle.btree_laws.specs.declared.root.Root.{Root}
 use Rattle.btree_pages.proofs.index.BTreePagesKeyIndex.remove.Goals as goal
 
@@ -64,8 +65,8 @@ returns-in_err-top-clause-removes g c =
           c.in_err-top.ensures.cause,
     ))
 
-pub remove_below-requires-clause-closed : goal.remove_below-requires-clause-closed
-remove_below-requires-clause-closed g c =
+pub remove_below-requires-clause-may : goal.remove_below-requires-clause-may
+remove_below-requires-clause-may g c =
     let T = g.S.EawStore.tells in
     let V = g.S.EawStore.view in
     let E = g.S.EawStore.opens in
@@ -76,7 +77,8 @@ remove_below-requires-clause-closed g c =
     let v2 = pages_of (V c.fetch_node.new.pages.store) c.fetch_node.new.pages in
     let looks = looks_next T E false v0 v1 v2 c.in_ok-front.ensures.looks c.in_ok-top.ensures.looks in
     let alive = c.in_ok-front.ensures.cause in
-    ap (λ (f : ℕ → Option ℕ). f c.args.tid) looks.tops ∙ c.requires.closed alive
+    may_yet T (E v0.store.shape) tree c.args.tid c.args.table c.args.root v0 v2 looks
+    (may_then T tree c.args.tid c.args.table c.args.root v0 c.requires.tid c.requires.table c.requires.closed alive c.requires.sound c.requires.named)
 
 pub returns-then-top-gt0-clause-removes : goal.returns-then-top-gt0-clause-removes
 returns-then-top-gt0-clause-removes g c =
@@ -115,8 +117,8 @@ returns-in_default-clause-removes g c =
     (c.in_ok-top.ensures.pairs told ∙ ap (λ (b : List ℕ). page_pairs b c.args.root) (bytes_same T (E v0.store.shape) v0 v1 c.in_ok-front.ensures.looks told)))
     (root_some tree v0.store.state.bytes root.page root.table key (c.requires.absent told c.in_ok-front.ensures.cause)) (c.requires.lists told c.in_ok-front.ensures.cause) c.in_ok-front.front (c.in_ok-front.ensures.says told) c.in_default.ensures.none)
 
-pub lose_pair-requires-clause-closed : goal.lose_pair-requires-clause-closed
-lose_pair-requires-clause-closed g c =
+pub lose_pair-requires-clause-may : goal.lose_pair-requires-clause-may
+lose_pair-requires-clause-may g c =
     let T = g.S.EawStore.tells in
     let V = g.S.EawStore.view in
     let E = g.S.EawStore.opens in
@@ -127,7 +129,8 @@ lose_pair-requires-clause-closed g c =
     let v2 = pages_of (V c.fetch_node.new.pages.store) c.fetch_node.new.pages in
     let looks = looks_next T E false v0 v1 v2 c.in_ok-front.ensures.looks c.in_ok-top.ensures.looks in
     let alive = c.in_ok-front.ensures.cause in
-    ap (λ (f : ℕ → Option ℕ). f c.args.tid) looks.tops ∙ c.requires.closed alive
+    may_yet T (E v0.store.shape) tree c.args.tid c.args.table c.args.root v0 v2 looks
+    (may_then T tree c.args.tid c.args.table c.args.root v0 c.requires.tid c.requires.table c.requires.closed alive c.requires.sound c.requires.named)
 
 pub returns-clause-removes : goal.returns-clause-removes
 returns-clause-removes g c =

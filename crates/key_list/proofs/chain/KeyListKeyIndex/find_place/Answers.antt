@@ -51,7 +51,7 @@ returns-then-slot-from-clause-cause g c =
       c.in_ok-at.ensures.cause,
       λ told.
           let given = led_given view.state.bytes c.args.root c.args.table c.args.key c.in_ok-at.at.page c.in-Some.slot c.page_for.new.bytes (sound_table view.state.bytes c.args.table c.args.root (c.requires.sound told c.in_ok-at.ensures.cause) (c.requires.named told c.in_ok-at.ensures.cause)) (c.in_ok-at.ensures.page told) (c.in_ok-at.ensures.bytes told) (sym c.slot_in.ensures ∙ c.in-Some.is) in
-          omega (arith, given, (c.requires.sound told c.in_ok-at.ensures.cause).0.slots, slots_are view.shape view.state.bytes (g.met.S.EawStore.long c.args.pages.now.store told), c.index_page_count-slots.ensures.all, c.if-slot-from.true, c.from.ensures),
+          omega (arith, given, (c.requires.sound told c.in_ok-at.ensures.cause).0.slots, slots_are view.shape view.state.bytes (g.met.S.EawStore.long c.args.pages.now.store told), c.index_page_count-count.ensures.all, c.if-slot-from.true, c.from.ensures),
     )
 
 pub returns-then-slot-from-clause-follows : goal.returns-then-slot-from-clause-follows

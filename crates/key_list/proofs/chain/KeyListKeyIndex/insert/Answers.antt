@@ -92,16 +92,20 @@ insert_here-requires g c =
     let alive = c.in_ok-at.ensures.cause in
     let slots_is : 8 * c.index_page_count-slots.result ≡ slots_of (g.S.EawStore.view c.args.pages.now.store).shape = omega (arith, c.index_page_count-slots.ensures.all, ap slots_of c.in_ok-at.ensures.looks.shape) in
     record {
-      tid = subst (λ (sh : Shape). c.args.tid < sh.numbers) (sym looks.shape) c.requires.tid;
-      table = c.requires.table;
-      closed = ap (λ (f : ℕ → Option ℕ). f c.args.tid) looks.tops ∙ c.requires.closed alive;
-      alive = alive_yet T E t root table key v0 v1 c.requires.sound looks alive;
-      sound = yet T E t root table key v0 v1 c.requires.sound looks alive IsSoundChain c.requires.sound;
-      named = yet T E t root table key v0 v1 c.requires.sound looks alive (λ (b : List ℕ). IsTable b c.args.table c.args.root) c.requires.named;
-      absent = yet T E t root table key v0 v1 c.requires.sound looks alive (λ (b : List ℕ). found (pairs_of_chain b c.args.root) c.args.key ≡ None) c.requires.absent;
-      located = subst (λ (sh : Shape). IsLocated sh c.in_ok-at.at.front c.in_ok-at.at.page c.in_ok-at.at.link c.in_ok-at.at.pairs.items) (sym looks.shape) c.in_ok-at.ensures.located;
-      said = yet T E t root table key v0 v1 c.requires.sound looks alive (λ (b : List ℕ). Locates b c.args.root c.args.key c.in_ok-at.at.front c.in_ok-at.at.page c.in_ok-at.at.link c.in_ok-at.at.pairs.items) (λ told living. c.in_ok-at.ensures.said told);
-      slot = λ none. subst (λ (n : ℕ). c.in_ok-at.at.front.next_slot < n) (slots_is ∙ ap slots_of (sym looks.shape)) (c.if-not-has_slot.ensures.0 refl none);
+      may = record {
+        number = subst (λ (sh : Shape). c.args.tid < sh.numbers) (sym looks.shape) c.requires.tid;
+        one_of = c.requires.table;
+        closed = ap (λ (f : ℕ → Option ℕ). f c.args.tid) looks.tops ∙ c.requires.closed alive;
+        alive = alive_yet T E t root table key v0 v1 c.requires.sound looks alive;
+        sound = yet T E t root table key v0 v1 c.requires.sound looks alive IsSoundChain c.requires.sound;
+        named = yet T E t root table key v0 v1 c.requires.sound looks alive (λ (b : List ℕ). IsTable b c.args.table c.args.root) c.requires.named;
+      };
+      place = record {
+        located = subst (λ (sh : Shape). IsLocated sh c.in_ok-at.at.front c.in_ok-at.at.page c.in_ok-at.at.link c.in_ok-at.at.pairs.items) (sym looks.shape) c.in_ok-at.ensures.located;
+        said = yet T E t root table key v0 v1 c.requires.sound looks alive (λ (b : List ℕ). Locates b c.args.root c.args.key c.in_ok-at.at.front c.in_ok-at.at.page c.in_ok-at.at.link c.in_ok-at.at.pairs.items) (λ told living. c.in_ok-at.ensures.said told);
+        absent = yet T E t root table key v0 v1 c.requires.sound looks alive (λ (b : List ℕ). found (pairs_of_chain b c.args.root) c.args.key ≡ None) c.requires.absent;
+        slot = λ none. subst (λ (n : ℕ). c.in_ok-at.at.front.next_slot < n) (slots_is ∙ ap slots_of (sym looks.shape)) (c.if-not-has_slot.ensures.0 refl none);
+      };
       room = room_for c.in_ok-at.at.pairs.items c.len.result c.len.ensures.value c.if-len-lt-PAIRS_MAX.true;
     }
 
@@ -142,16 +146,20 @@ insert_cut-requires g c =
     let alive = c.in_ok-at.ensures.cause in
     let slots_is : 8 * c.index_page_count-slots.result ≡ slots_of (g.S.EawStore.view c.args.pages.now.store).shape = omega (arith, c.index_page_count-slots.ensures.all, ap slots_of c.in_ok-at.ensures.looks.shape) in
     record {
-      tid = subst (λ (sh : Shape). c.args.tid < sh.numbers) (sym looks.shape) c.requires.tid;
-      table = c.requires.table;
-      closed = ap (λ (f : ℕ → Option ℕ). f c.args.tid) looks.tops ∙ c.requires.closed alive;
-      alive = alive_yet T E t root table key v0 v1 c.requires.sound looks alive;
-      sound = yet T E t root table key v0 v1 c.requires.sound looks alive IsSoundChain c.requires.sound;
-      named = yet T E t root table key v0 v1 c.requires.sound looks alive (λ (b : List ℕ). IsTable b c.args.table c.args.root) c.requires.named;
-      absent = yet T E t root table key v0 v1 c.requires.sound looks alive (λ (b : List ℕ). found (pairs_of_chain b c.args.root) c.args.key ≡ None) c.requires.absent;
-      located = subst (λ (sh : Shape). IsLocated sh c.in_ok-at.at.front c.in_ok-at.at.page c.in_ok-at.at.link c.in_ok-at.at.pairs.items) (sym looks.shape) c.in_ok-at.ensures.located;
-      said = yet T E t root table key v0 v1 c.requires.sound looks alive (λ (b : List ℕ). Locates b c.args.root c.args.key c.in_ok-at.at.front c.in_ok-at.at.page c.in_ok-at.at.link c.in_ok-at.at.pairs.items) (λ told living. c.in_ok-at.ensures.said told);
-      slot = λ none. subst (λ (n : ℕ). c.in_ok-at.at.front.next_slot < n) (slots_is ∙ ap slots_of (sym looks.shape)) (c.if-not-has_slot.ensures.0 refl none);
+      may = record {
+        number = subst (λ (sh : Shape). c.args.tid < sh.numbers) (sym looks.shape) c.requires.tid;
+        one_of = c.requires.table;
+        closed = ap (λ (f : ℕ → Option ℕ). f c.args.tid) looks.tops ∙ c.requires.closed alive;
+        alive = alive_yet T E t root table key v0 v1 c.requires.sound looks alive;
+        sound = yet T E t root table key v0 v1 c.requires.sound looks alive IsSoundChain c.requires.sound;
+        named = yet T E t root table key v0 v1 c.requires.sound looks alive (λ (b : List ℕ). IsTable b c.args.table c.args.root) c.requires.named;
+      };
+      place = record {
+        located = subst (λ (sh : Shape). IsLocated sh c.in_ok-at.at.front c.in_ok-at.at.page c.in_ok-at.at.link c.in_ok-at.at.pairs.items) (sym looks.shape) c.in_ok-at.ensures.located;
+        said = yet T E t root table key v0 v1 c.requires.sound looks alive (λ (b : List ℕ). Locates b c.args.root c.args.key c.in_ok-at.at.front c.in_ok-at.at.page c.in_ok-at.at.link c.in_ok-at.at.pairs.items) (λ told living. c.in_ok-at.ensures.said told);
+        absent = yet T E t root table key v0 v1 c.requires.sound looks alive (λ (b : List ℕ). found (pairs_of_chain b c.args.root) c.args.key ≡ None) c.requires.absent;
+        slot = λ none. subst (λ (n : ℕ). c.in_ok-at.at.front.next_slot < n) (slots_is ∙ ap slots_of (sym looks.shape)) (c.if-not-has_slot.ensures.0 refl none);
+      };
       full = full_with c.in_ok-at.at.pairs.items c.len.result c.len.ensures.value c.if-len-lt-PAIRS_MAX.false c.in_ok-at.ensures.located.most;
     }
 

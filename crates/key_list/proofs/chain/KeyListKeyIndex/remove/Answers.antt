@@ -1,5 +1,6 @@
 use Rattle.std.proofs.Common.{ℕ, Option, ◌∙◌, ap, ◌≤◌, List, Bool, [], ◌∷◌, refl, Result, Err, arith}
 use Rattle.page_store.specs.Shown.{pages_of}
+use Rattle.index_pages.proofs.May.{may_then, may_yet}
 use Rattle.index_pages.proofs.Removals.{removes_then}
 use Rattle.key_list.specs.Index.{chain}
 use Rattle.eaw_face.specs.State.{State}
@@ -14,8 +15,13 @@ use Rattle.key_list.proofs.Finding.{blamed_as, finds_fail, finds_then, both_only
 use Rattle.std.proofs.lemmas.Result.{err_from_is_err_and}
 use Rattle.key_list.proofs.chain.KeyListKeyIndex.remove.Goals as goal
 
-pub remove_here-requires-clause-closed : goal.remove_here-requires-clause-closed
-remove_here-requires-clause-closed g c = ap (λ (f : ℕ → Option ℕ). f c.args.tid) c.in_ok-at.ensures.looks.tops ∙ c.requires.closed c.in_ok-at.ensures.cause
+pub remove_here-requires-clause-may : goal.remove_here-requires-clause-may
+remove_here-requires-clause-may g c =
+    let V = g.S.EawStore.view in
+    let v0 = pages_of (V c.args.pages.now.store) c.args.pages.now in
+    let alive = c.in_ok-at.ensures.cause in
+    may_yet g.S.EawStore.tells (g.S.EawStore.opens v0.store.shape) chain c.args.tid c.args.table c.args.root v0 (pages_of (V c.locate.new.pages.store) c.locate.new.pages) c.in_ok-at.ensures.looks
+    (may_then g.S.EawStore.tells chain c.args.tid c.args.table c.args.root v0 c.requires.tid c.requires.table c.requires.closed alive c.requires.sound c.requires.named)
 
 pub returns-clause-removes : goal.returns-clause-removes
 returns-clause-removes g c =

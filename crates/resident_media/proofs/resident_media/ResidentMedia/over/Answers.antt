@@ -6,7 +6,7 @@ use Rattle.resident_media.proofs.resident_media.ResidentMedia.over.Goals as goal
 pub invariant_of-result : goal.invariant_of-result
 invariant_of-result g c =
     let len = c.min-len.result in
-    lies_anew g.M.Media.tells (g.M.Media.view c.args.inner) c.in-Ok.blocks len (end_block 0 len) _ c.moment-moment.result c.new-2.result.stood c.in-Ok.ensures.fresh c.moment-moment.ensures c.new-2.ensures
+    lies_anew g.M.Media.tells (g.M.Media.view c.args.inner) c.in-Ok.blocks len (end_block 0 len) _ c.moment-moment.result c.of.result.said c.in-Ok.ensures.fresh c.moment-moment.ensures c.of.ensures
     (omega arith) (omega (arith, c.in-Ok-with_capacity.ensures.exact))
 
 pub returns-clause-anew : goal.returns-clause-anew
@@ -14,6 +14,6 @@ returns-clause-anew g c = record {
   inner_is = search rules;
   moment = c.moment-moment.ensures;
   faults = search rules;
-  left = left_anew (g.M.Media.view c.args.inner) c.moment-moment.result 0 c.new-2.result.stood c.moment-moment.ensures c.new-2.ensures;
+  left = left_anew (g.M.Media.view c.args.inner) c.moment-moment.result 0 c.of.result.said c.moment-moment.ensures c.of.ensures;
   kept = c.in-Ok.ensures.fresh ∙ ap (λ (n : ℕ). fresh n (end_block 0 n)) (omega arith);
 }

@@ -1,0 +1,5 @@
+use Rattle.std.proofs.Common.{[]}
+use Rattle.ghost_notes.proofs.notes.Notes.new.Given as goal
+
+abbrev pub ghost-of : goal.ghost-of
+ghost-of g a = []
