@@ -194,7 +194,7 @@ module _ {C : Type 0} (f : Face C) (setup : Setup C) where
             (subst (λ (given : Option (Setup C)). IsCovered (touched (names_in given) (unwrap_or (live_of k') [])) k'.holds) fit.setup_is m.covered)))
             (h.locks.covered alive);
       } in
-      relocked f setup s h (set s.words t w) s.homes (set s.views id u) hs (now_of h.met k.number k'.met) (length-set s.words t w ∙ h.wide) h.one
+      relocked f setup s h (set s.words t w) s.homes (set s.views id u) hs (now_of h.met k.number k'.met) (length-set s.words t w ∙ h.wide, h.one)
       (get_or-set_other s.words t 65 w 0 (λ e. omega arith) ∙ h.told) (place_kept s h.core id t w v u l at refl refl h.place)
       (each_set (λ i z. z.stage ≡ stage.Shared) s.views id u refl (λ j z _ e. h.staged j z e))
       (each_set (λ i z. AllFit f.tells f.show setup h.turns (f.show h.core).state z.passes) s.views id u (fit, tt) (λ j z _ e. h.fit j z e))

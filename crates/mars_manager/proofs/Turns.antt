@@ -123,20 +123,20 @@ module _ {C : Type 0} (f : Face C) (setup : Setup C) where
   fit_before turns core n k h = record { setup_is = h.setup_is; last = h.last; heard = h.heard }
 
   -- The rule holds again if the core and its run stay as they were, as many passes of each number are there, and what they have is locked.
-  pub relocked : (s : TableOf C) (h : IsKept f setup s) (words : List ℕ) (homes : List (Home (Option C))) (views : List (View C)) (holds : ℕ → List Hold) (met : ℕ → List Met) → length words ≡ 66 → length homes ≡ 1
+  pub relocked : (s : TableOf C) (h : IsKept f setup s) (words : List ℕ) (homes : List (Home (Option C))) (views : List (View C)) (holds : ℕ → List Hold) (met : ℕ → List Met) → (length words ≡ 66) × (length homes ≡ 1)
       → get_or words 65 0 ≡ length (f.show h.core).state.history
       → (let new : TableOf C = record { words = words; homes = homes; views = views } in IsFree h.core new ⊎ IsHeld h.core new
       → ((i : ℕ) (v : View C) → get_elem? views i ≡ some v → v.stage ≡ Shared)
       → ((i : ℕ) (v : View C) → get_elem? views i ≡ some v → AllFit f.tells f.show setup h.turns (f.show h.core).state v.passes)
       → ((n : ℕ) → count n views ≡ count n s.views) → AreLocked setup.callers setup.names (f.show h.core).state holds met words views → IsKept f setup new)
-  relocked s h words homes views holds met wide one told place staged fit counts locks = record {
+  relocked s h words homes views holds met sized told place staged fit counts locks = record {
     core = h.core;
     turns = h.turns;
     holds = holds;
     met = met;
     locks = locks;
-    wide = wide;
-    one = one;
+    wide = sized.0;
+    one = sized.1;
     told = told;
     place = place;
     staged = staged;
@@ -158,7 +158,7 @@ module _ {C : Type 0} (f : Face C) (setup : Setup C) where
       → ((i : ℕ) (v : View C) → get_elem? views i ≡ some v → v.stage ≡ Shared)
       → ((i : ℕ) (v : View C) → get_elem? views i ≡ some v → AllFit f.tells f.show setup h.turns (f.show h.core).state v.passes)
       → ((n : ℕ) → count n views ≡ count n s.views) → ((t : ℕ) → t < 64 → get_or words t 0 ≡ get_or s.words t 0) → ((i : ℕ) (v : View C) → get_elem? views i ≡ some v → AllHave h.holds h.met v.passes) → IsKept f setup new)
-  same_run s h words homes views wide one told place staged fit counts stripes have = relocked s h words homes views h.holds h.met wide one told place staged fit counts
+  same_run s h words homes views wide one told place staged fit counts stripes have = relocked s h words homes views h.holds h.met (wide, one) told place staged fit counts
       (locked_same setup.callers setup.names (f.show h.core).state h.holds h.met s.words words s.views views h.locks stripes have)
 
   -- A step of one seat keeps the rule if it leaves the core, the seat's passes and the number of words and homes, and what it changes is right.
