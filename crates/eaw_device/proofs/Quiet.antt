@@ -148,9 +148,9 @@ module _ (tells : Bool) (old new : View) (shape : Shape) (logs : List Log) (late
   pub quiet_done : new.faults ≡ old.faults → (IsTrue tells → data_with shape late'.queue new.content.bytes ≡ data_with shape late.queue old.content.bytes)
       → (let ok : Result (Unit {0}) EawFault = Ok tt in IsQuiet tells (Opens shape) (view_of old shape logs late is_dead) (view_of new shape logs late' is_dead) ok)
   quiet_done kept whole = quiet_so is_dead (Ok tt) kept alive (λ told.
-        let bytes = alive_shown shape late' is_dead new.content.bytes alive ∙ whole told ∙ sym (alive_shown shape late is_dead old.content.bytes alive) in
-        let logs_same = λ (u : ℕ). others_kept shape logs old.content.bytes new.content.bytes u (sound.kept u) (same told u) in
-        λ i. record { bytes = bytes i; logs = λ u. logs_same u i }) tt
+      let bytes = alive_shown shape late' is_dead new.content.bytes alive ∙ whole told ∙ sym (alive_shown shape late is_dead old.content.bytes alive) in
+      let logs_same = λ (u : ℕ). others_kept shape logs old.content.bytes new.content.bytes u (sound.kept u) (same told u) in
+      λ i. record { bytes = bytes i; logs = λ u. logs_same u i }) tt
 
   pub quiet_failed : Rose old.faults new.faults → (let failed : Result (Unit {0}) EawFault = Err Media in IsQuiet tells (Opens shape) (view_of old shape logs late is_dead) (view_of new shape logs late' true) failed)
   quiet_failed rose = quiet_so true (Err Media) tt tt (λ told. tt) (refl, refl, rose)

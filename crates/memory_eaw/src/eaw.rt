@@ -352,7 +352,7 @@ impl EawStore for MemoryEaw {
     ghost use Rattle.std.specs.Prelude.{true, refl};
     ghost use Rattle.std.proofs.Common.{sym, ◌∙◌};
     ghost use Rattle.std.proofs.Math.Nat.{le_refl};
-        ghost use Rattle.memory_eaw.specs.Shown.{plain_of, shown, kept_of};
+    ghost use Rattle.memory_eaw.specs.Shown.{plain_of, shown, kept_of};
     ghost use Rattle.memory_eaw.specs.Calls.{plain_calls};
     ghost use Rattle.memory_eaw.specs.Laws.{beyond_in, placed_in, some_now, counts_now, only_now};
 
