@@ -21,10 +21,10 @@ returns-clause-stands g c =
         callers_are = ready.callers_are ∙ sym (ap (λ (v : CoreView). v.limits.callers) same);
         alive = ap (λ (v : CoreView). v.state.is_dead) same ∙ ready.alive;
       };
-      faults = gives.faults;
+      faults = gives.same.faults;
       stands = λ told progress stood. (
-        subst (λ (v : CoreView). Stands v progress) (sym same) (stands_on core new.left_since gives.left progress stood.0),
+        subst (λ (v : CoreView). Stands v progress) (sym same) (stands_on core new.left_since gives.same.left progress stood.0),
         subst (λ (v : CoreView). IsShown v) (sym same) stood.1,
       );
-      comes = λ told ready progress stood. subst (λ (v : CoreView). Comes core progress v progress) (sym same) (comes_on core new.left_since gives.left progress stood.0);
+      comes = λ told ready progress stood. subst (λ (v : CoreView). Comes core progress v progress) (sym same) (comes_on core new.left_since gives.same.left progress stood.0);
     }
