@@ -51,6 +51,7 @@ use Rattle.told_commands.specs.Purge.{PurgedBy}
 use Rattle.told_commands.specs.Told.{HasNames, WorksOn}
 use Rattle.array_runs.specs.declared.status.Status.{Status}
 use Rattle.array_runs.specs.declared.status.Status.TheVariants.{Good, Usage, TooLong, ReadFault, WriteFault, MediaFault, NoMemory, Damaged, BadRow, NotMars, BadShape, Refused, BadFrame, Gap}
+use Rattle.array_runs.proofs.Short.{data_short}
 use Rattle.array_runs.proofs.Forming.{sound_is_own}
 
 -- ---- what is asked for
