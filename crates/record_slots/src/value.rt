@@ -1,4 +1,4 @@
-ghost use Rattle.std.specs.Prelude.{◌≡◌};
+ghost use Rattle.std.specs.Prelude.{◌≡◌, ◌≤◌, ◌*◌, length};
 ghost use Rattle.std.specs.List.{list_all};
 ghost use Rattle.std.specs.Option.{SomeIff};
 ghost use Rattle.record_slots.specs.Text.{IsValue, is_visible};
@@ -54,8 +54,36 @@ impl Value {
     }
 }
 
+// Whether all bytes are visible.
 fn all_visible(text: &[u8]) -> bool
+    requires { length text.now ≤ 64 }
     ensures { result ≡ list_all is_visible text.now }
 {
-    text.iter().all(|byte| (0x21..=0x7E).contains(byte))
+    match text.len() {
+        32.. => ends_visible::<32>(text),
+        16.. => ends_visible::<16>(text),
+        8.. => ends_visible::<8>(text),
+        _ => each_visible(text),
+    }
+}
+
+// The same of a text of `N` to `2 * N` bytes: its first `N` and its last `N` are all of it.
+fn ends_visible<const N: usize>(text: &[u8]) -> bool
+    requires least { N ≤ length text.now }
+    requires most { length text.now ≤ 2 * N }
+    ensures { result ≡ list_all is_visible text.now }
+{
+    each_visible(&text[..N]) & each_visible(&text[text.len() - N..])
+}
+
+// The same with no branch between the bytes, so that a compiler tests those of a known number together.
+#[inline(always)]
+fn each_visible(text: &[u8]) -> bool
+    ensures { result ≡ list_all is_visible text.now }
+{
+    let mut all = true;
+    for byte in text {
+        all &= (0x21..=0x7E).contains(byte);
+    }
+    all
 }
