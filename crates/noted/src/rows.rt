@@ -18,13 +18,13 @@ pub struct NotedRows<H: Keeper> {
 }
 
 impl<H: Keeper> Model for NotedRows<H> {
-    ghost use Rattle.std.specs.Prelude.{List, ℕ, ◌≡◌, IsTrue, IsSome, IfSome};
+    ghost use Rattle.std.specs.Prelude.{List, ℕ, ◌≡◌, ◌↔◌, IsTrue, IsSome, IfSome};
 
     ghost Value = { List (ℕ × List ℕ) };
 
     ghost view = { λ r. r.notes.said };
 
-    ghost invariant = { λ r. IfSome r.kept (λ rows. rows ≡ r.notes.said) × (IsTrue H.keeps → IsSome r.kept) };
+    ghost invariant = { λ r. IfSome r.kept (λ rows. rows ≡ r.notes.said) × (IsSome r.kept ↔ IsTrue H.keeps) };
 }
 
 impl<H: Keeper> NotedRows<H> {
@@ -48,16 +48,13 @@ impl<H: Keeper> NotedRows<H> {
         ensures ok { OnOk result (self.new ≡ self.old ++ (key, value) ∷ []) }
         ensures err { OnErr result (self.new ≡ self.old) }
     {
-        // What keeps nothing is known as the program is built, and then the value need not be made.
-        if !H::keeps() {
-            self.kept = None;
-            self.notes = self.notes.then(&(key, &value));
-            return Ok(());
-        }
         let told = self.notes.then(&(key, &value));
-        if let Some(rows) = &mut self.kept {
-            if rows.push(key, value).is_err() {
-                return Err(NoMemory);
+        // Whether rows are kept is known as the program is built, and where none are, nothing is left of this.
+        if H::keeps() {
+            if let Some(rows) = &mut self.kept {
+                if rows.push(key, value).is_err() {
+                    return Err(NoMemory);
+                }
             }
         }
         self.notes = told;
