@@ -10,7 +10,7 @@ use Rattle.array_shape.specs.declared.shape.Shape.{Shape}
 use Rattle.array_shape.specs.Places.{data_len}
 use Rattle.array_shape.specs.Places as array
 use Rattle.array_shape.specs.Logged.{Part, applied, AllFit}
-use Rattle.record_slots.specs.Free.{free_slot_said}
+use Rattle.record_slots.specs.Free.{free_said}
 use Rattle.record_slots.specs.Slots.{slot_bytes}
 use Rattle.record_slots.specs.Super.{SaysSuper, part_bytes}
 use Rattle.record_slots.specs.declared.free.Free.{Free}
@@ -587,7 +587,7 @@ module _ (shape : Shape) (old : List ℕ) (half : ℕ) (long : length old ≡ da
 
     slots_lost : FreeSlots lost
     slots_lost = slots_back old lost slot whole.slots frees next_slots had.0
-        (λ x some. ap free_slot_said (lost_is.slots x (λ e. some (ap (λ (j : ℕ). free_slot_of old j) e ∙ carries_not_free old table (key, slot) had.1))))
+        (λ x some. ap (free_said 0xF0 2) (lost_is.slots x (λ e. some (ap (λ (j : ℕ). free_slot_of old j) e ∙ carries_not_free old table (key, slot) had.1))))
 
     pages_lost : FreePages lost
     pages_lost = free_pages_stay old lost whole.pages next_pages pages_first pages_many
