@@ -19,7 +19,7 @@ use Rattle.page_store.specs.Pairs.{Pair, Rise, found}
 use Rattle.page_store.specs.Index.{Index, IsTable, HasCounts, KeepsIndex, Grows, Rests, Gains, IsEmptyRoot, Extends}
 use Rattle.index_keys.specs.Keys.{GainsKey, KeepsKeys, TakesPages}
 use Rattle.record_table.specs.Names.{IsCalled, names_of, name_at, key_in}
-use Rattle.record_table.specs.Shown.{KeyPair, found_key, write_said, pairs_from, pairs_of, level_under, keys_of}
+use Rattle.record_table.specs.Shown.{KeyPair, found_key, write_said, pairs_from, pairs_of, keys_of}
 use Rattle.record_table.proofs.Joint.{root_in, pairs_same, tables_apart, found_some, found_from, found_inserted}
 
 -- what an index guarantees about its data
@@ -153,6 +153,13 @@ pub pairs_rest : (index : Index) (d e : List ℕ) → tables_of e ≡ tables_of 
 unfolding pairs_of
 pairs_rest index d e tables same =
     ap (pairs_from index e) tables ∙ pairs_same index d e (tables_of d) same
+
+-- what the index with this root says: its levels, and the pages of a removal; none without a root
+abbrev pub level_under : Index → List ℕ → Option ℕ → ℕ
+level_under index bytes root = unwrap_or (option_map (index.level bytes) root) 0
+
+abbrev pub removal_under : Index → List ℕ → ℕ → Option ℕ → Option (List ℕ)
+removal_under index bytes key root = unwrap_or (option_map (λ page. index.removal bytes page key) root) None
 
 pub level_same : (index : Index) (d e : List ℕ) (table : ℕ) → tables_of e ≡ tables_of d → ((root : ℕ) → IsTable d table root → index.level e root ≡ index.level d root)
     → level_under index e (root_of e table) ≡ level_under index d (root_of d table)
