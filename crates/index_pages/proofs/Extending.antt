@@ -1,12 +1,11 @@
 -- A super page that names further tables: all but the index of each table.
-use Rattle.std.proofs.Common.{◌≡◌, ℕ, ◌-◌, ◌<◌, ◌≤◌, List, sym, ◌∙◌, ap, subst, arith}
+use Rattle.std.proofs.Common.{◌≡◌, ℕ, ◌-◌, List, sym, ◌∙◌, ap, subst, arith}
 use Rattle.record_slots.specs.Free.{member_at, free_said}
 use Rattle.record_slots.specs.IndexHead.{index_head_said}
 use Rattle.record_slots.specs.Slots.{slot_said}
-use Rattle.record_slots.specs.Places.{next_page, next_slot, free_slots, free_pages, free_slot, free_page, free_slot_of, free_page_of, slot_of, IsOfKey, Carries, IsSuper}
+use Rattle.record_slots.specs.Places.{next_page, next_slot, free_slots, free_pages, free_slot, free_page, free_slot_of, free_page_of, IsOfKey, Carries, IsSuper}
 use Rattle.record_slots.specs.declared.index_head.IndexHead.{IndexHead}
 use Rattle.page_store.specs.Index.{IsEmptyRoot, Extends}
-use Rattle.page_store.specs.Pairs.{Pair}
 use Rattle.mars_base.specs.Check.{Check}
 use Rattle.index_pages.specs.Page.{kind_said, level_said, count_said, link_said}
 use Rattle.index_pages.specs.Ways.{Keeps}

@@ -1,5 +1,5 @@
 -- The super page after a write of the part that changes, and after writes into slots.
-use Rattle.std.proofs.Common.{◌≡◌, ℕ, ◌+◌, ◌*◌, ◌<◌, ◌≤◌, List, length, get_or, take, sym, ◌∙◌, ap, subst, arith}
+use Rattle.std.proofs.Common.{◌≡◌, ℕ, ◌+◌, ◌*◌, ◌<◌, ◌≤◌, List, get_or, take, sym, ◌∙◌, ap, subst, arith}
 use Rattle.std.proofs.lemmas.List.{get_or-take, take-take}
 use Rattle.mars_base.specs.Bytes.{range}
 use Rattle.record_slots.specs.Super.{HasSuperMark, HasTables, SaysSuper, AreTables, version_said, form_said, next_said, entries_said, tables_said, tables_in, part_bytes, tables_used}

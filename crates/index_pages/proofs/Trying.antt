@@ -1,6 +1,6 @@
 -- How far a test has come: what it has read so far, and what is left of its plan.
 use Rattle.std.proofs.Common.{◌≡◌, ◌≢◌, ℕ, zero, suc, ◌+◌, ◌-◌, ◌*◌, ◌/◌, ◌%◌, ◌<◌, ◌≤◌, ◌⊎◌, inl, inr, Bool, true, false, List, [], ◌∷◌, ◌++◌, Option, Some, None, Result, Ok, Err, refl, sym, ◌∙◌, ap, subst, arith}
-use Rattle.std.specs.Prelude.{IsTrue, IsFalse}
+use Rattle.std.specs.Prelude.{IsTrue}
 use Rattle.std.proofs.lemmas.Bool.{false≢true}
 use Rattle.std.proofs.lemmas.List.{append-nil, append_assoc}
 use Rattle.array_shape.specs.declared.shape.Shape.{Shape}
@@ -25,7 +25,7 @@ use Rattle.page_store.specs.Faults.{as_check}
 use Rattle.record_slots.specs.Super.{SaysSuper, HasTables, version_said, next_said, entries_said}
 use Rattle.index_pages.specs.Fetched.{IsFront, ReadCause, TestCause}
 use Rattle.mars_base.specs.Costs.{Costs}
-use Rattle.std.specs.Prelude.{OnOk, IsOk, IfSome, nat_eq}
+use Rattle.std.specs.Prelude.{OnOk, IfSome, nat_eq}
 use Rattle.std.specs.Option.{option_map}
 use Rattle.std.proofs.lemmas.Bool.Decides.{eqb_tells}
 use Rattle.page_store.specs.Index.{index_pages_of}

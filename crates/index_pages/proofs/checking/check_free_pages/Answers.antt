@@ -10,16 +10,11 @@ use Rattle.index_pages.proofs.Members.{names_fail, rank_fails, rank_on, rank_is}
 use Rattle.index_pages.proofs.Tests.{check_looks}
 use Rattle.page_store.specs.Looks.{is_failed}
 use Rattle.page_store.specs.declared.fault.PageFault.{PageFault}
-use Rattle.std.proofs.Common.{suc, ◌*◌, ◌/◌, ◌%◌, List}
-use Rattle.page_store.specs.Index.{index_pages_of}
-use Rattle.page_store.specs.Tested.{Plan, Brings, holding, HasReadBytes}
-use Rattle.page_store.specs.Follows.{HasRead, one_reading}
-use Rattle.page_store.specs.declared.index_fault.CheckFault.{CheckFault}
-use Rattle.page_store.specs.declared.index_fault.CheckFault.TheVariants.{Damaged}
-use Rattle.record_slots.specs.Places.{page_bytes, slot_of}
+use Rattle.std.proofs.Common.{suc}
+use Rattle.record_slots.specs.Places.{page_bytes}
 use Rattle.record_slots.specs.Free.{free_said}
-use Rattle.index_pages.specs.Plans.{Tries, list_plan, free_page_plan, free_pages_plan, one_excerpt}
-use Rattle.index_pages.proofs.Trying.{SoFar, so_first, so_holds, so_bad, so_passes, so_read, so_page, so_page_err, so_bytes_err, so_member, so_listed, so_ranked}
+use Rattle.index_pages.specs.Plans.{list_plan, free_page_plan, free_pages_plan}
+use Rattle.index_pages.proofs.Trying.{SoFar, so_first, so_holds, so_bad, so_passes, so_page, so_page_err, so_member, so_listed, so_ranked}
 use Rattle.std.proofs.lemmas.Result.{err_from_is_err_and}
 use Rattle.index_pages.proofs.checking.check_free_pages.Goals as goal
 
