@@ -6,7 +6,7 @@ use Rattle.record_slots.specs.declared.super_page.Super.{Super}
 use Rattle.page_store.specs.Pairs.{Pair}
 use Rattle.page_store.specs.Works.{LiesIn, IsAmong}
 use Rattle.index_pages.specs.Keys.{key_at}
-use Rattle.btree_pages.specs.Index.{half_for}
+use Rattle.index_pages.specs.Actions.{half_for}
 use Rattle.btree_pages.specs.Writes.{cutting_pages, cutting_parts, growing_pages, growing_parts}
 
 pub cutting_in : (after : Super) (page level : ℕ) (pairs : List Pair) (taken parent : ℕ) (above : List Pair) → AllZip LiesIn (cutting_pages page taken parent) (cutting_parts after page level pairs taken parent above)

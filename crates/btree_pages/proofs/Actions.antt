@@ -18,7 +18,8 @@ use Rattle.btree_laws.specs.Sound.{IsTree}
 use Rattle.btree_laws.specs.Tree.{IsUnder}
 use Rattle.btree_laws.specs.TreeFacts.{tree_level}
 use Rattle.btree_pages.proofs.Descending.{child_step}
-use Rattle.btree_pages.specs.Index.{actions_below, adding, cutting, half_for, half_pairs}
+use Rattle.btree_pages.specs.Index.{actions_below, cutting, half_pairs}
+use Rattle.index_pages.specs.Actions.{adding, half_for}
 use Rattle.btree_laws.specs.declared.root.Root.{Root}
 
 -- a half of the entries that has the key in its range has the key's child

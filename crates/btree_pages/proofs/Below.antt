@@ -35,7 +35,8 @@ use Rattle.index_pages.proofs.Writing.{small_take}
 use Rattle.btree_laws.specs.Descent.{child_for}
 use Rattle.btree_laws.specs.Tree.{pairs_of_tree}
 use Rattle.btree_laws.specs.declared.root.Root.{Root}
-use Rattle.btree_pages.specs.Index.{tree, tree_below, adding, cutting, half_for, half_pairs, actions_below, AreSoundTrees}
+use Rattle.btree_pages.specs.Index.{tree, tree_below, cutting, half_pairs, actions_below, AreSoundTrees}
+use Rattle.index_pages.specs.Actions.{adding, half_for}
 use Rattle.btree_pages.specs.OnWay.{IsOnWay, IsReached}
 use Rattle.btree_pages.specs.Trees.{trees_count, table_sound}
 use Rattle.btree_pages.proofs.Actions.{half_same}

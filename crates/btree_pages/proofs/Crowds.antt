@@ -11,7 +11,8 @@ use Rattle.btree_laws.specs.Sound.{IsTree}
 use Rattle.btree_laws.specs.TreeFacts.{tree_level}
 use Rattle.btree_laws.specs.declared.root.Root.{Root}
 use Rattle.btree_pages.specs.Crowded.{is_full, is_full_below, is_crowded}
-use Rattle.btree_pages.specs.Index.{adding, half_for, actions_below, tree_actions}
+use Rattle.btree_pages.specs.Index.{actions_below, tree_actions}
+use Rattle.index_pages.specs.Actions.{adding, half_for}
 use Rattle.btree_pages.proofs.Descending.{Down, child_step}
 
 -- a test that fails has no part that holds

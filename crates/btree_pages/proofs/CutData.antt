@@ -39,7 +39,8 @@ use Rattle.btree_laws.proofs.Splitting.{halves, sound_tree_splits, under_self, c
 use Rattle.btree_laws.proofs.Ways.{Way, way_of, way_under, child_some, page_for_last}
 use Rattle.btree_pages.specs.OnWay.{IsOnWay}
 use Rattle.btree_pages.specs.Writes.{IsRead, cutting_parts}
-use Rattle.btree_pages.specs.Index.{tree, AreSoundTrees, half_for, half_pairs, actions_below}
+use Rattle.btree_pages.specs.Index.{tree, AreSoundTrees, half_pairs, actions_below}
+use Rattle.index_pages.specs.Actions.{half_for}
 use Rattle.btree_pages.specs.Trees.{table_sound}
 use Rattle.btree_pages.proofs.Actions.{half_actions}
 use Rattle.btree_pages.proofs.Descending.{Child, child_step}

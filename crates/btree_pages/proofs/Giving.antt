@@ -1,7 +1,7 @@
 -- What the super page and the lists of what is free say once a slot, and maybe a page, were given back.
 use Rattle.std.proofs.Common.{◌≡◌, ◌≢◌, ℕ, ◌+◌, ◌*◌, ◌<◌, ◌≤◌, List, length, Some, None, refl, sym, ◌∙◌, ap, arith}
 use Rattle.mars_base.specs.Bytes.{range}
-use Rattle.record_slots.specs.Free.{free_slot_said, free_page_said, free_slot_bytes, free_page_bytes}
+use Rattle.record_slots.specs.Free.{free_said, free_slot_bytes, free_page_bytes}
 use Rattle.record_slots.specs.Super.{SaysSuper, part_bytes}
 use Rattle.record_slots.specs.Places.{page_bytes, page_count, slot_of, next_slot, next_page, tables_of, free_slot_of, free_page_of, IsSuper, Carries}
 use Rattle.record_slots.specs.declared.free.Free.{Free}
@@ -47,7 +47,7 @@ module _ (old : List ℕ) (half : ℕ) (size : length old ≡ 512 * (half + half
   not_free = carries_not_free old table (key, slot) carries
 
   same_slots : (x : ℕ) → free_slot_of old x ≢ None → free_slot_of new x ≡ free_slot_of old x
-  same_slots x some = ap free_slot_said (others x (λ e. some (ap (λ (j : ℕ). free_slot_of old j) e ∙ not_free)))
+  same_slots x some = ap (free_said 0xF0 2) (others x (λ e. some (ap (λ (j : ℕ). free_slot_of old j) e ∙ not_free)))
 
   -- no page was freed
   module _ (part : range new 8 280 ≡ part_bytes given) where
@@ -131,7 +131,7 @@ module _ (old : List ℕ) (half : ℕ) (size : length old ≡ 512 * (half + half
       tables = after_front.1;
       version = version_kept old new mark;
       slots = slots_back old new slot whole.slots after_frees after_slots less same_slots;
-      pages = pages_back old new page whole.pages given_page after_pages from below (λ x some from' to. ap free_page_said (kept x some from' to));
+      pages = pages_back old new page whole.pages given_page after_pages from below (λ x some from' to. ap (free_said 0xFF 4) (kept x some from' to));
       freed = after_frees;
       next_slots = after_slots;
       next_pages = after_pages;

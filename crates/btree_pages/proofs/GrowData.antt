@@ -33,7 +33,8 @@ use Rattle.btree_laws.specs.declared.root.Root.{Root}
 use Rattle.btree_laws.proofs.Belonging.{StaysGrown, tree_stays_grown}
 use Rattle.btree_laws.proofs.Splitting.{sound_tree_grows, under_self}
 use Rattle.btree_pages.specs.Writes.{IsRead, growing_parts}
-use Rattle.btree_pages.specs.Index.{tree, AreSoundTrees, half_for, half_pairs, actions_below}
+use Rattle.btree_pages.specs.Index.{tree, AreSoundTrees, half_pairs, actions_below}
+use Rattle.index_pages.specs.Actions.{half_for}
 use Rattle.btree_pages.specs.Trees.{table_sound}
 use Rattle.btree_pages.proofs.Actions.{half_actions}
 use Rattle.btree_pages.proofs.Halving.{AreWritten, are_written, is_half, takes_due, taken_says}

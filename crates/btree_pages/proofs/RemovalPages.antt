@@ -11,7 +11,8 @@ use Rattle.btree_laws.proofs.Staying.{last_not}
 use Rattle.btree_laws.specs.Descent.{leaf_for}
 use Rattle.btree_laws.specs.Removals.{parent_for, right_of, stays_last}
 use Rattle.btree_laws.specs.Tree.{pairs_of_tree}
-use Rattle.btree_pages.specs.Index.{tree_removal, removal_pages, losing, emptying}
+use Rattle.btree_pages.specs.Index.{tree_removal, removal_pages, emptying}
+use Rattle.index_pages.specs.Actions.{losing}
 use Rattle.index_pages.proofs.PageFacts.{length-page_pairs}
 
 module _ (bytes : List ℕ) (root key slot at : ℕ) (place : slot_page bytes slot ≡ at) (is : found (pairs_of_tree bytes root) key ≡ Some slot) where

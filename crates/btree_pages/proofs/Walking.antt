@@ -13,7 +13,8 @@ use Rattle.index_pages.proofs.PageFacts.{length-page_pairs}
 use Rattle.btree_laws.specs.Descent.{child_for}
 use Rattle.btree_laws.specs.declared.root.Root.{Root}
 use Rattle.btree_laws.proofs.Ways.{page_for_last}
-use Rattle.btree_pages.specs.Index.{adding, cutting, growing, half_for, actions_below, tree_actions}
+use Rattle.btree_pages.specs.Index.{cutting, growing, actions_below, tree_actions}
+use Rattle.index_pages.specs.Actions.{adding, half_for}
 use Rattle.btree_pages.specs.OnWay.{IsOnWay, IsReached}
 use Rattle.index_pages.proofs.Left.{DecidesAll, all_left, one_done, pages_lack}
 

@@ -33,7 +33,8 @@ use Rattle.index_pages.proofs.PageFacts.{length-page_pairs}
 use Rattle.index_pages.proofs.Sizes.{index_pages_are}
 use Rattle.btree_laws.specs.Tree.{pairs_of_tree}
 use Rattle.btree_laws.specs.declared.root.Root.{Root}
-use Rattle.btree_pages.specs.Index.{tree, tree_below, growing, half_for, half_pairs, tree_actions, actions_below, AreSoundTrees, IsOpenLeaf}
+use Rattle.btree_pages.specs.Index.{tree, tree_below, growing, half_pairs, tree_actions, actions_below, AreSoundTrees, IsOpenLeaf}
+use Rattle.index_pages.specs.Actions.{half_for}
 use Rattle.btree_pages.specs.Node.{IsNode}
 use Rattle.btree_pages.specs.OnWay.{IsReached}
 use Rattle.btree_pages.specs.Trees.{table_sound, trees_count}

@@ -3,9 +3,10 @@ use Rattle.std.specs.Prelude.{ℕ, zero, suc, ◌≡◌, nat_eq, nat_lt, nat_le,
 use Rattle.std.specs.Option.{unwrap_or}
 use Rattle.mars_base.specs.Check.{Check}
 use Rattle.record_slots.specs.Places.{first_slot_page, slot_page, slot_due, page_due}
+use Rattle.page_store.specs.Access.{Access}
 use Rattle.page_store.specs.Index.{Action, Index}
 use Rattle.page_store.specs.Pairs.{Pair, found}
-use Rattle.index_pages.specs.Keys.{key_at}
+use Rattle.index_pages.specs.Actions.{adding, losing, half_for}
 use Rattle.index_pages.specs.Page.{level_of, count_of, page_pairs}
 use Rattle.index_pages.specs.Slots.{index_check}
 use Rattle.index_pages.specs.Within.{within}
@@ -19,16 +20,16 @@ use Rattle.btree_laws.specs.Tree.{tree_check, pairs_of_tree, IsPageOfTree}
 abbrev pub tree_of : List ℕ → ℕ → ℕ → Check ℕ
 tree_of bytes root table = tree_check (record { page = root; table = table }) bytes
 
+-- the trees of all tables
+abbrev pub trees_check : List ℕ → Check ℕ
+trees_check bytes = index_check 1 tree_of bytes
+
 -- data whose trees are sound; and the page that fails first
 abbrev pub AreSoundTrees : List ℕ → Type 0
-AreSoundTrees bytes = index_check 1 tree_of bytes None
+AreSoundTrees bytes = trees_check bytes None
 
 abbrev pub IsFirstDamagedOfTrees : List ℕ → ℕ → Type 0
-IsFirstDamagedOfTrees bytes page = index_check 1 tree_of bytes (Some page)
-
--- adding a pair: the slot that is due, the leaf, the super page
-abbrev pub adding : List ℕ → ℕ → Action
-adding bytes leaf = record { pages = slot_page bytes (slot_due bytes) ∷ leaf ∷ 0 ∷ []; takes = 0 }
+IsFirstDamagedOfTrees bytes page = trees_check bytes (Some page)
 
 -- splitting a full page: the page, the page that is taken for its upper half, the parent, the super page
 abbrev pub cutting : ℕ → ℕ → ℕ → Action
@@ -42,13 +43,9 @@ growing bytes root = record {
   takes = if nat_lt (level_of bytes root) 7 then 2 else first_slot_page bytes;
 }
 
--- which half of 30 pairs has the key in its range; the left half has 15
-abbrev pub half_for : List Pair → ℕ → ℕ → ℕ → ℕ
-half_for pairs left right key = if nat_lt key (key_at pairs 15) then left else right
-
 -- the pairs of that half
 abbrev pub half_pairs : List Pair → ℕ → List Pair
-half_pairs pairs key = if nat_lt key (key_at pairs 15) then take 15 pairs else drop 15 pairs
+half_pairs pairs key = half_for pairs (take 15 pairs) (drop 15 pairs) key
 
 -- The actions on the way down to a key, from a page with room that is this many levels above the leaves. What that page said before the
 -- insertion is now in page `now`, and so many pages were taken before.
@@ -76,10 +73,6 @@ pub record IsOpenLeaf (bytes : List ℕ) (root key page : ℕ) (pairs : List Pai
   pub pairs_are : pairs ≡ page_pairs bytes page
   pub alone : tree_actions bytes root key ≡ adding bytes page ∷ []
 
--- The pages of a removal's parts. The leaf of the key loses its pair: the slot, the leaf, the super page.
-abbrev pub losing : List ℕ → ℕ → ℕ → List ℕ
-losing bytes slot leaf = slot_page bytes slot ∷ leaf ∷ 0 ∷ []
-
 -- A leaf without another pair takes those of the page to its right, which is freed; or it is the last of its parent, and is freed itself.
 abbrev pub emptying : List ℕ → ℕ → ℕ → ℕ → ℕ → List ℕ
 emptying bytes slot leaf parent right =
@@ -98,14 +91,19 @@ tree_removal bytes root key =
 
 abbrev pub tree : Index
 tree = record {
-  sound = AreSoundTrees;
-  fails = IsFirstDamagedOfTrees;
+  sound = λ bytes. trees_check bytes None;
+  fails = λ bytes page. trees_check bytes (Some page);
   pairs = pairs_of_tree;
   level = level_of;
   has_page = IsPageOfTree;
   actions = tree_actions;
-  fits = λ bytes root key page link pairs. IsOpenLeaf bytes root key page pairs;
   removal = tree_removal;
+}
+
+-- how trees are read
+abbrev pub tree_access : Access
+tree_access = record {
+  fits = λ bytes root key page link pairs. IsOpenLeaf bytes root key page pairs;
   finding = tree_finding;
   nexting = tree_nexting;
   placing = tree_placing;

@@ -1,6 +1,6 @@
 ghost use Rattle.btree_pages.specs.Props.{AreSoundTrees-prop};
 ghost use Rattle.btree_pages.specs.Trees.{trees_rise, trees_given, trees_count, trees_rest, trees_extend, trees_excluded, trees_first};
-ghost use Rattle.btree_pages.specs.Index.{tree};
+ghost use Rattle.btree_pages.specs.Index.{tree, tree_access};
 
 use crate::change::Change;
 use crate::checking::{FORM, check_tables};
@@ -36,6 +36,8 @@ pub struct BTreePages {}
 
 impl KeyIndex for BTreePages {
     ghost index = { tree };
+
+    ghost access = { tree_access };
 
     ghost alone = { AreSoundTrees-prop };
 

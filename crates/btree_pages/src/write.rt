@@ -6,7 +6,8 @@ ghost use Rattle.page_store.specs.Index.{index_pages_of};
 ghost use Rattle.page_store.specs.Runs.{Runs, acting_of};
 ghost use Rattle.page_store.specs.Shown.{pages_of, top_in};
 ghost use Rattle.index_pages.specs.Acts.{Acts};
-ghost use Rattle.btree_pages.specs.Index.{half_for, half_pairs};
+ghost use Rattle.btree_pages.specs.Index.{half_pairs};
+ghost use Rattle.index_pages.specs.Actions.{half_for};
 ghost use Rattle.btree_pages.specs.Writes.{IsRead, cutting_pages, cutting_parts, growing_pages, growing_parts};
 
 use crate::node::Node;

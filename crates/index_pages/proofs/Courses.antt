@@ -1,6 +1,6 @@
 -- What looks read and what they cost: one read, none, and one after another.
 use Rattle.std.proofs.Common.{◌≡◌, ◌≢◌, ℕ, ◌+◌, ◌<◌, ◌≤◌, Bool, true, false, List, [], ◌∷◌, ◌++◌, length, Option, Some, Result, Ok, Err, refl, sym, ◌∙◌, ap, subst, arith}
-use Rattle.std.specs.Prelude.{IsTrue, IsFalse, OnOk, IfErr}
+use Rattle.std.specs.Prelude.{IsTrue, OnOk, IfErr}
 use Rattle.std.specs.List.{AllByRecursion}
 use Rattle.std.proofs.lemmas.Bool.{false≢true}
 use Rattle.mars_base.specs.Costs.{Costs}
@@ -14,7 +14,7 @@ use Rattle.record_slots.specs.Places.{page_bytes}
 use Rattle.page_store.specs.Command as pages
 use Rattle.page_store.specs.Does.{Does}
 use Rattle.page_store.specs.Course.{Reading, IsWay, AreThere, AreSaid}
-use Rattle.page_store.specs.Follows.{HasRead, Walks, BlamesLast, IsLast, one_reading, reads_cost}
+use Rattle.page_store.specs.Follows.{HasRead, Walks, IsLast, one_reading, reads_cost}
 use Rattle.page_store.specs.Looks.{IsStill, is_failed}
 use Rattle.page_store.specs.Shown.{PagesView, address}
 use Rattle.page_store.specs.declared.fault.PageFault.{PageFault}

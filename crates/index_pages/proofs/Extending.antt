@@ -1,12 +1,11 @@
 -- A super page that names further tables: all but the index of each table.
-use Rattle.std.proofs.Common.{◌≡◌, ℕ, ◌-◌, ◌<◌, ◌≤◌, List, sym, ◌∙◌, ap, subst, arith}
-use Rattle.record_slots.specs.Free.{member_at, free_slot_said, free_page_said}
+use Rattle.std.proofs.Common.{◌≡◌, ℕ, ◌-◌, List, sym, ◌∙◌, ap, subst, arith}
+use Rattle.record_slots.specs.Free.{member_at, free_said}
 use Rattle.record_slots.specs.IndexHead.{index_head_said}
 use Rattle.record_slots.specs.Slots.{slot_said}
-use Rattle.record_slots.specs.Places.{next_page, next_slot, free_slots, free_pages, free_slot, free_page, free_slot_of, free_page_of, slot_of, IsOfKey, Carries, IsSuper}
+use Rattle.record_slots.specs.Places.{next_page, next_slot, free_slots, free_pages, free_slot, free_page, free_slot_of, free_page_of, IsOfKey, Carries, IsSuper}
 use Rattle.record_slots.specs.declared.index_head.IndexHead.{IndexHead}
 use Rattle.page_store.specs.Index.{IsEmptyRoot, Extends}
-use Rattle.page_store.specs.Pairs.{Pair}
 use Rattle.mars_base.specs.Check.{Check}
 use Rattle.index_pages.specs.Page.{kind_said, level_said, count_said, link_said}
 use Rattle.index_pages.specs.Ways.{Keeps}
@@ -35,11 +34,11 @@ keeps_of old new x = record {
 pub front_extends : (form : ℕ) (check : List ℕ → ℕ → ℕ → Check ℕ) (old new : List ℕ) → IsWhole form check old → Extends old new → FrontExtends form old new
 front_extends form check old new w x =
     let slots = list_kept (free_slot_of old) 0 (next_slot old) (free_slot_of new) (next_slot new) (free_slots old) (free_slot old) (omega (arith, x.next_slot_same)) w.slots
-    (λ i lt. ap free_slot_said (x.slots (member_at (free_slot_of old) (free_slot old) i - 1))) in
+    (λ i lt. ap (free_said 0xF0 2) (x.slots (member_at (free_slot_of old) (free_slot old) i - 1))) in
     let pages = list_kept (free_page_of old) 2 (next_page old) (free_page_of new) (next_page new) (free_pages old) (free_page old) x.later w.pages
     (λ i lt.
     let m = member_is (free_page_of old) 2 (next_page old) (free_pages old) i (free_page old) w.pages lt in
-    ap free_page_said (x.pages (member_at (free_page_of old) (free_page old) i - 1) (omega (arith, m.0.0)) (omega (arith, m.0.0, m.0.1)))) in
+    ap (free_said 0xFF 4) (x.pages (member_at (free_page_of old) (free_page old) i - 1) (omega (arith, m.0.0)) (omega (arith, m.0.0, m.0.1)))) in
     record {
       front = record {
         has_mark = x.mark;

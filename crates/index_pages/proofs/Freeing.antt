@@ -8,7 +8,7 @@ use Rattle.mars_base.proofs.Puts.{length-put}
 use Rattle.record_slots.specs.declared.slot.Slot.{Slot}
 use Rattle.record_slots.specs.declared.slot.Slot.TheVariants.{Absent, Present}
 use Rattle.record_slots.specs.Slots.{slot_said}
-use Rattle.record_slots.specs.Super.{next_slot_said, next_page_said}
+use Rattle.record_slots.specs.Super.{next_said}
 use Rattle.record_slots.specs.Places.{page_bytes, page_count, first_slot_page, slot_at, slot_of, next_slot, next_page, IsOfKey, Carries, AreGiven}
 use Rattle.index_pages.proofs.Owned.{carries_table}
 use Rattle.index_pages.proofs.Ranges.{Apart, range_away, range_here}
@@ -107,13 +107,13 @@ module _ (slot : ℕ) (old new : List ℕ) (keeps : KeepsBut slot old new) where
     zero_page = with_page 0 (omega (arith, front.some, front.pages))
 
     pub with_next : next_page with_slot ≡ next_page new
-    with_next = ap next_page_said zero_page
+    with_next = ap (next_said 12) zero_page
 
     pub with_keeps : Keeps old with_slot
     unfolding Carries
     with_keeps = record {
       pages = omega (arith, with_next, keeps.pages);
-      slots = (let e : next_slot with_slot ≡ next_slot new = ap next_slot_said zero_page in omega (arith, e, keeps.slots));
+      slots = (let e : next_slot with_slot ≡ next_slot new = ap (next_said 8) zero_page in omega (arith, e, keeps.slots));
       carried = λ table p given carries. elim (eqb_tells p.1 slot) [
         | inl h ↦
             let same : slot_of with_slot p.1 ≡ slot_of old p.1 = ap (slot_of with_slot) h.1 ∙ with_here ∙ ap (slot_of old) (sym h.1) in

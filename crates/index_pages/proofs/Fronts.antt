@@ -1,8 +1,8 @@
 -- The super page after a write of the part that changes, and after writes into slots.
-use Rattle.std.proofs.Common.{◌≡◌, ℕ, ◌+◌, ◌*◌, ◌<◌, ◌≤◌, List, length, get_or, take, sym, ◌∙◌, ap, subst, arith}
+use Rattle.std.proofs.Common.{◌≡◌, ℕ, ◌+◌, ◌*◌, ◌<◌, ◌≤◌, List, get_or, take, sym, ◌∙◌, ap, subst, arith}
 use Rattle.std.proofs.lemmas.List.{get_or-take, take-take}
 use Rattle.mars_base.specs.Bytes.{range}
-use Rattle.record_slots.specs.Super.{HasSuperMark, HasTables, SaysSuper, AreTables, version_said, form_said, next_slot_said, next_page_said, entries_said, tables_said, tables_in, part_bytes, tables_used}
+use Rattle.record_slots.specs.Super.{HasSuperMark, HasTables, SaysSuper, AreTables, version_said, form_said, next_said, entries_said, tables_said, tables_in, part_bytes, tables_used}
 use Rattle.record_slots.specs.declared.super_page.Super.{Super}
 use Rattle.record_slots.specs.declared.super_page.TableEntry.{TableEntry}
 use Rattle.record_slots.specs.Places.{page_bytes, next_slot, next_page, page_count, tables_of, IsSuper}
@@ -78,8 +78,8 @@ super_kept form old new front after half count says now version form_same entrie
 pub super_rests : (form : ℕ) (old new : List ℕ) → IsSuper form old → KeepsIndex old new → IsSuper form new × Keeps old new × (page_bytes new 0 ≡ page_bytes old 0)
 super_rests form old new front keeps =
     let same : page_bytes new 0 ≡ page_bytes old 0 = keeps.pages 0 (omega (arith, front.some_pages, front.pages)) in
-    let slot : next_slot new ≡ next_slot old = ap next_slot_said same in
-    let page : next_page new ≡ next_page old = ap next_page_said same in
+    let slot : next_slot new ≡ next_slot old = ap (next_said 8) same in
+    let page : next_page new ≡ next_page old = ap (next_said 12) same in
     let count : page_count new ≡ page_count old = omega (arith, keeps.size) in (
       record {
         has_mark = subst (λ (b : List ℕ). HasSuperMark b) (sym same) front.has_mark;
@@ -87,7 +87,7 @@ super_rests form old new front keeps =
         slots = omega (arith, front.slots);
         some_pages = omega (arith, front.some_pages);
         pages = omega (arith, front.pages);
-        tables = subst (λ (b : List ℕ). HasTables (version_said b) (next_page_said b) (entries_said b)) (sym same) front.tables;
+        tables = subst (λ (b : List ℕ). HasTables (version_said b) (next_said 12 b) (entries_said b)) (sym same) front.tables;
       },
       record { pages = omega arith; slots = omega arith; carried = keeps.carried },
       same,

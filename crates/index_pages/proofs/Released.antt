@@ -2,7 +2,7 @@
 use Rattle.std.proofs.Common.{◌≡◌, ◌≢◌, ℕ, suc, ◌+◌, ◌^◌, ◌<◌, ◌≤◌, inl, inr, List, length, Option, Some, None, refl, sym, ◌∙◌, ap, subst, arith}
 use Rattle.std.specs.Prelude.{nat_eq, slice_index, false}
 use Rattle.std.proofs.lemmas.Bool.{cases_eq, cases_lt, ne_eqb}
-use Rattle.record_slots.specs.Free.{free_slot_said, free_page_said, free_slot_bytes, free_page_bytes}
+use Rattle.record_slots.specs.Free.{free_said, free_slot_bytes, free_page_bytes}
 use Rattle.record_slots.specs.Super.{SaysSuper}
 use Rattle.record_slots.specs.Places.{page_bytes, slot_of, next_slot, next_page, free_slot, free_page, free_slots, free_pages, free_slot_of, free_page_of, page_due, Carries}
 use Rattle.record_slots.specs.declared.free.Free.{Free}
@@ -27,14 +27,14 @@ carries_not_free bytes table p carries = here (free_slot_of bytes p.1) refl
 
 -- a page that says that it is free is of a kind of its own
 pub free_kind : (bytes : List ℕ) (x : ℕ) → free_page_of bytes x ≢ None → kind_of bytes x ≡ 255
-unfolding free_page_said kind_said
+unfolding free_said kind_said
 free_kind bytes x free = elim (cases_eq (slice_index (page_bytes bytes x) 0) 255) [
   | inl is ↦ is
   | inr other ↦ absurd (free (let b : nat_eq (slice_index (page_bytes bytes x) 0) 255 ≡ false = ne_eqb (slice_index (page_bytes bytes x) 0) 255 other in rw b refl))
 ]
 
 pub other_not_free : (bytes : List ℕ) (x : ℕ) → kind_of bytes x ≢ 255 → free_page_of bytes x ≡ None
-unfolding free_page_said kind_said
+unfolding free_said kind_said
 other_not_free bytes x other = (let b : nat_eq (slice_index (page_bytes bytes x) 0) 255 ≡ false = ne_eqb (slice_index (page_bytes bytes x) 0) 255 other in rw b refl)
 
 -- no given page that is not free is due
@@ -101,13 +101,13 @@ module _ (front after : Super) (number : ℕ) (free : Free) (is : IsWritable fro
   slot_given_said bytes gives written =
       let next : free.next < 2 ^ 32 = subst (λ (f : Free). f.next < 2 ^ 32) (sym gives.free_is) is.whole.free_slot in
       let rank : free.rank < 2 ^ 32 = subst (λ (f : Free). f.rank < 2 ^ 32) (sym gives.free_is) (let low = gives.may.some in let high = is.whole.next_slot in omega (arith, low, high)) in
-      ap free_slot_said written ∙ free_slot_back free next rank
+      ap (free_said 0xF0 2) written ∙ free_slot_back free next rank
 
   pub page_given_said : (bytes : List ℕ) → GivesPage front number free after → page_bytes bytes number ≡ free_page_bytes free → free_page_of bytes number ≡ Some free
   page_given_said bytes gives written =
       let next : free.next < 2 ^ 32 = subst (λ (f : Free). f.next < 2 ^ 32) (sym gives.free_is) is.whole.free_page in
       let rank : free.rank < 2 ^ 32 = subst (λ (f : Free). f.rank < 2 ^ 32) (sym gives.free_is) (let low = gives.may.some in let high = is.whole.next_page in omega (arith, low, high)) in
-      ap free_page_said written ∙ free_page_back free next rank
+      ap (free_said 0xFF 4) written ∙ free_page_back free next rank
 
 -- the super page is as before but for the list
 pub slot_given_rest : (front after : Super) (slot : ℕ) (free : Free) → GivesSlot front slot free after

@@ -5,7 +5,7 @@ use Rattle.std.specs.Option.{option_map}
 use Rattle.std.proofs.lemmas.Bool.{cases_eq, cases_lt, eq-eqb, ne_eqb}
 use Rattle.mars_base.specs.Check.{Check, test, both, IsSingle}
 use Rattle.mars_base.proofs.Checks.{pass_single, test_single, both_single}
-use Rattle.record_slots.specs.Super.{AreTables, IsMain, main_table, tables_in, tables_used, entries_said, tables_said, next_slot_said, next_page_said, free_slots_in, free_pages_in, free_slot_in, free_page_in}
+use Rattle.record_slots.specs.Super.{AreTables, IsMain, main_table, tables_in, tables_used, entries_said, tables_said, next_said, free_in}
 use Rattle.record_slots.specs.Places.{page_bytes, next_page, next_slot, tables_of, version_of, free_slots, free_pages, free_slot, free_page, free_slot_of, free_page_of, slot_page, slot_due, IsSuper}
 use Rattle.record_slots.specs.declared.super_page.TableEntry.{TableEntry}
 use Rattle.page_store.specs.Index.{IsTable, HasCounts, KeepsIndex}
@@ -13,7 +13,7 @@ use Rattle.index_pages.specs.Slots.{slots_check, pages_check, tables_check, inde
 use Rattle.index_pages.proofs.Stacks.{IsList, list_seen, list_passes, list_few, list_kept, list_single, member_is, rank_some}
 use Rattle.index_pages.proofs.Fronts.{super_rests}
 use Rattle.index_pages.specs.Ways.{Keeps}
-use Rattle.record_slots.specs.Free.{member_at, free_slot_said, free_page_said}
+use Rattle.record_slots.specs.Free.{member_at, free_said}
 
 -- the root of a table among these
 abbrev pub root_in : List TableEntry → ℕ → Option ℕ
@@ -193,21 +193,21 @@ pub record FrontRests (form : ℕ) (old new : List ℕ) : Type 0 where
 pub front_rests : (form : ℕ) (check : List ℕ → ℕ → ℕ → Check ℕ) (old new : List ℕ) → IsWhole form check old → KeepsIndex old new → FrontRests form old new
 front_rests form check old new w keeps =
     let r = super_rests form old new w.front keeps in
-    let next : next_slot new ≡ next_slot old = ap next_slot_said r.2 in
-    let next' : next_page new ≡ next_page old = ap next_page_said r.2 in
-    let many : free_slots new ≡ free_slots old = ap free_slots_in r.2 in
-    let many' : free_pages new ≡ free_pages old = ap free_pages_in r.2 in
-    let first : free_slot new ≡ free_slot old = ap free_slot_in r.2 in
-    let first' : free_page new ≡ free_page old = ap free_page_in r.2 in
+    let next : next_slot new ≡ next_slot old = ap (next_said 8) r.2 in
+    let next' : next_page new ≡ next_page old = ap (next_said 12) r.2 in
+    let many : free_slots new ≡ free_slots old = ap (free_in 280) r.2 in
+    let many' : free_pages new ≡ free_pages old = ap (free_in 284) r.2 in
+    let first : free_slot new ≡ free_slot old = ap (free_in 272) r.2 in
+    let first' : free_page new ≡ free_page old = ap (free_in 276) r.2 in
     let slots = list_kept (free_slot_of old) 0 (next_slot old) (free_slot_of new) (next_slot new) (free_slots old) (free_slot old) (omega (arith, next)) w.slots
     (λ i lt.
     let m = member_is (free_slot_of old) 0 (next_slot old) (free_slots old) i (free_slot old) w.slots lt in
-    ap free_slot_said (keeps.free (member_at (free_slot_of old) (free_slot old) i - 1) (omega (arith, m.0.0, m.0.1))
+    ap (free_said 0xF0 2) (keeps.free (member_at (free_slot_of old) (free_slot old) i - 1) (omega (arith, m.0.0, m.0.1))
     (rank_some (free_slot_of old (member_at (free_slot_of old) (free_slot old) i - 1)) (free_slots old - i) m.1))) in
     let pages = list_kept (free_page_of old) 2 (next_page old) (free_page_of new) (next_page new) (free_pages old) (free_page old) (omega (arith, next')) w.pages
     (λ i lt.
     let m = member_is (free_page_of old) 2 (next_page old) (free_pages old) i (free_page old) w.pages lt in
-    ap free_page_said (keeps.pages (member_at (free_page_of old) (free_page old) i - 1) (omega (arith, m.0.0, m.0.1, w.front.pages)))) in
+    ap (free_said 0xFF 4) (keeps.pages (member_at (free_page_of old) (free_page old) i - 1) (omega (arith, m.0.0, m.0.1, w.front.pages)))) in
     record {
       front = r.0;
       slots = subst (λ (k : ℕ). IsList (free_slot_of new) 0 (next_slot new) (free_slots new) k) (sym first) (subst (λ (k : ℕ). IsList (free_slot_of new) 0 (next_slot new) k (free_slot old)) (sym many) slots);

@@ -3,8 +3,8 @@ use Rattle.std.proofs.Common.{◌≡◌, ◌≢◌, ℕ, zero, suc, ◌+◌, ◌
 use Rattle.std.specs.Prelude.{nat_eq, nat_lt, if◌then◌else◌}
 use Rattle.std.proofs.lemmas.Bool.{cases_eq, cases_lt}
 use Rattle.std.proofs.lemmas.Bool.Decides.{nat_tests}
-use Rattle.record_slots.specs.Free.{next_of, member_at, free_slot_said, free_page_said}
-use Rattle.record_slots.specs.Super.{SaysSuper, free_in, form_said, entries_said, free_slot_in, free_page_in, free_slots_in, free_pages_in}
+use Rattle.record_slots.specs.Free.{next_of, member_at, free_said}
+use Rattle.record_slots.specs.Super.{SaysSuper, free_in, form_said, entries_said}
 use Rattle.record_slots.specs.Places.{page_bytes, slot_of, next_slot, next_page, version_of, free_slot, free_page, free_slots, free_pages, free_slot_of, free_page_of, used_slots, used_pages, slot_due, page_due, Carries}
 use Rattle.record_slots.specs.declared.free.Free.{Free}
 use Rattle.record_slots.specs.declared.super_page.Super.{Super}
@@ -211,7 +211,7 @@ module _ (old new : List ℕ) (n : ℕ) (after : Super) (slots : FreeSlots old) 
       subst (λ (k : ℕ). IsList (free_slot_of new) 0 (next_slot new) (free_slots new) k) (sym took.slot_first ∙ says.free_slot) (subst (λ (k : ℕ). IsList (free_slot_of new) 0 (next_slot new) k (free_slot old)) (sym took.slots_free ∙ says.free_slots) kept)
     where
       slot_says : List ℕ → Option Free
-      slot_says b = free_slot_said b
+      slot_says b = free_said 0xF0 2 b
 
   -- the first of the free pages that are left
   rest : ℕ
@@ -224,7 +224,7 @@ module _ (old new : List ℕ) (n : ℕ) (after : Super) (slots : FreeSlots old) 
       let d = due_free old pages (n + i) less in
       let at : member_at (free_page_of old) (member_at (free_page_of old) (free_page old) n) i - 1 ≡ page_due old (n + i) =
       ap (λ (m : ℕ). m - 1) (member_after (free_page_of old) (free_page old) n i) ∙ sym d.0 in
-      subst (λ (x : ℕ). free_page_of new x ≡ free_page_of old x) (sym at) (ap free_page_said (left (n + i) (omega arith) less))
+      subst (λ (x : ℕ). free_page_of new x ≡ free_page_of old x) (sym at) (ap (free_said 0xFF 4) (left (n + i) (omega arith) less))
 
   pages_some : n ≤ free_pages old → FreePages new
   pages_some le =
@@ -297,7 +297,7 @@ module _ (old new : List ℕ) (pages : FreePages old) (page_same : next_page new
   page_says : (i : ℕ) → i < free_pages old → free_page_of new (member_at (free_page_of old) (free_page old) i - 1) ≡ free_page_of old (member_at (free_page_of old) (free_page old) i - 1)
   page_says i lt =
       let m = member_is (free_page_of old) 2 (next_page old) (free_pages old) i (free_page old) pages lt in
-      ap free_page_said (kept (member_at (free_page_of old) (free_page old) i - 1) (rank_some (free_page_of old (member_at (free_page_of old) (free_page old) i - 1)) (free_pages old - i) m.1)
+      ap (free_said 0xFF 4) (kept (member_at (free_page_of old) (free_page old) i - 1) (rank_some (free_page_of old (member_at (free_page_of old) (free_page old) i - 1)) (free_pages old - i) m.1)
       (omega (arith, m.0.0)) (omega (arith, m.0.0, m.0.1)))
 
   pub free_pages_stay : FreePages new
@@ -404,7 +404,7 @@ module _ (old new : List ℕ) (front after : Super) (slots : FreeSlots old) (pag
           let at : member_at (free_slot_of old) (member_at (free_slot_of old) (free_slot old) 1) i ≡ member_at (free_slot_of old) (free_slot old) (1 + i) = member_after (free_slot_of old) (free_slot old) 1 i in
           let other : member_at (free_slot_of old) (free_slot old) (1 + i) - 1 ≢ slot_due old = λ same.
           members_differ (free_slot_of old) 0 (next_slot old) (free_slots old) (1 + i) 0 (free_slot old) slots less (omega (arith, some)) (λ e. omega (arith, e)) (same ∙ due) in
-          subst (λ (k : ℕ). free_slot_of new (k - 1) ≡ free_slot_of old (k - 1)) (sym at) (ap free_slot_said (others (member_at (free_slot_of old) (free_slot old) (1 + i) - 1) other))) in
+          subst (λ (k : ℕ). free_slot_of new (k - 1) ≡ free_slot_of old (k - 1)) (sym at) (ap (free_said 0xF0 2) (others (member_at (free_slot_of old) (free_slot old) (1 + i) - 1) other))) in
           record {
             in_use = omega (arith, next, many, some, few);
             later = omega (arith, next);
@@ -463,11 +463,11 @@ list_first said low end (suc n) named l = l.0.1
 
 -- nothing is free in version 1
 module _ (bytes : List ℕ) (one : version_of bytes ≡ 1) where
-  none_in : (n : ℕ) → free_in (version_of bytes) n ≡ 0
-  none_in n = (let b : nat_eq (version_of bytes) 1 ≡ true = grind (arith, nat_tests, one) in rw b refl)
+  none_in : (place : ℕ) → free_in place (page_bytes bytes 0) ≡ 0
+  unfolding free_in
+  none_in place = (let b : nat_eq (version_of bytes) 1 ≡ true = grind (arith, nat_tests, one) in rw b refl)
 
   pub nothing_free : (free_slot bytes ≡ 0) × (free_page bytes ≡ 0) × (free_slots bytes ≡ 0) × (free_pages bytes ≡ 0)
-  unfolding free_slot_in free_page_in free_slots_in free_pages_in
   nothing_free = (none_in _, none_in _, none_in _, none_in _)
 
 -- a super page of which pages were taken can be written

@@ -1,6 +1,6 @@
 -- How far a test has come: what it has read so far, and what is left of its plan.
 use Rattle.std.proofs.Common.{◌≡◌, ◌≢◌, ℕ, zero, suc, ◌+◌, ◌-◌, ◌*◌, ◌/◌, ◌%◌, ◌<◌, ◌≤◌, ◌⊎◌, inl, inr, Bool, true, false, List, [], ◌∷◌, ◌++◌, Option, Some, None, Result, Ok, Err, refl, sym, ◌∙◌, ap, subst, arith}
-use Rattle.std.specs.Prelude.{IsTrue, IsFalse}
+use Rattle.std.specs.Prelude.{IsTrue}
 use Rattle.std.proofs.lemmas.Bool.{false≢true}
 use Rattle.std.proofs.lemmas.List.{append-nil, append_assoc}
 use Rattle.array_shape.specs.declared.shape.Shape.{Shape}
@@ -22,17 +22,17 @@ use Rattle.page_store.specs.declared.fault.PageFault.TheVariants as faults
 use Rattle.page_store.specs.declared.index_fault.CheckFault.{CheckFault}
 use Rattle.page_store.specs.declared.index_fault.CheckFault.TheVariants.{Damaged, Media, Dead, NoMemory}
 use Rattle.page_store.specs.Faults.{as_check}
-use Rattle.record_slots.specs.Super.{SaysSuper, HasTables, version_said, next_page_said, entries_said}
+use Rattle.record_slots.specs.Super.{SaysSuper, HasTables, version_said, next_said, entries_said}
 use Rattle.index_pages.specs.Fetched.{IsFront, ReadCause, TestCause}
 use Rattle.mars_base.specs.Costs.{Costs}
-use Rattle.std.specs.Prelude.{OnOk, IsOk, IfSome, nat_eq}
+use Rattle.std.specs.Prelude.{OnOk, IfSome, nat_eq}
 use Rattle.std.specs.Option.{option_map}
 use Rattle.std.proofs.lemmas.Bool.Decides.{eqb_tells}
 use Rattle.page_store.specs.Index.{index_pages_of}
 use Rattle.page_store.specs.Pairs.{Pair}
 use Rattle.record_slots.specs.Places.{IsOfKey}
 use Rattle.record_slots.specs.Slots.{slot_said}
-use Rattle.record_slots.specs.Free.{free_slot_said, free_page_said, next_of}
+use Rattle.record_slots.specs.Free.{free_said, next_of}
 use Rattle.index_pages.specs.Slots.{Names, HasRank}
 use Rattle.std.proofs.Common.{drop}
 use Rattle.index_pages.proofs.Causing.{still_same}
@@ -538,16 +538,16 @@ pub owns_lists : (Known : ℕ → Type 0) (half : ℕ) (front : Super) → Known
 owns_lists Known half front first =
     owns_turn Known (free_slots_plan half front) (free_pages_plan front)
     (owns_list Known (free_slot_plan half) (λ slot. half + slot / 8) 0 front.next_slot front.free_slots front.free_slot 0
-    (λ Here m next owns. owns_reading Here (half + m / 8) (m % 8 * 64) 64 (λ said. next (free_slot_said said)) (λ said. owns (free_slot_said said))) first)
+    (λ Here m next owns. owns_reading Here (half + m / 8) (m % 8 * 64) 64 (λ said. next (free_said 0xF0 2 said)) (λ said. owns (free_said 0xF0 2 said))) first)
     (owns_list Known free_page_plan (λ page. page) 2 front.next_page front.free_pages front.free_page 0
-    (λ Here m next owns. owns_reading Here m 0 512 (λ said. next (free_page_said said)) (λ said. owns (free_page_said said))) first)
+    (λ Here m next owns. owns_reading Here m 0 512 (λ said. next (free_said 0xFF 4 said)) (λ said. owns (free_said 0xFF 4 said))) first)
 
 pub owns_index : (form : ℕ) (test : Shape → Super → ℕ → ℕ → Plan) (shape : Shape) → ((Known : ℕ → Type 0) (front : Super) (root table : ℕ) → Owns Known (test shape front root table)) → Owns (λ p. ⊥) (index_plan form test shape)
 owns_index form test shape owns =
     owns_reading _ 0 0 512 _ (λ said. owns_holding _ _ 0 _ (inr refl)
-    (owns_turn _ (lists_plan (index_pages_of shape) (front_said said)) (tables_plan (next_page_said said) (test shape (front_said said)) 0 (tables_in (version_said said) (entries_said said)))
+    (owns_turn _ (lists_plan (index_pages_of shape) (front_said said)) (tables_plan (next_said 12 said) (test shape (front_said said)) 0 (tables_in (version_said said) (entries_said said)))
     (owns_lists _ (index_pages_of shape) (front_said said) (inr refl))
-    (owns_tables _ (next_page_said said) (test shape (front_said said)) 0 (tables_in (version_said said) (entries_said said)) (inr refl) (λ root table. owns _ (front_said said) root table))))
+    (owns_tables _ (next_said 12 said) (test shape (front_said said)) 0 (tables_in (version_said said) (entries_said said)) (inr refl) (λ root table. owns _ (front_said said) root table))))
 
 -- a test whose answer names a page that was read
 there_of : (count bad : ℕ) (read : List Excerpt) → AreOfArray count read → IsReadFrom bad read → bad < count

@@ -1,7 +1,7 @@
 -- Pairs that come one after another.
 use Rattle.std.proofs.Common.{◌≡◌, ℕ, zero, suc, ◌-◌, ◌<◌, ◌≤◌, true, false, inl, inr, List, [], ◌∷◌, length, get_or, drop, Some, None, refl, sym, ◌∙◌, ap, arith}
 use Rattle.std.proofs.lemmas.Bool.Decides.{nat_tests, leb_tells}
-use Rattle.std.specs.Prelude.{nat_le, if◌then◌else◌}
+use Rattle.std.specs.Prelude.{nat_le}
 use Rattle.record_slots.specs.Places.{next_slot, AreGiven}
 use Rattle.page_store.specs.Pairs.{Pair, Rise, next, InTurn, AreNext, AreInside}
 use Rattle.index_pages.specs.Keys.{from_on}

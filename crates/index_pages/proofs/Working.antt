@@ -1,13 +1,12 @@
 -- The steps of an insertion or a removal: reads, actions, and one after another.
-use Rattle.std.proofs.Common.{◌≡◌, ◌≢◌, ℕ, zero, suc, ◌+◌, ◌*◌, ◌%◌, ◌<◌, ◌≤◌, ◌⊎◌, inl, inr, Bool, true, false, List, [], ◌∷◌, ◌++◌, append_assoc, length, Option, Some, None, Result, Ok, Err, refl, sym, ◌∙◌, ap, subst, arith}
-use Rattle.std.specs.Prelude.{IsTrue, IsFalse, IfSome, sum, map, not}
+use Rattle.std.proofs.Common.{◌≡◌, ℕ, ◌+◌, ◌*◌, ◌%◌, ◌<◌, ◌≤◌, ◌⊎◌, inl, inr, Bool, true, false, List, [], ◌∷◌, ◌++◌, append_assoc, length, Option, Some, None, Result, Ok, Err, refl, sym, ◌∙◌, ap, subst, arith}
+use Rattle.std.specs.Prelude.{IsTrue, IfSome, sum, map, not}
 use Rattle.std.proofs.lemmas.Bool.{false≢true}
 use Rattle.std.proofs.lemmas.List.{append-nil, length-append}
 use Rattle.std.proofs.lemmas.List.Sums.{sum_by-cons, sum_by-append}
 use Rattle.mars_base.specs.Costs.{Costs}
 use Rattle.array_shape.specs.declared.shape.Shape.{Shape}
 use Rattle.array_shape.specs.Places.{page_count}
-use Rattle.array_shape.specs.Logged.{Part}
 use Rattle.eaw_face.specs.Command as store
 use Rattle.eaw_face.specs.StoreView.{StoreView}
 use Rattle.page_store.specs.Command.{PageCommand}
@@ -16,16 +15,15 @@ use Rattle.page_store.specs.Device.{device, device_cost}
 use Rattle.page_store.specs.Follows.{HasRead, one_reading, reads_cost}
 use Rattle.page_store.specs.Index.{Action}
 use Rattle.page_store.specs.Looks.{is_failed}
-use Rattle.page_store.specs.Runs.{Runs, IsCost, acting_of}
+use Rattle.page_store.specs.Runs.{Runs, IsCost}
 use Rattle.page_store.specs.Shown.{Shown, address, outline_of, pages_of}
-use Rattle.page_store.specs.Works.{Step, front, onward, aside, acts, IsStepCost, Spends, fronts_of, way_of, asides_of, actions_of, AreActs, ActsBy, LiesIn, IsAmong, IsMet, Limits, takes_of, is_done, blamed, blamed_index, WorksFrom}
+use Rattle.page_store.specs.Works.{Step, front, onward, aside, acts, IsStepCost, Spends, fronts_of, way_of, asides_of, actions_of, AreActs, LiesIn, IsAmong, IsMet, Limits, takes_of, is_done, blamed, blamed_index, WorksFrom}
 use Rattle.page_store.specs.Pairs.{Pair}
 use Rattle.record_slots.specs.declared.free.Free.{Free}
 use Rattle.record_slots.specs.declared.super_page.Super.{Super}
 use Rattle.page_store.specs.declared.fault.PageFault.{PageFault}
 use Rattle.page_store.specs.declared.fault.PageFault.TheVariants as faults
 use Rattle.page_store.specs.declared.index_fault.IndexFault.{IndexFault}
-use Rattle.page_store.specs.declared.index_fault.IndexFault.TheVariants as index
 use Rattle.index_pages.specs.Acts.{ActCause}
 use Rattle.index_pages.specs.Adding.{adding_pages, adding_parts}
 use Rattle.page_store.specs.Faults.{as_index}

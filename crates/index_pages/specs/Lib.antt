@@ -1,4 +1,5 @@
 pub mod Keys
+pub mod Actions
 pub mod Page
 pub mod Pieces
 pub mod Ways

@@ -1,14 +1,14 @@
 -- How the tests go of what all indexes stand on.
-use Rattle.std.specs.Prelude.{ℕ, zero, suc, ◌≡◌, ◌≢◌, ◌+◌, ◌*◌, ◌/◌, ◌%◌, ◌<◌, ◌≤◌, ◌⊎◌, Bool, true, false, nat_eq, List, [], ◌∷◌, ◌++◌, Option, Some, None, Result, Ok, Err, IsOk, ◌-◌}
+use Rattle.std.specs.Prelude.{ℕ, zero, suc, ◌≡◌, ◌≢◌, ◌+◌, ◌*◌, ◌/◌, ◌%◌, ◌<◌, ◌≤◌, Bool, true, false, nat_eq, List, [], ◌∷◌, Option, Some, None, Result, Ok, Err, IsOk, ◌-◌}
 use Rattle.std.specs.Option.{option_map}
 use Rattle.mars_base.specs.Bytes.{range}
 use Rattle.array_shape.specs.declared.shape.Shape.{Shape}
 use Rattle.eaw_face.specs.Command.{Command}
 use Rattle.eaw_face.specs.StoreView.{StoreView}
-use Rattle.record_slots.specs.Free.{free_slot_said, free_page_said, next_of}
+use Rattle.record_slots.specs.Free.{free_said, next_of}
 use Rattle.record_slots.specs.Places.{page_bytes, IsOfKey}
 use Rattle.record_slots.specs.Slots.{slot_said}
-use Rattle.record_slots.specs.Super.{SaysSuper, HasSuperMark, HasTables, version_said, form_said, next_slot_said, next_page_said, entries_said, free_slot_in, free_page_in, free_slots_in, free_pages_in, tables_in}
+use Rattle.record_slots.specs.Super.{SaysSuper, HasSuperMark, HasTables, version_said, form_said, next_said, entries_said, free_in, tables_in}
 use Rattle.record_slots.specs.declared.free.Free.{Free}
 use Rattle.record_slots.specs.declared.super_page.Super.{Super}
 use Rattle.record_slots.specs.declared.super_page.TableEntry.{TableEntry}
@@ -55,10 +55,10 @@ list_plan said page_of low end (suc n) named page =
 
 -- what a slot, or a page, says if it is free
 abbrev pub free_slot_plan : (half slot : ℕ) → (Option Free → Plan) → Plan
-free_slot_plan half slot next = reading (half + slot / 8) (slot % 8 * 64) 64 (λ said. next (free_slot_said said))
+free_slot_plan half slot next = reading (half + slot / 8) (slot % 8 * 64) 64 (λ said. next (free_said 0xF0 2 said))
 
 abbrev pub free_page_plan : (page : ℕ) → (Option Free → Plan) → Plan
-free_page_plan page next = reading page 0 512 (λ said. next (free_page_said said))
+free_page_plan page next = reading page 0 512 (λ said. next (free_said 0xFF 4 said))
 
 -- the lists of free slots and of free pages, as the super page begins them
 abbrev pub free_slots_plan : (half : ℕ) → Super → Plan
@@ -81,30 +81,30 @@ abbrev pub front_said : List ℕ → Super
 front_said said = record {
   version = version_said said;
   form = form_said said;
-  next_slot = next_slot_said said;
-  next_page = next_page_said said;
+  next_slot = next_said 8 said;
+  next_page = next_said 12 said;
   entries = entries_said said;
-  free_slot = free_slot_in said;
-  free_page = free_page_in said;
-  free_slots = free_slots_in said;
-  free_pages = free_pages_in said;
+  free_slot = free_in 272 said;
+  free_page = free_in 276 said;
+  free_slots = free_in 280 said;
+  free_pages = free_in 284 said;
 }
 
 -- it is the super page of an index of this form in an array of this shape, with its entries
 pub record IsFrontSaid (form : ℕ) (shape : Shape) (said : List ℕ) : Type 0 where
   pub mark : HasSuperMark said
   pub form_is : form_said said ≡ form
-  pub slots : next_slot_said said ≤ slots_of shape
-  pub some : 2 ≤ next_page_said said
-  pub pages : next_page_said said ≤ index_pages_of shape
-  pub tables : HasTables (version_said said) (next_page_said said) (entries_said said)
+  pub slots : next_said 8 said ≤ slots_of shape
+  pub some : 2 ≤ next_said 12 said
+  pub pages : next_said 12 said ≤ index_pages_of shape
+  pub tables : HasTables (version_said said) (next_said 12 said) (entries_said said)
 
 -- the whole index of this form: the super page, the lists of what is free, and then the index of each table
 abbrev pub index_plan : (form : ℕ) → (Shape → Super → ℕ → ℕ → Plan) → Shape → Plan
 index_plan form test shape =
     reading 0 0 512 (λ said. holding (IsFrontSaid form shape said) 0
     (in_turn (lists_plan (index_pages_of shape) (front_said said))
-    (tables_plan (next_page_said said) (test shape (front_said said)) 0 (tables_in (version_said said) (entries_said said)))))
+    (tables_plan (next_said 12 said) (test shape (front_said said)) 0 (tables_in (version_said said) (entries_said said)))))
 
 -- a test made these reads, over any store, and they bring it to its answer
 pub record Tries {T : Type 0} (tells : Bool) (calls calls_now : Command → ℕ) (plan : Plan) (old new : StoreView) (result : Result T CheckFault) : Type 0 where
@@ -130,7 +130,7 @@ one_excerpt page at len said there _ = record { page = page; at = at; len = len;
 -- a super page that was read said what is answered, or its counts are not those of an index of this form
 abbrev pub IsFrontOf : ℕ → Shape → List ℕ → Result Super PageFault → Type 0
 IsFrontOf form shape said (Ok front) = SaysSuper said front
-IsFrontOf form shape said (Err (faults.Damaged bad)) = HasSuperMark said → form_said said ≡ form → next_slot_said said ≤ slots_of shape → 2 ≤ next_page_said said → next_page_said said ≤ index_pages_of shape → ⊥
+IsFrontOf form shape said (Err (faults.Damaged bad)) = HasSuperMark said → form_said said ≡ form → next_said 8 said ≤ slots_of shape → 2 ≤ next_said 12 said → next_said 12 said ≤ index_pages_of shape → ⊥
 IsFrontOf form shape said (Err _) = Unit {0}
 
 -- the same, with its entries

@@ -4,7 +4,7 @@ ghost use Rattle.array_shape.specs.Places.{page_count};
 ghost use Rattle.eaw_face.specs.Command as model;
 ghost use Rattle.mars_base.specs.Costs.{Costs};
 ghost use Rattle.record_slots.specs.Places.{page_bytes, slot_of, free_slot_of, free_page_of, IsSuper};
-ghost use Rattle.record_slots.specs.Free.{free_page_said, free_slot_said};
+ghost use Rattle.record_slots.specs.Free.{free_said};
 ghost use Rattle.record_slots.specs.Slots.{slot_said};
 ghost use Rattle.record_slots.specs.Super.{SaysSuper, HasTables};
 ghost use Rattle.page_store.specs.Follows.{HasRead, one_reading};
@@ -104,7 +104,7 @@ pub fn fetch_free_slot<S: EawStore>(
         (S.view pages.old.store).moment (S.view pages.new.store).moment result }
     ensures reads { (said : List ℕ) × HasReadBytes S.tells (is_failed result) (S.calls pages.old.store) (S.calls pages.new.store) (S.view pages.old.store)
         (S.view pages.new.store) (one_excerpt (index_pages_of (S.view pages.old.store).shape + slot / 8) (slot % 8 * 64) 64 said
-        (slot_of (S.view pages.old.store).state.bytes slot) result) × IfOk result (λ free. free ≡ free_slot_said said) }
+        (slot_of (S.view pages.old.store).state.bytes slot) result) × IfOk result (λ free. free ≡ free_said 0xF0 2 said) }
     ensures dead { IsErrOf result PageFault.Dead → pages.new ≡ pages.old }
 {
     let mut bytes = [0; SLOT_LEN];
@@ -124,7 +124,7 @@ pub fn fetch_free_page<S: EawStore>(
     ensures said { IsTrue S.tells → IfOk result (λ said. said ≡ free_page_of (S.view pages.old.store).state.bytes page) }
     ensures reads { (said : List ℕ) × HasRead S.tells (is_failed result) (S.calls pages.old.store) (S.calls pages.new.store) (S.view pages.old.store)
         (S.view pages.new.store) (one_reading page said (page_bytes (S.view pages.old.store).state.bytes page) result)
-        × IfOk result (λ free. free ≡ free_page_said said) }
+        × IfOk result (λ free. free ≡ free_said 0xFF 4 said) }
     ensures dead { IsErrOf result PageFault.Dead → pages.new ≡ pages.old }
 {
     let mut bytes = [0; PAGE_LEN];

@@ -10,7 +10,7 @@ use Rattle.array_shape.specs.declared.shape.Shape.{Shape}
 use Rattle.array_shape.specs.Places.{data_len}
 use Rattle.array_shape.specs.Places as array
 use Rattle.array_shape.specs.Logged.{Part, applied, AllFit}
-use Rattle.record_slots.specs.Free.{free_slot_said}
+use Rattle.record_slots.specs.Free.{free_said}
 use Rattle.record_slots.specs.Slots.{slot_bytes}
 use Rattle.record_slots.specs.Super.{SaysSuper, part_bytes}
 use Rattle.record_slots.specs.declared.free.Free.{Free}
@@ -45,7 +45,8 @@ use Rattle.index_pages.proofs.Taken.{FreeSlots, FreePages, free_pages_stay, HasT
 use Rattle.index_pages.proofs.Writing.{small_take, small_inserted, written_kind, written_level, written_link, written_pairs, length-written_page}
 use Rattle.key_list.specs.Chain.{chain_check, IsSoundChain, pairs_of_chain, page_of_key}
 use Rattle.key_list.specs.Changes.{TakesPairInChain, SplitsPage, LosesPairInChain}
-use Rattle.key_list.specs.Index.{chain, chain_actions, adding, by_half, keeps_last, removing, chain_removal, IsPageOfChain}
+use Rattle.key_list.specs.Index.{chain, chain_actions, keeps_last, chain_removal, IsPageOfChain}
+use Rattle.index_pages.specs.Actions.{adding, half_for, losing}
 use Rattle.key_list.specs.Located.{IsLocated, Locates, cutting_parts}
 use Rattle.key_list.specs.Resting.{sound_table, sound_chain_given}
 use Rattle.key_list.proofs.ChainActions.{chain_of_table_finds, chain_of_table_takes, chain_of_table_splits, chain_of_table_more}
@@ -484,26 +485,26 @@ module _ (shape : Shape) (old : List ℕ) (half : ℕ) (long : length old ≡ da
     unfolding cut
     cut_used = after_pages old cut 1 cut_lists (omega (arith, counts.free_pages_few))
 
-    half_page_is : page_of_key cut root key ≡ by_half (page_pairs old page) key page taken
+    half_page_is : page_of_key cut root key ≡ half_for (page_pairs old page) page taken key
     half_page_is = half_after table old cut page taken splits cut_pages key root own chain_sound (chain_of_table_more old cut root table taken key own chain_sound cut_kept fits splits_there pages_there) cuts.0 says.page_is
 
-    by_pairs : {T : Type 0} → (a b : T) → by_half (page_pairs old page) key a b ≡ by_half pairs key a b
-    by_pairs a b = ap (λ (ps : List Pair). by_half ps key a b) (sym says.pairs_are)
+    by_pairs : {T : Type 0} → (a b : T) → half_for (page_pairs old page) a b key ≡ half_for pairs a b key
+    by_pairs a b = ap (λ (ps : List Pair). half_for ps a b key) (sym says.pairs_are)
 
-    half_link_is : link_of cut (by_half pairs key page taken) ≡ by_half pairs key taken link
+    half_link_is : link_of cut (half_for pairs page taken key) ≡ half_for pairs taken link key
     half_link_is = elim (leb_tells (suc key) (key_at pairs 15)) [
       | inl h ↦ let b : nat_lt key (key_at pairs 15) ≡ true = h.0 in rw b splits.link
       | inr h ↦ let b : nat_lt key (key_at pairs 15) ≡ false = h.0 in rw b (splits.link' ∙ sym says.link_is)
     ]
 
-    half_pairs_are : page_pairs cut (by_half pairs key page taken) ≡ by_half pairs key (take 15 pairs) (drop 15 pairs)
+    half_pairs_are : page_pairs cut (half_for pairs page taken key) ≡ half_for pairs (take 15 pairs) (drop 15 pairs) key
     half_pairs_are = elim (leb_tells (suc key) (key_at pairs 15)) [
       | inl h ↦ let b : nat_lt key (key_at pairs 15) ≡ true = h.0 in rw b (splits.pairs ∙ ap (take 15) (sym says.pairs_are))
       | inr h ↦ let b : nat_lt key (key_at pairs 15) ≡ false = h.0 in rw b (splits.pairs' ∙ ap (drop 15) (sym says.pairs_are))
     ]
 
     -- the half that has the key is its page then
-    pub half_located : (hpage hlink : ℕ) (hpairs : List Pair) → hpage ≡ by_half pairs key page taken → hlink ≡ by_half pairs key taken link → hpairs ≡ by_half pairs key (take 15 pairs) (drop 15 pairs)
+    pub half_located : (hpage hlink : ℕ) (hpairs : List Pair) → hpage ≡ half_for pairs page taken key → hlink ≡ half_for pairs taken link key → hpairs ≡ half_for pairs (take 15 pairs) (drop 15 pairs) key
         → Locates (applied (cutting_parts after taken page link pairs) old) root key after hpage hlink hpairs
     unfolding cut
     half_located hpage hlink hpairs page_is link_is pairs_are = record {
@@ -514,21 +515,21 @@ module _ (shape : Shape) (old : List ℕ) (half : ℕ) (long : length old ≡ da
     }
 
     -- the action that is left adds to that half, with the slot that was due
-    pub half_left : chain_actions (applied (cutting_parts after taken page link pairs) old) root key ≡ adding old (by_half (page_pairs old page) key page (page_due old 0)) ∷ []
+    pub half_left : chain_actions (applied (cutting_parts after taken page link pairs) old) root key ≡ adding old (half_for (page_pairs old page) page (page_due old 0) key) ∷ []
     unfolding cut
     half_left =
-        let at : page_of_key cut root key ≡ by_half pairs key page taken = half_page_is ∙ by_pairs page taken in
-        let short : length (by_half pairs key (take 15 pairs) (drop 15 pairs)) ≡ 15 = half_many in
+        let at : page_of_key cut root key ≡ half_for pairs page taken key = half_page_is ∙ by_pairs page taken in
+        let short : length (half_for pairs (take 15 pairs) (drop 15 pairs) key) ≡ 15 = half_many in
         let count : count_of cut (page_of_key cut root key) ≡ 15 =
         sym (length-page_pairs cut (page_of_key cut root key)) ∙ ap (λ (x : ℕ). length (page_pairs cut x)) at ∙ ap (λ (ps : List Pair). length ps) half_pairs_are ∙ short in
         let b : nat_lt (count_of cut (page_of_key cut root key)) 30 ≡ true = grind (arith, nat_tests, count) in
         let one : chain_actions cut root key ≡ adding cut (page_of_key cut root key) ∷ [] = (rw b refl) in
         let slot : slot_page cut (slot_due cut) ≡ slot_page old (slot_due old) = ap (λ (s : ℕ). slot_page cut s) (after_due old cut 1 cut_lists) ∙ (let e : slot_page cut (slot_due old) ≡ slot_page old (slot_due old) = omega (arith, cut_count, count) in e) in
         one
-        ∙ ap (λ (x : ℕ). adding cut x ∷ []) (half_page_is ∙ ap (λ (x : ℕ). by_half (page_pairs old page) key page x) taken_due)
-        ∙ ap (λ (s : ℕ). (let a : Action = record { pages = s ∷ by_half (page_pairs old page) key page (page_due old 0) ∷ 0 ∷ []; takes = 0 } in a) ∷ []) slot
+        ∙ ap (λ (x : ℕ). adding cut x ∷ []) (half_page_is ∙ ap (λ (x : ℕ). half_for (page_pairs old page) page x key) taken_due)
+        ∙ ap (λ (s : ℕ). (let a : Action = record { pages = s ∷ half_for (page_pairs old page) page (page_due old 0) key ∷ 0 ∷ []; takes = 0 } in a) ∷ []) slot
       where
-        half_many : length (by_half pairs key (take 15 pairs) (drop 15 pairs)) ≡ 15
+        half_many : length (half_for pairs (take 15 pairs) (drop 15 pairs) key) ≡ 15
         half_many = elim (leb_tells (suc key) (key_at pairs 15)) [
           | inl h ↦ let b : nat_lt key (key_at pairs 15) ≡ true = h.0 in rw b lower_many
           | inr h ↦ let b : nat_lt key (key_at pairs 15) ≡ false = h.0 in rw b upper_many
@@ -587,7 +588,7 @@ module _ (shape : Shape) (old : List ℕ) (half : ℕ) (long : length old ≡ da
 
     slots_lost : FreeSlots lost
     slots_lost = slots_back old lost slot whole.slots frees next_slots had.0
-        (λ x some. ap free_slot_said (lost_is.slots x (λ e. some (ap (λ (j : ℕ). free_slot_of old j) e ∙ carries_not_free old table (key, slot) had.1))))
+        (λ x some. ap (free_said 0xF0 2) (lost_is.slots x (λ e. some (ap (λ (j : ℕ). free_slot_of old j) e ∙ carries_not_free old table (key, slot) had.1))))
 
     pages_lost : FreePages lost
     pages_lost = free_pages_stay old lost whole.pages next_pages pages_first pages_many
@@ -725,8 +726,8 @@ module _ (shape : Shape) (old : List ℕ) (half : ℕ) (long : length old ≡ da
         subst (λ (x : ℕ). keeps_last root x (link_of old x) (count_of old x) ≡ false) says.page_is
         (subst (λ (n : ℕ). keeps_last root page (link_of old page) n ≡ false) count_is (subst (λ (l : ℕ). keeps_last root page l (length pairs) ≡ false) says.link_is goes)) in
         let slot_in : slot_page old slot ≡ half + slot / 8 = slot_page_is shape old long half slot all in
-        (rw b (ap (λ (o : Option ℕ). Some (removing old (unwrap_or o 0) (page_of_key old root key))) found_is
-        ∙ ap (λ (x : ℕ). Some (removing old slot x)) (sym says.page_is) ∙ ap (λ (s : ℕ). Some (s ∷ page ∷ 0 ∷ [])) slot_in))
+        (rw b (ap (λ (o : Option ℕ). Some (losing old (unwrap_or o 0) (page_of_key old root key))) found_is
+        ∙ ap (λ (x : ℕ). Some (losing old slot x)) (sym says.page_is) ∙ ap (λ (s : ℕ). Some (s ∷ page ∷ 0 ∷ [])) slot_in))
 
   -- the pair stays as the last of its page
   pub staying_none : keeps_last root page link (length pairs) ≡ true → chain_removal old root key ≡ None

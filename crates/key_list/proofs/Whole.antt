@@ -36,7 +36,8 @@ use Rattle.index_pages.proofs.PageFacts.{length-page_pairs}
 use Rattle.index_pages.specs.Written.{AreSmall}
 use Rattle.index_pages.proofs.Writing.{small_take}
 use Rattle.key_list.specs.Chain.{IsSoundChain, pairs_of_chain, page_of_key}
-use Rattle.key_list.specs.Index.{chain, chain_within, chain_actions, adding, cutting, by_half}
+use Rattle.key_list.specs.Index.{chain, chain_within, chain_actions, cutting}
+use Rattle.index_pages.specs.Actions.{adding, half_for}
 use Rattle.key_list.specs.Located.{IsLocated, Locates, cutting_pages, cutting_parts}
 use Rattle.key_list.specs.Resting.{sound_chain_counts}
 use Rattle.key_list.proofs.Spending.{acted}
@@ -172,20 +173,20 @@ module _ (tells : Bool) (E : Shape → List ℕ → List ℕ → Type 0) (t root
   -- the page is full
   module _ (full : length pairs ≡ 30) where
     two_actions : IsTrue tells
-        → chain_actions v0.store.state.bytes root key ≡ cutting v0.store.state.bytes page ∷ adding v0.store.state.bytes (by_half (page_pairs v0.store.state.bytes page) key page (page_due v0.store.state.bytes 0)) ∷ []
+        → chain_actions v0.store.state.bytes root key ≡ cutting v0.store.state.bytes page ∷ adding v0.store.state.bytes (half_for (page_pairs v0.store.state.bytes page) page (page_due v0.store.state.bytes 0) key) ∷ []
     two_actions told =
         let b : nat_lt (count_of v0.store.state.bytes (page_of_key v0.store.state.bytes root key)) 30 ≡ false = grind (arith, nat_tests, count_is told, full) in
         let at_key : chain_actions v0.store.state.bytes root key
         ≡ cutting v0.store.state.bytes (page_of_key v0.store.state.bytes root key)
-        ∷ adding v0.store.state.bytes (by_half (page_pairs v0.store.state.bytes (page_of_key v0.store.state.bytes root key)) key (page_of_key v0.store.state.bytes root key) (page_due v0.store.state.bytes 0)) ∷ [] = (rw b refl) in
+        ∷ adding v0.store.state.bytes (half_for (page_pairs v0.store.state.bytes (page_of_key v0.store.state.bytes root key)) (page_of_key v0.store.state.bytes root key) (page_due v0.store.state.bytes 0) key) ∷ [] = (rw b refl) in
         at_key
-        ∙ ap (λ (x : ℕ). cutting v0.store.state.bytes x ∷ adding v0.store.state.bytes (by_half (page_pairs v0.store.state.bytes x) key x (page_due v0.store.state.bytes 0)) ∷ []) (sym (said told).page_is)
+        ∙ ap (λ (x : ℕ). cutting v0.store.state.bytes x ∷ adding v0.store.state.bytes (half_for (page_pairs v0.store.state.bytes x) x (page_due v0.store.state.bytes 0) key) ∷ []) (sym (said told).page_is)
 
     cut_first : (v1 : PagesView) → Looks tells (E v0.store.shape) false v0 v1 → Going chain tells (E v0.store.shape) t root table key v0 v1
     cut_first v1 looks = going_looks chain tells (E v0.store.shape) t root table key v0 v1 (λ told living. sound told) looks
 
     due_two : IsTrue tells → DecidesAll v0.store t (index_pages_of v0.store.shape - used_pages v0.store.state.bytes) (chain_actions v0.store.state.bytes root key) (index_pages_of v0.store.shape - used_pages v0.store.state.bytes)
-        (cutting v0.store.state.bytes page ∷ adding v0.store.state.bytes (by_half (page_pairs v0.store.state.bytes page) key page (page_due v0.store.state.bytes 0)) ∷ [])
+        (cutting v0.store.state.bytes page ∷ adding v0.store.state.bytes (half_for (page_pairs v0.store.state.bytes page) page (page_due v0.store.state.bytes 0) key) ∷ [])
     due_two told =
         subst (λ (steps : List Action). DecidesAll v0.store t (index_pages_of v0.store.shape - used_pages v0.store.state.bytes) (chain_actions v0.store.state.bytes root key) (index_pages_of v0.store.shape - used_pages v0.store.state.bytes) steps)
         (two_actions told) (all_left v0.store t (index_pages_of v0.store.shape - used_pages v0.store.state.bytes) (chain_actions v0.store.state.bytes root key))
@@ -246,8 +247,8 @@ module _ (tells : Bool) (E : Shape → List ℕ → List ℕ → Type 0) (t root
       one_left told = omega (arith, used_left told)
 
       -- the cut is the first of two actions
-      pub made_first : IsTrue tells → acted (cutting_pages taken page) 1 ∷ adding v0.store.state.bytes (by_half (page_pairs v0.store.state.bytes page) key page (page_due v0.store.state.bytes 0)) ∷ [] ≡ chain_actions v0.store.state.bytes root key
-      made_first told = ap (λ (ps : List ℕ). acted ps 1 ∷ adding v0.store.state.bytes (by_half (page_pairs v0.store.state.bytes page) key page (page_due v0.store.state.bytes 0)) ∷ []) (cut_pages_are told) ∙ sym (two_actions told)
+      pub made_first : IsTrue tells → acted (cutting_pages taken page) 1 ∷ adding v0.store.state.bytes (half_for (page_pairs v0.store.state.bytes page) page (page_due v0.store.state.bytes 0) key) ∷ [] ≡ chain_actions v0.store.state.bytes root key
+      made_first told = ap (λ (ps : List ℕ). acted ps 1 ∷ adding v0.store.state.bytes (half_for (page_pairs v0.store.state.bytes page) page (page_due v0.store.state.bytes 0) key) ∷ []) (cut_pages_are told) ∙ sym (two_actions told)
 
       -- the cut was refused
       pub cut_err : (v2 : PagesView) (fault : PageFault) → (let r : Result (Unit {0}) PageFault = Err fault in Acts tells (E v1.store.shape) t (cutting_pages taken page) (cutting_parts after taken page link pairs) v1 v2 r)
@@ -290,8 +291,8 @@ module _ (tells : Bool) (E : Shape → List ℕ → List ℕ → Type 0) (t root
             let rest = half_left v0.store.shape v0.store.state.bytes half (long told) half_is all few root table front page link pairs key fits loc (sound told) (named told) (said told) after taken (takes told) full (used_left told) in
             ap (λ (b : List ℕ). acted (cutting_pages taken page) 1 ∷ chain_actions b root key) (bytes3 told) ∙ ap (λ (steps : List Action). acted (cutting_pages taken page) 1 ∷ steps) rest ∙ made_first told
 
-        module _ (hfront : Super) (hpage hlink : ℕ) (hpairs : List Pair) (front_is : hfront ≡ after) (page_is : hpage ≡ by_half pairs key page taken) (link_is : hlink ≡ by_half pairs key taken link)
-            (pairs_are : hpairs ≡ by_half pairs key (take 15 pairs) (drop 15 pairs)) where
+        module _ (hfront : Super) (hpage hlink : ℕ) (hpairs : List Pair) (front_is : hfront ≡ after) (page_is : hpage ≡ half_for pairs page taken key) (link_is : hlink ≡ half_for pairs taken link key)
+            (pairs_are : hpairs ≡ half_for pairs (take 15 pairs) (drop 15 pairs) key) where
           half_read : IsLocated v0.store.shape after hpage hlink hpairs × (length hpairs ≡ 15)
           half_read = elim (leb_tells (suc key) (key_at pairs 15)) [
             | inl h ↦
@@ -360,12 +361,12 @@ module _ (tells : Bool) (E : Shape → List ℕ → List ℕ → Type 0) (t root
               let rest = half_left v0.store.shape v0.store.state.bytes half (long told) half_is all few root table front page link pairs key fits loc (sound told) (named told) (said told) after taken (takes told) full (used_left told) in
               let less : index_pages_of v0.store.shape - used_pages v0.store.state.bytes - 1 ≡ index_pages_of v0.store.shape - used_pages (applied (cutting_parts after taken page link pairs) v0.store.state.bytes) = omega (arith, used, used_left told) in
               let first = one_done v0.store t (index_pages_of v0.store.shape - used_pages v0.store.state.bytes) (chain_actions v0.store.state.bytes root key) (index_pages_of v0.store.shape - used_pages v0.store.state.bytes)
-              (cutting v0.store.state.bytes page) (adding v0.store.state.bytes (by_half (page_pairs v0.store.state.bytes page) key page (page_due v0.store.state.bytes 0)) ∷ []) (due_two told) (cut_fits told) in
+              (cutting v0.store.state.bytes page) (adding v0.store.state.bytes (half_for (page_pairs v0.store.state.bytes page) page (page_due v0.store.state.bytes 0) key) ∷ []) (due_two told) (cut_fits told) in
               subst (λ (b : List ℕ). DecidesAll v0.store t (index_pages_of v0.store.shape - used_pages v0.store.state.bytes) (chain_actions v0.store.state.bytes root key) (index_pages_of v0.store.shape - used_pages b) (chain_actions b root key)) (sym (bytes3 told))
               (subst (λ (steps : List Action). DecidesAll v0.store t (index_pages_of v0.store.shape - used_pages v0.store.state.bytes) (chain_actions v0.store.state.bytes root key)
               (index_pages_of v0.store.shape - used_pages (applied (cutting_parts after taken page link pairs) v0.store.state.bytes)) steps) (sym rest)
               (subst (λ (n : ℕ). DecidesAll v0.store t (index_pages_of v0.store.shape - used_pages v0.store.state.bytes) (chain_actions v0.store.state.bytes root key) n
-              (adding v0.store.state.bytes (by_half (page_pairs v0.store.state.bytes page) key page (page_due v0.store.state.bytes 0)) ∷ [])) less first))
+              (adding v0.store.state.bytes (half_for (page_pairs v0.store.state.bytes page) page (page_due v0.store.state.bytes 0) key) ∷ [])) less first))
 
           -- what is left of the insertion decides
           pub cut_then : (v3 : PagesView) (r : Result ℕ IndexFault) → Inserts tells (E v2.store.shape) (chain_within hfront.next_page) t root table key v2 v3 r → Inserts tells (E v0.store.shape) chain t root table key v0 v3 r

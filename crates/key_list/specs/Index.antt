@@ -2,12 +2,13 @@
 use Rattle.std.specs.Prelude.{ℕ, zero, suc, ◌≡◌, ◌≢◌, ◌⊎◌, Bool, not, ◌&&◌, nat_eq, nat_lt, if◌then◌else◌, List, [], ◌∷◌, Option, Some, None}
 use Rattle.std.specs.Option.{unwrap_or}
 use Rattle.record_slots.specs.Places.{next_page, slot_page, slot_due, page_due}
+use Rattle.page_store.specs.Access.{Access}
 use Rattle.page_store.specs.Index.{Action, Index}
 use Rattle.page_store.specs.Pairs.{Pair, found}
 use Rattle.key_list.specs.Tried.{chain_testing}
 use Rattle.key_list.specs.Along.{chain_finding, chain_nexting, chain_placing}
 use Rattle.key_list.specs.Chain.{chains_check, pairs_of_chain, page_of_key}
-use Rattle.index_pages.specs.Keys.{key_at}
+use Rattle.index_pages.specs.Actions.{adding, losing, half_for}
 use Rattle.index_pages.specs.Page.{count_of, link_of, page_pairs}
 use Rattle.index_pages.specs.Within.{within}
 
@@ -19,39 +20,25 @@ IsOnChain (suc n) bytes page other = (other ≡ page) ⊎ ((link_of bytes page �
 abbrev pub IsPageOfChain : List ℕ → ℕ → ℕ → Type 0
 IsPageOfChain bytes root page = IsOnChain (next_page bytes) bytes root page
 
--- a pair is added: the slot that is due, the page, the super page
-abbrev pub adding : List ℕ → ℕ → Action
-adding bytes page = record { pages = slot_page bytes (slot_due bytes) ∷ page ∷ 0 ∷ []; takes = 0 }
-
 -- a full page is cut: the page, the page that is due, which takes the upper half, the super page
 abbrev pub cutting : List ℕ → ℕ → Action
 cutting bytes page = record { pages = page ∷ page_due bytes 0 ∷ 0 ∷ []; takes = 1 }
 
--- what a key gets of two when 30 pairs are cut: what stays with the lower 15, or what goes with the upper 15
-abbrev pub by_half : {T : Type 0} → List Pair → ℕ → T → T → T
-by_half pairs key lower upper = if nat_lt key (key_at pairs 15) then lower else upper
-
--- the page of a key after the cut
-abbrev pub half_for : List ℕ → ℕ → ℕ → ℕ
-half_for bytes page key = by_half (page_pairs bytes page) key page (page_due bytes 0)
-
 abbrev pub chain_actions : List ℕ → ℕ → ℕ → List Action
 chain_actions bytes root key =
     if nat_lt (count_of bytes (page_of_key bytes root key)) 30 then adding bytes (page_of_key bytes root key) ∷ []
-    else cutting bytes (page_of_key bytes root key) ∷ adding bytes (half_for bytes (page_of_key bytes root key) key) ∷ []
+    else
+    cutting bytes (page_of_key bytes root key)
+    ∷ adding bytes (half_for (page_pairs bytes (page_of_key bytes root key)) (page_of_key bytes root key) (page_due bytes 0) key) ∷ []
 
 -- a page of so many pairs keeps its last one, unless it is the root and has no link
 abbrev pub keeps_last : ℕ → ℕ → ℕ → ℕ → Bool
 keeps_last root page link count = nat_lt count 2 && not (nat_eq page root && nat_eq link 0)
 
--- a pair is taken out: its slot, the page, the super page
-abbrev pub removing : List ℕ → ℕ → ℕ → List ℕ
-removing bytes slot page = slot_page bytes slot ∷ page ∷ 0 ∷ []
-
 abbrev pub chain_removal : List ℕ → ℕ → ℕ → Option (List ℕ)
 chain_removal bytes root key =
     if keeps_last root (page_of_key bytes root key) (link_of bytes (page_of_key bytes root key)) (count_of bytes (page_of_key bytes root key)) then None
-    else Some (removing bytes (unwrap_or (found (pairs_of_chain bytes root) key) 0) (page_of_key bytes root key))
+    else Some (losing bytes (unwrap_or (found (pairs_of_chain bytes root) key) 0) (page_of_key bytes root key))
 
 -- a page is that of the key, with this link and these pairs
 pub record IsPlaceOf (bytes : List ℕ) (root key page link : ℕ) (pairs : List Pair) : Type 0 where
@@ -68,8 +55,13 @@ chain = record {
   level = λ bytes root. 0;
   has_page = IsPageOfChain;
   actions = chain_actions;
-  fits = IsPlaceOf;
   removal = chain_removal;
+}
+
+-- how chains are read
+abbrev pub chain_access : Access
+chain_access = record {
+  fits = IsPlaceOf;
   finding = chain_finding;
   nexting = chain_nexting;
   placing = chain_placing;

@@ -4,7 +4,7 @@ use Rattle.std.proofs.lemmas.Bool.Decides.{eqb_tells}
 use Rattle.record_slots.specs.Places.{page_bytes, next_page, AreGiven}
 use Rattle.std.specs.Prelude.{slice_get}
 use Rattle.std.specs.Option.{option_map}
-use Rattle.record_slots.specs.Super.{next_page_said}
+use Rattle.record_slots.specs.Super.{next_said}
 use Rattle.record_slots.specs.declared.super_page.TableEntry.{TableEntry}
 use Rattle.page_store.specs.Index.{KeepsIndex, HasCounts, IsTable}
 use Rattle.page_store.specs.Pairs.{Pair, Rise}
@@ -100,7 +100,7 @@ pub sound_chains_rest : (old new : List ℕ) → IsSoundChain old → KeepsIndex
 sound_chains_rest old new sound keeps =
     let w = whole_seen 0 chain_check old sound in
     let f = front_rests 0 chain_check old new w keeps in
-    let same : next_page new ≡ next_page old = ap next_page_said (keeps.pages 0 (omega (arith, w.front.some_pages, w.front.pages))) in
+    let same : next_page new ≡ next_page old = ap (next_said 12) (keeps.pages 0 (omega (arith, w.front.some_pages, w.front.pages))) in
     let each : (table root : ℕ) → IsTable old table root → chain_check new root table None × (pairs_of_chain new root ≡ pairs_of_chain old root) =
     λ table root is. chain_of_table_rests old new root table (table_own 0 old table root w.front is) (w.tables table root is) f.keeps same (λ x some lt. keeps.pages x (omega (arith, lt, w.front.pages))) in (
       whole_passes 0 chain_check new (record {

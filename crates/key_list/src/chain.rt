@@ -3,7 +3,7 @@ ghost use Rattle.key_list.specs.ChainFacts.{sound_chain_rises};
 ghost use Rattle.key_list.specs.Seen.{chain_excludes, chain_first};
 ghost use Rattle.key_list.specs.Resting.{sound_table, sound_chain_given, sound_chain_counts, sound_chains_rest};
 ghost use Rattle.key_list.specs.Extending.{sound_chains_extend};
-ghost use Rattle.key_list.specs.Index.{chain};
+ghost use Rattle.key_list.specs.Index.{chain, chain_access};
 
 use crate::change::Change;
 use crate::checking::check_tables;
@@ -33,6 +33,8 @@ pub struct KeyList {}
 
 impl KeyIndex for KeyList {
     ghost index = { chain };
+
+    ghost access = { chain_access };
 
     ghost alone = { IsSoundChain-prop };
 

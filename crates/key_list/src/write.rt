@@ -6,7 +6,7 @@ ghost use Rattle.page_store.specs.Index.{index_pages_of};
 ghost use Rattle.page_store.specs.Runs.{Runs, acting_of};
 ghost use Rattle.page_store.specs.Shown.{pages_of, top_in};
 ghost use Rattle.index_pages.specs.Acts.{Acts};
-ghost use Rattle.key_list.specs.Index.{by_half};
+ghost use Rattle.index_pages.specs.Actions.{half_for};
 ghost use Rattle.key_list.specs.Located.{IsLocated, cutting_pages, cutting_parts};
 
 use crate::place::Located;
@@ -56,9 +56,9 @@ pub fn cut_page<S: EawStore>(
 pub fn half_of(at: &Located, taken: &Claim, key: u64) -> Located
     requires { length at.now.pairs.items ≡ 30 }
     ensures front { result.front ≡ taken.now.front }
-    ensures page { result.page ≡ by_half at.now.pairs.items key at.now.page taken.now.number }
-    ensures link { result.link ≡ by_half at.now.pairs.items key taken.now.number at.now.link }
-    ensures pairs { result.pairs.items ≡ by_half at.now.pairs.items key (take 15 at.now.pairs.items) (drop 15 at.now.pairs.items) }
+    ensures page { result.page ≡ half_for at.now.pairs.items at.now.page taken.now.number key }
+    ensures link { result.link ≡ half_for at.now.pairs.items taken.now.number at.now.link key }
+    ensures pairs { result.pairs.items ≡ half_for at.now.pairs.items (take 15 at.now.pairs.items) (drop 15 at.now.pairs.items) key }
 {
     let pairs = at.pairs.as_slice();
     if key < middle_of(&at.pairs) {

@@ -8,9 +8,7 @@ use Rattle.record_slots.specs.IndexHead.{index_head_said}
 use Rattle.record_slots.specs.Fresh.{fresh_root}
 use Rattle.record_slots.specs.declared.slot.Slot.TheVariants.{Absent}
 use Rattle.record_slots.specs.Places.{page_bytes, slot_of, next_slot, next_page, slot_count, first_slot_page, version_of, tables_of, root_of, free_slot, free_page, free_slots, free_pages, free_slot_of, used_slots, slot_due, page_due, Carries}
-use Rattle.page_store.specs.Course.{Reading, Course, LeafSaid}
 use Rattle.page_store.specs.Pairs.{Pair, inserted}
-use Rattle.page_store.specs.Tested.{Plan}
 
 -- one nested top action of an insertion: the pages that its parts lie in, one for each part, and how many new pages it takes
 pub record Action : Type 0 where
@@ -19,10 +17,8 @@ pub record Action : Type 0 where
 
 -- What an index makes of data that has one for each table: which data is sound, and which page fails first. And for the index of one table,
 -- told by its root: its pairs (key, slot); how many levels of inner pages stand above its leaves; which pages it has; the actions that the
--- insertion of a key makes, splits first; whether a page of level 0 with this link and these pairs is the one that the key goes into, and no page on
--- the way there is full; the pages that the parts of a key's removal lie in, or none if the key's pair is the last of its page and stays there; and
--- how a look goes that finds the slot of a key, and one that finds the pairs that come next from a key on; which page a key goes into that is not
--- there, as the pages say that a look for it read; and how the test of all of it goes in an array of a shape.
+-- insertion of a key makes, splits first; and the pages that the parts of a key's removal lie in, or none if the key's pair is the last of its
+-- page and stays there.
 pub record Index : Type 1 where
   pub sound : List ℕ → Type 0
   pub fails : List ℕ → ℕ → Type 0
@@ -30,12 +26,7 @@ pub record Index : Type 1 where
   pub level : List ℕ → ℕ → ℕ
   pub has_page : List ℕ → ℕ → ℕ → Type 0
   pub actions : List ℕ → ℕ → ℕ → List Action
-  pub fits : List ℕ → (root key page link : ℕ) → List Pair → Type 0
   pub removal : List ℕ → ℕ → ℕ → Option (List ℕ)
-  pub finding : ℕ → ℕ → Course (Option ℕ)
-  pub nexting : ℕ → ℕ → Course (List Pair)
-  pub placing : ℕ → List Reading → Option LeafSaid
-  pub testing : Shape → Plan
 
 -- there are four slots for each page of the array; half of the pages are for the index, among them the super page
 abbrev pub slots_of : Shape → ℕ

@@ -16,6 +16,7 @@ pub mod Fits
 pub mod Reads
 pub mod Pairs
 pub mod Course
+pub mod Access
 pub mod Index
 pub mod Looks
 pub mod Faults

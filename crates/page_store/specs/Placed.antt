@@ -3,6 +3,7 @@ use Rattle.std.specs.Prelude.{ℕ, ◌≡◌, ◌<◌, ◌≤◌, Bool, List, le
 use Rattle.array_shape.specs.declared.shape.Shape.{Shape}
 use Rattle.eaw_face.specs.Command.{Command}
 use Rattle.eaw_face.specs.StoreView.{StoreView}
+use Rattle.page_store.specs.Access.{Access}
 use Rattle.page_store.specs.Course.{LeafSaid}
 use Rattle.page_store.specs.Follows.{Walks}
 use Rattle.page_store.specs.Index.{Index, slots_of, index_pages_of}
@@ -24,10 +25,10 @@ slot_sought (Slot slot) = Some slot
 slot_sought _ = None
 
 -- where the key goes, in this data: the page that it goes into, or more than one action is due
-abbrev pub IsSoughtFor : Index → List ℕ → (root key : ℕ) → Sought → Type 0
-IsSoughtFor index bytes root key (Slot slot) = Unit {0}
-IsSoughtFor index bytes root key (Place leaf) = index.fits bytes root key leaf.page leaf.link leaf.pairs.items
-IsSoughtFor index bytes root key Split = 2 ≤ length (index.actions bytes root key)
+abbrev pub IsSoughtFor : Index → Access → List ℕ → (root key : ℕ) → Sought → Type 0
+IsSoughtFor index access bytes root key (Slot slot) = Unit {0}
+IsSoughtFor index access bytes root key (Place leaf) = access.fits bytes root key leaf.page leaf.link leaf.pairs.items
+IsSoughtFor index access bytes root key Split = 2 ≤ length (index.actions bytes root key)
 
 -- the slot is one of the array's, and the page is one that an index may have
 abbrev pub IsSoughtIn : Shape → Sought → Type 0
@@ -42,7 +43,7 @@ IsPlaceSaid said _ = Unit {0}
 
 -- A look for a key and its place. The slot is the answer of the course by which the key is found, over any store, and the place is that of the
 -- pages that were read on it.
-abbrev pub FollowsToPlace : Bool → (calls calls_now : Command → ℕ) → Index → (root key : ℕ) → (old new : StoreView) → Result Sought PageFault → Type 0
-FollowsToPlace tells calls calls_now index root key old new result =
-    Walks tells calls calls_now (index.finding root key).goes ((index.finding root key).most old.shape)
-    (λ sought read. ((index.finding root key).answer read ≡ Some (slot_sought sought)) × IsPlaceSaid (index.placing key read) sought) old new result
+abbrev pub FollowsToPlace : Bool → (calls calls_now : Command → ℕ) → Access → (root key : ℕ) → (old new : StoreView) → Result Sought PageFault → Type 0
+FollowsToPlace tells calls calls_now access root key old new result =
+    Walks tells calls calls_now (access.finding root key).goes ((access.finding root key).most old.shape)
+    (λ sought read. ((access.finding root key).answer read ≡ Some (slot_sought sought)) × IsPlaceSaid (access.placing key read) sought) old new result

@@ -3,6 +3,7 @@ ghost use Rattle.std.specs.Prelude.{◌≡◌, ◌^◌, ◌<◌, ◌≤◌, ◌+
 ghost use Rattle.array_shape.specs.Places.{page_count};
 ghost use Rattle.eaw_face.specs.Causes.{IsAlive};
 ghost use Rattle.record_slots.specs.Places.{next_page, page_bytes, version_of, AreGiven};
+ghost use Rattle.page_store.specs.Access.{Access};
 ghost use Rattle.page_store.specs.Index.{Index, IsTable, HasCounts, KeepsIndex, IsEmptyRoot, Extends, slots_of};
 ghost use Rattle.page_store.specs.Follows.{Follows};
 ghost use Rattle.page_store.specs.Inserts.{Inserts, are_slots_full};
@@ -43,6 +44,9 @@ pub trait KeyIndex {
     /// What it makes of data: whether it is sound, the pairs of key and slot under a root, and what an insertion takes.
     ghost index: { Index };
 
+    /// How it is read: how look-ups and its test go from page to page.
+    ghost access: { Access };
+
     /// There is at most one proof of soundness.
     ghost alone: { (bytes : List ℕ) → IsProp (index.sound bytes) };
 
@@ -57,7 +61,7 @@ pub trait KeyIndex {
             (pages_of (S.view pages.old.store) pages.old) (pages_of (S.view pages.new.store) pages.new) }
         ensures cause { CheckCause S.tells index (S.view pages.old.store) result }
         ensures records { IsTrue S.tells → OnOk result (tables.new ≡ tables.old ++ records_of index (S.view pages.old.store).state.bytes) }
-        ensures tests { Tests S.tells (S.calls pages.old.store) (S.calls pages.new.store) (index.testing (S.view pages.old.store).shape)
+        ensures tests { Tests S.tells (S.calls pages.old.store) (S.calls pages.new.store) (access.testing (S.view pages.old.store).shape)
             (S.view pages.old.store) (S.view pages.new.store) result }
         ensures dead { IsErrOf result CheckFault.Dead → pages.new ≡ pages.old };
 
@@ -75,7 +79,7 @@ pub trait KeyIndex {
         ensures looks { Looks S.tells (S.opens (S.view pages.old.store).shape) (is_failed result)
             (pages_of (S.view pages.old.store) pages.old) (pages_of (S.view pages.new.store) pages.new) }
         ensures cause { LookCause S.tells (S.view pages.old.store) result }
-        ensures follows { Follows S.tells (S.calls pages.old.store) (S.calls pages.new.store) (index.finding root key) (λ slot. slot)
+        ensures follows { Follows S.tells (S.calls pages.old.store) (S.calls pages.new.store) (access.finding root key) (λ slot. slot)
             (S.view pages.old.store) (S.view pages.new.store) result }
         ensures found { IsTrue S.tells → IfOk result (λ slot. slot ≡ found (index.pairs (S.view pages.old.store).state.bytes root) key) }
         ensures inside { IfOk result (λ slot. IfSome slot (λ slot. slot < slots_of (S.view pages.old.store).shape)) }
@@ -96,10 +100,10 @@ pub trait KeyIndex {
         ensures looks { Looks S.tells (S.opens (S.view pages.old.store).shape) (is_failed result)
             (pages_of (S.view pages.old.store) pages.old) (pages_of (S.view pages.new.store) pages.new) }
         ensures cause { LookCause S.tells (S.view pages.old.store) result }
-        ensures follows { FollowsToPlace S.tells (S.calls pages.old.store) (S.calls pages.new.store) index root key
+        ensures follows { FollowsToPlace S.tells (S.calls pages.old.store) (S.calls pages.new.store) access root key
             (S.view pages.old.store) (S.view pages.new.store) result }
         ensures found { IsTrue S.tells → IfOk result (λ sought. slot_sought sought ≡ found (index.pairs (S.view pages.old.store).state.bytes root) key) }
-        ensures place { IsTrue S.tells → IfOk result (IsSoughtFor index (S.view pages.old.store).state.bytes root key) }
+        ensures place { IsTrue S.tells → IfOk result (IsSoughtFor index access (S.view pages.old.store).state.bytes root key) }
         ensures inside { IfOk result (IsSoughtIn (S.view pages.old.store).shape) }
         ensures dead { IsErrOf result PageFault.Dead → pages.new ≡ pages.old };
 
@@ -118,7 +122,7 @@ pub trait KeyIndex {
         ensures looks { Looks S.tells (S.opens (S.view pages.old.store).shape) (is_failed result)
             (pages_of (S.view pages.old.store) pages.old) (pages_of (S.view pages.new.store) pages.new) }
         ensures cause { LookCause S.tells (S.view pages.old.store) result }
-        ensures follows { Follows S.tells (S.calls pages.old.store) (S.calls pages.new.store) (index.nexting root from) (λ some. some.items)
+        ensures follows { Follows S.tells (S.calls pages.old.store) (S.calls pages.new.store) (access.nexting root from) (λ some. some.items)
             (S.view pages.old.store) (S.view pages.new.store) result }
         ensures next { IsTrue S.tells → IfOk result (λ some. AreNext (index.pairs (S.view pages.old.store).state.bytes root) from some.items) }
         ensures inside { IfOk result (λ some. AreInside from (slots_of (S.view pages.old.store).shape) some.items) }
@@ -148,11 +152,11 @@ pub trait KeyIndex {
         requires absent { IsTrue S.tells → IsAlive (S.view pages.old.store) → found (index.pairs (S.view pages.old.store).state.bytes root) key ≡ None }
         requires place { IfSome place (λ leaf. IsPlaceIn (S.view pages.old.store).shape leaf.page leaf.pairs.items) }
         requires fits { IsTrue S.tells → IsAlive (S.view pages.old.store)
-            → IfSome place (λ leaf. index.fits (S.view pages.old.store).state.bytes root key leaf.page leaf.link leaf.pairs.items) }
+            → IfSome place (λ leaf. access.fits (S.view pages.old.store).state.bytes root key leaf.page leaf.link leaf.pairs.items) }
         ensures inserts { Inserts S.tells (S.opens (S.view pages.old.store).shape) index tid root table key
             (pages_of (S.view pages.old.store) pages.old) (pages_of (S.view pages.new.store) pages.new) result }
-        ensures works { Works (IsTrue S.tells) S.tells (is_done result) S.view S.calls tid (index.finding root key).goes
-            (unless_full (are_slots_full result) (insertion_limits (is_some place) (index.finding root key) (S.view pages.old.store).shape))
+        ensures works { Works (IsTrue S.tells) S.tells (is_done result) S.view S.calls tid (access.finding root key).goes
+            (unless_full (are_slots_full result) (insertion_limits (is_some place) (access.finding root key) (S.view pages.old.store).shape))
             (index.actions (S.view pages.old.store).state.bytes root key)
             (blamed_index result) (S.view pages.old.store) (S.view pages.new.store) }
         ensures full { IsTrue (are_slots_full result) → Looks S.tells (S.opens (S.view pages.old.store).shape) false
@@ -180,8 +184,8 @@ pub trait KeyIndex {
         requires absent { IsTrue S.tells → IsAlive (S.view pages.old.store) → HasAbsent index root table key (S.view pages.old.store).state.bytes }
         ensures removes { Removes S.tells (S.opens (S.view pages.old.store).shape) index tid root key
             (pages_of (S.view pages.old.store) pages.old) (pages_of (S.view pages.new.store) pages.new) result }
-        ensures works { Works (Unit {0}) S.tells (is_done result) S.view S.calls tid (index.finding root key).goes
-            (removal_limits (index.finding root key) (S.view pages.old.store).shape) (removal_actions (index.removal (S.view pages.old.store).state.bytes root key))
+        ensures works { Works (Unit {0}) S.tells (is_done result) S.view S.calls tid (access.finding root key).goes
+            (removal_limits (access.finding root key) (S.view pages.old.store).shape) (removal_actions (index.removal (S.view pages.old.store).state.bytes root key))
             (blamed result) (S.view pages.old.store) (S.view pages.new.store) }
         ensures dead { IsErrOf result PageFault.Dead → pages.new ≡ pages.old };
 

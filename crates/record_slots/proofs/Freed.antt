@@ -4,7 +4,7 @@ use Rattle.std.specs.Prelude.{slice_set}
 use Rattle.std.proofs.lemmas.List.{drop_at, length-append, length-replicate}
 use Rattle.byteorder.specs.Endian.{little_from, little_bytes}
 use Rattle.byteorder.specs.Numbers.{little_number-reads_back, length-bytes_low_first}
-use Rattle.record_slots.specs.Free.{free_slot_said, free_page_said, free_slot_bytes, free_page_bytes}
+use Rattle.record_slots.specs.Free.{free_said, free_slot_bytes, free_page_bytes}
 use Rattle.record_slots.specs.declared.free.Free.{Free}
 use Rattle.record_slots.proofs.SlotLemmas.{little_shift, free_slot_is, free_page_is}
 
@@ -21,7 +21,7 @@ module _ (next rank : ℕ) (next_fits : next < 2 ^ 32) (rank_fits : rank < 2 ^ 3
 
 -- what is written as free is read as that
 module _ (free : Free) (next_fits : free.next < 2 ^ 32) (rank_fits : free.rank < 2 ^ 32) where
-  pub free_slot_back : free_slot_said (free_slot_bytes free) ≡ Some free
+  pub free_slot_back : free_said 0xF0 2 (free_slot_bytes free) ≡ Some free
   unfolding free_slot_bytes
   free_slot_back =
       let numbers : List ℕ = little_bytes 4 free.next ++ (little_bytes 4 free.rank ++ replicate 54 0) in
@@ -29,7 +29,7 @@ module _ (free : Free) (next_fits : free.next < 2 ^ 32) (rank_fits : free.rank <
       let rank = sym (little_shift 4 2 4 (0xF0 ∷ 0 ∷ numbers)) ∙ second_said free.next free.rank next_fits rank_fits (replicate 54 0) in
       free_slot_is (0xF0 ∷ 0 ∷ numbers) refl ∙ (λ i. Some (record { next = next i; rank = rank i }))
 
-  pub free_page_back : free_page_said (free_page_bytes free) ≡ Some free
+  pub free_page_back : free_said 0xFF 4 (free_page_bytes free) ≡ Some free
   unfolding free_page_bytes
   free_page_back =
       let numbers : List ℕ = little_bytes 4 free.next ++ (little_bytes 4 free.rank ++ replicate 500 0) in

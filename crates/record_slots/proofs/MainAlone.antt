@@ -1,12 +1,12 @@
 -- A super page that has the table `main` alone.
 use Rattle.std.proofs.Common.{◌≡◌, ℕ, ◌^◌, ◌<◌, List, [], length, refl, sym, ◌∙◌, ap, arith}
 use Rattle.byteorder.specs.Numbers.{little_number-reads_back}
-use Rattle.record_slots.specs.Super.{SaysSuper, main_entries, main_super, super_bytes, part_bytes, version_said, form_said, next_slot_said, next_page_said, entries_said, free_slot_in, free_page_in, free_slots_in, free_pages_in}
+use Rattle.record_slots.specs.Super.{SaysSuper, main_entries, main_super, super_bytes, part_bytes, version_said, form_said, next_said, entries_said, free_in}
 use Rattle.record_slots.specs.declared.super_page.Super.{Super}
 
 -- it says what was written
 pub says_main : (form slot page : ℕ) → slot < 2 ^ 32 → page < 2 ^ 32 → SaysSuper (super_bytes (main_super form slot page)) (main_super form slot page)
-unfolding version_said form_said next_slot_said next_page_said entries_said free_slot_in free_page_in free_slots_in free_pages_in part_bytes
+unfolding version_said form_said next_said entries_said free_in part_bytes
 says_main form slot page fits pages_fit = record {
   has_mark = record { mark = refl; some = omega arith; known = omega arith };
   version = refl;

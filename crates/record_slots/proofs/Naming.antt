@@ -1,14 +1,14 @@
 -- The names of used entries, and a last entry that is added.
-use Rattle.std.proofs.Common.{◌≡◌, ◌≢◌, ◌^◌, ℕ, zero, suc, ◌+◌, ◌-◌, ◌*◌, ◌<◌, ◌≤◌, ◌⊎◌, Bool, true, false, ◌&&◌, nat_eq, inl, inr, IsTrue, List, [], ◌∷◌, ◌++◌, length, take, drop, replicate, Option, Some, None, refl, sym, ◌∙◌, ap, subst, append_assoc, arith}
+use Rattle.std.proofs.Common.{◌≡◌, ◌≢◌, ◌^◌, ℕ, zero, suc, ◌+◌, ◌-◌, ◌*◌, ◌<◌, ◌≤◌, ◌⊎◌, true, ◌&&◌, inl, inr, List, [], ◌∷◌, ◌++◌, length, take, drop, replicate, Option, Some, None, refl, sym, ◌∙◌, ap, subst, append_assoc, arith}
 use Rattle.std.specs.Prelude.{slice_index, slice_get}
 use Rattle.std.specs.Option.{option_map}
-use Rattle.std.proofs.lemmas.Bool.{cases_eq, eqb-true, eq-eqb, ne_eqb, and_parts, and_from, leb-true, le-leb}
+use Rattle.std.proofs.lemmas.Bool.{cases_eq, eqb-true, ne_eqb, and_parts, and_from, leb-true, le-leb}
 use Rattle.std.proofs.lemmas.List.{drop-drop, drop-replicate, get_or_append_left, take_at, drop_at, take-append-le, take-append-drop, length-take-le, length-drop, length-append, length-replicate}
 use Rattle.byteorder.specs.Endian.{little_from, little_bytes}
 use Rattle.byteorder.specs.Numbers.{little_from-take, little_number-reads_back, length-bytes_low_first}
 use Rattle.mars_base.specs.Bytes.{put}
 use Rattle.record_slots.specs.Names.{names_in, with_last}
-use Rattle.record_slots.specs.Super.{AreTables, HasTables, IsMain, IsApart, entry_said, entry_bytes, name_said, is_name, used_entries, tables_used, are_free, are_entries, are_named}
+use Rattle.record_slots.specs.Super.{AreTables, IsMain, IsApart, entry_said, entry_bytes, name_said, is_name, used_entries, tables_used, are_free, are_entries, are_named}
 use Rattle.record_slots.specs.Text.{IsName}
 use Rattle.record_slots.specs.declared.super_page.TableEntry.{TableEntry}
 use Rattle.record_slots.proofs.Front.{number_put}

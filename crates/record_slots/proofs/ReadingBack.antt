@@ -1,12 +1,12 @@
 -- What a super page says in which a part was written.
-use Rattle.std.proofs.Common.{◌≡◌, ℕ, ◌+◌, ◌^◌, ◌<◌, ◌≤◌, inl, inr, List, [], ◌∷◌, ◌++◌, length, take, drop, refl, sym, ◌∙◌, ap, subst, arith}
-use Rattle.std.specs.Prelude.{replicate}
+use Rattle.std.proofs.Common.{◌≡◌, ℕ, ◌+◌, ◌^◌, ◌<◌, ◌≤◌, inl, inr, List, [], ◌++◌, length, take, drop, refl, sym, ◌∙◌, ap, arith}
+use Rattle.std.specs.Prelude.{nat_eq, if◌then◌else◌, replicate}
 use Rattle.std.proofs.lemmas.List.{length-append, length-replicate, drop_at, take_at, take-take, drop-drop, drop-take, append-nil}
 use Rattle.std.proofs.lemmas.Bool.{cases_eq, eq-eqb, ne_eqb}
 use Rattle.byteorder.specs.Endian.{little_from, little_bytes}
 use Rattle.byteorder.specs.Numbers.{little_from-take, little_number-reads_back, length-bytes_low_first}
 use Rattle.mars_base.specs.Bytes.{range}
-use Rattle.record_slots.specs.Super.{HasSuperMark, SaysSuper, IsPartOf, IsWhole, free_in, version_said, form_said, next_slot_said, next_page_said, entries_said, free_slot_in, free_page_in, free_slots_in, free_pages_in, part_bytes, super_bytes}
+use Rattle.record_slots.specs.Super.{SaysSuper, IsPartOf, IsWhole, free_in, version_said, form_said, next_said, entries_said, part_bytes, super_bytes}
 use Rattle.record_slots.specs.declared.super_page.Super.{Super}
 use Rattle.record_slots.proofs.SlotLemmas.{little_shift}
 
@@ -33,7 +33,7 @@ pub range_in : (xs : List ℕ) (a c m : ℕ) → c ≤ m → take c (drop a (tak
 range_in xs a c m le = ap (take c) (drop-take a m xs) ∙ take-take c m (drop a xs) le
 
 -- what is free in a version
-free_is : (version n m : ℕ) → m ≡ n → (version ≡ 1 → n ≡ 0) → n ≡ free_in version m
+free_is : (version n m : ℕ) → m ≡ n → (version ≡ 1 → n ≡ 0) → n ≡ (if nat_eq version 1 then 0 else m)
 free_is version n m is none = elim (cases_eq version 1) [
   | inl one ↦ none one ∙ sym (rw (eq-eqb version 1 one) refl)
   | inr other ↦ sym is ∙ sym (rw (ne_eqb version 1 other) refl)
@@ -104,7 +104,7 @@ module _ (front : Super) where
 
   -- a page with this part says what was written
   pub part_says : IsWritable front → (bytes : List ℕ) → IsPartOf (part_bytes front) bytes front → SaysSuper bytes front
-  unfolding next_slot_said next_page_said entries_said free_slot_in free_page_in free_slots_in free_pages_in part_bytes
+  unfolding next_said entries_said free_in part_bytes
   part_says fits bytes part =
       let P = part_bytes front in
       let whole = fits.whole in

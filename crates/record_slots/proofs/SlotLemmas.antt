@@ -7,7 +7,7 @@ use Rattle.std.proofs.lemmas.List.{get_or-drop, length-drop, length-take-le, len
 use Rattle.byteorder.specs.Endian.{little_from, little_bytes}
 use Rattle.byteorder.specs.Numbers.{little_from-take, little_from-cons, little_number-reads_back, length-bytes_low_first}
 use Rattle.record_slots.specs.Text.{IsValue}
-use Rattle.record_slots.specs.Free.{free_slot_said, free_page_said}
+use Rattle.record_slots.specs.Free.{free_said}
 use Rattle.record_slots.specs.Slots.{key_said, text_said, is_value_said, value_said, present, state_said, slot_said, slot_bytes, IsSlot}
 use Rattle.record_slots.specs.declared.free.Free.{Free}
 use Rattle.record_slots.specs.declared.slot.Slot.{Slot}
@@ -85,24 +85,24 @@ unfolding slot_said
 slot_said-other bytes large = rw (le-leb 16 (state_said bytes) large) refl
 
 -- what says that it is free, and what does not
-pub free_slot_is : (bytes : List ℕ) → slice_index bytes 0 ≡ 0xF0 → free_slot_said bytes ≡ Some (record { next = little_from 2 4 bytes; rank = little_from 6 4 bytes })
-unfolding free_slot_said
+pub free_slot_is : (bytes : List ℕ) → slice_index bytes 0 ≡ 0xF0 → free_said 0xF0 2 bytes ≡ Some (record { next = little_from 2 4 bytes; rank = little_from 6 4 bytes })
+unfolding free_said
 free_slot_is bytes e = rw e refl
 
-pub no_free_slot : (bytes : List ℕ) → (slice_index bytes 0 ≡ 0xF0 → ⊥) → free_slot_said bytes ≡ None
-unfolding free_slot_said
+pub no_free_slot : (bytes : List ℕ) → (slice_index bytes 0 ≡ 0xF0 → ⊥) → free_said 0xF0 2 bytes ≡ None
+unfolding free_said
 no_free_slot bytes ne = rw (ne_eqb (slice_index bytes 0) 0xF0 ne) refl
 
-pub free_page_is : (bytes : List ℕ) → slice_index bytes 0 ≡ 0xFF → free_page_said bytes ≡ Some (record { next = little_from 4 4 bytes; rank = little_from 8 4 bytes })
-unfolding free_page_said
+pub free_page_is : (bytes : List ℕ) → slice_index bytes 0 ≡ 0xFF → free_said 0xFF 4 bytes ≡ Some (record { next = little_from 4 4 bytes; rank = little_from 8 4 bytes })
+unfolding free_said
 free_page_is bytes e = rw e refl
 
-pub no_free_page : (bytes : List ℕ) → (slice_index bytes 0 ≡ 0xFF → ⊥) → free_page_said bytes ≡ None
-unfolding free_page_said
+pub no_free_page : (bytes : List ℕ) → (slice_index bytes 0 ≡ 0xFF → ⊥) → free_said 0xFF 4 bytes ≡ None
+unfolding free_said
 no_free_page bytes ne = rw (ne_eqb (slice_index bytes 0) 0xFF ne) refl
 
 -- a free slot is of no table
-pub free_says_none : (bytes : List ℕ) (free : Free) → free_slot_said bytes ≡ Some free → slot_said bytes ≡ None
+pub free_says_none : (bytes : List ℕ) (free : Free) → free_said 0xF0 2 bytes ≡ Some free → slot_said bytes ≡ None
 free_says_none bytes free is =
     elim (cases_eq (state_said bytes) 0xF0) [
       | inl e ↦ slot_said-other bytes (omega (arith, e))

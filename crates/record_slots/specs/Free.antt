@@ -1,15 +1,12 @@
 -- Slots and pages that were given back: each says the one that follows it in their list, and its rank.
-use Rattle.std.specs.Prelude.{ℕ, zero, suc, ◌-◌, nat_eq, if◌then◌else◌, List, ◌∷◌, ◌++◌, replicate, Option, Some, None, slice_index}
+use Rattle.std.specs.Prelude.{ℕ, zero, suc, ◌+◌, ◌-◌, nat_eq, if◌then◌else◌, List, ◌∷◌, ◌++◌, replicate, Option, Some, None, slice_index}
 use Rattle.byteorder.specs.Endian.{little_from, little_bytes}
 use Rattle.record_slots.specs.declared.free.Free.{Free}
 
--- a free slot: byte 0 is f0, bytes 2 to 5 are the next one plus 1, bytes 6 to 9 the rank
-unfoldable pub free_slot_said : List ℕ → Option Free
-free_slot_said bytes = if nat_eq (slice_index bytes 0) 0xF0 then Some (record { next = little_from 2 4 bytes; rank = little_from 6 4 bytes }) else None
-
--- a free page: byte 0 is ff, bytes 4 to 7 are the next one plus 1, bytes 8 to 11 the rank
-unfoldable pub free_page_said : List ℕ → Option Free
-free_page_said bytes = if nat_eq (slice_index bytes 0) 0xFF then Some (record { next = little_from 4 4 bytes; rank = little_from 8 4 bytes }) else None
+-- What is free has its mark in byte 0; from its place on come the next one plus 1 and the rank, of 4 bytes each. The mark of a slot is f0 and
+-- its place 2, those of a page are ff and 4.
+unfoldable pub free_said : (mark place : ℕ) → List ℕ → Option Free
+free_said mark place bytes = if nat_eq (slice_index bytes 0) mark then Some (record { next = little_from place 4 bytes; rank = little_from (4 + place) 4 bytes }) else None
 
 -- the 64 bytes of a free slot, and the 512 of a free page, as they are written: all else in them is zero
 unfoldable pub free_slot_bytes : Free → List ℕ

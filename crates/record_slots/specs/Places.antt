@@ -3,8 +3,8 @@ use Rattle.std.specs.Prelude.{ℕ, ◌≡◌, ◌+◌, ◌-◌, ◌*◌, ◌/◌
 use Rattle.std.specs.Option.{option_map}
 use Rattle.mars_base.specs.Bytes.{range}
 use Rattle.record_slots.specs.Slots.{slot_said}
-use Rattle.record_slots.specs.Free.{free_slot_said, free_page_said, member_at}
-use Rattle.record_slots.specs.Super.{HasSuperMark, HasTables, version_said, form_said, next_slot_said, next_page_said, entries_said, tables_said, free_slot_in, free_page_in, free_slots_in, free_pages_in}
+use Rattle.record_slots.specs.Free.{free_said, member_at}
+use Rattle.record_slots.specs.Super.{HasSuperMark, HasTables, version_said, form_said, next_said, entries_said, tables_said, free_in}
 use Rattle.record_slots.specs.declared.free.Free.{Free}
 use Rattle.record_slots.specs.declared.super_page.TableEntry.{TableEntry}
 use Rattle.record_slots.specs.declared.slot.Slot.{Slot}
@@ -37,10 +37,10 @@ slot_of bytes slot = range bytes (slot_at bytes slot) 64
 
 -- the next slot and the next page to give out, as page 0 says
 abbrev pub next_slot : List ℕ → ℕ
-next_slot bytes = next_slot_said (page_bytes bytes 0)
+next_slot bytes = next_said 8 (page_bytes bytes 0)
 
 abbrev pub next_page : List ℕ → ℕ
-next_page bytes = next_page_said (page_bytes bytes 0)
+next_page bytes = next_said 12 (page_bytes bytes 0)
 
 -- its version, its tables by their numbers, and the root of a table
 abbrev pub version_of : List ℕ → ℕ
@@ -54,23 +54,23 @@ root_of bytes table = option_map (λ entry. entry.root) (slice_get (tables_of by
 
 -- the first free slot and the first free page by their numbers plus 1, 0 for none, and how many there are of each
 abbrev pub free_slot : List ℕ → ℕ
-free_slot bytes = free_slot_in (page_bytes bytes 0)
+free_slot bytes = free_in 272 (page_bytes bytes 0)
 
 abbrev pub free_page : List ℕ → ℕ
-free_page bytes = free_page_in (page_bytes bytes 0)
+free_page bytes = free_in 276 (page_bytes bytes 0)
 
 abbrev pub free_slots : List ℕ → ℕ
-free_slots bytes = free_slots_in (page_bytes bytes 0)
+free_slots bytes = free_in 280 (page_bytes bytes 0)
 
 abbrev pub free_pages : List ℕ → ℕ
-free_pages bytes = free_pages_in (page_bytes bytes 0)
+free_pages bytes = free_in 284 (page_bytes bytes 0)
 
 -- what a slot, or a page, says if it is free
 abbrev pub free_slot_of : List ℕ → ℕ → Option Free
-free_slot_of bytes slot = free_slot_said (slot_of bytes slot)
+free_slot_of bytes slot = free_said 0xF0 2 (slot_of bytes slot)
 
 abbrev pub free_page_of : List ℕ → ℕ → Option Free
-free_page_of bytes page = free_page_said (page_bytes bytes page)
+free_page_of bytes page = free_said 0xFF 4 (page_bytes bytes page)
 
 -- how many slots are in use, and how many pages, the super page among them: those given out that are not free
 abbrev pub used_slots : List ℕ → ℕ

@@ -24,12 +24,9 @@ pub record HasSuperMark (bytes : List ℕ) : Type 0 where
   pub some : 1 ≤ version_said bytes
   pub known : version_said bytes ≤ 2
 
--- the next slot and the next page to give out, in bytes 8 to 15
-unfoldable pub next_slot_said : List ℕ → ℕ
-next_slot_said bytes = little_from 8 4 bytes
-
-unfoldable pub next_page_said : List ℕ → ℕ
-next_page_said bytes = little_from 12 4 bytes
+-- the next slot to give out, in bytes 8 to 11, and the next page, in bytes 12 to 15: told by its place
+unfoldable pub next_said : ℕ → List ℕ → ℕ
+next_said place bytes = little_from place 4 bytes
 
 -- the eight entries of tables, in bytes 16 to 271
 unfoldable pub entries_said : List ℕ → List ℕ
@@ -102,34 +99,23 @@ pub record AreTables (pages : ℕ) (tables : List TableEntry) : Type 0 where
 abbrev pub HasTables : ℕ → ℕ → List ℕ → Type 0
 HasTables version pages entries = version ≡ 2 → IsTrue (are_named entries) × AreTables pages (tables_used entries)
 
--- The first free slot and the first free page by their numbers plus 1, and how many there are of each: bytes 272 to 287. Version 1 has none.
-abbrev pub free_in : ℕ → ℕ → ℕ
-free_in version n = if nat_eq version 1 then 0 else n
-
-unfoldable pub free_slot_in : List ℕ → ℕ
-free_slot_in bytes = free_in (version_said bytes) (little_from 272 4 bytes)
-
-unfoldable pub free_page_in : List ℕ → ℕ
-free_page_in bytes = free_in (version_said bytes) (little_from 276 4 bytes)
-
-unfoldable pub free_slots_in : List ℕ → ℕ
-free_slots_in bytes = free_in (version_said bytes) (little_from 280 4 bytes)
-
-unfoldable pub free_pages_in : List ℕ → ℕ
-free_pages_in bytes = free_in (version_said bytes) (little_from 284 4 bytes)
+-- The first free slot and the first free page by their numbers plus 1, and how many there are of each, told by their places: bytes 272 to 287.
+-- Version 1 has none.
+unfoldable pub free_in : ℕ → List ℕ → ℕ
+free_in place bytes = if nat_eq (version_said bytes) 1 then 0 else little_from place 4 bytes
 
 -- the super page says this version, form, counts, entries and free ones; its other bytes say nothing
 pub record SaysSuper (bytes : List ℕ) (front : Super) : Type 0 where
   pub has_mark : HasSuperMark bytes
   pub version : front.version ≡ version_said bytes
   pub form : front.form ≡ form_said bytes
-  pub next_slot : front.next_slot ≡ next_slot_said bytes
-  pub next_page : front.next_page ≡ next_page_said bytes
+  pub next_slot : front.next_slot ≡ next_said 8 bytes
+  pub next_page : front.next_page ≡ next_said 12 bytes
   pub entries : front.entries ≡ entries_said bytes
-  pub free_slot : front.free_slot ≡ free_slot_in bytes
-  pub free_page : front.free_page ≡ free_page_in bytes
-  pub free_slots : front.free_slots ≡ free_slots_in bytes
-  pub free_pages : front.free_pages ≡ free_pages_in bytes
+  pub free_slot : front.free_slot ≡ free_in 272 bytes
+  pub free_page : front.free_page ≡ free_in 276 bytes
+  pub free_slots : front.free_slots ≡ free_in 280 bytes
+  pub free_pages : front.free_pages ≡ free_in 284 bytes
 
 -- bytes 8 to 287 of a super page: the counts, the entries, the free ones
 unfoldable pub part_bytes : Super → List ℕ

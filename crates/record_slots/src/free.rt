@@ -1,7 +1,7 @@
 // Slots and pages that were given back.
 ghost use Rattle.std.specs.Prelude.{◌≡◌, ◌++◌, ◌^◌, ◌<◌, Some};
 ghost use Rattle.byteorder.specs.Endian.{little_bytes};
-ghost use Rattle.record_slots.specs.Free.{free_slot_said, free_page_said, free_slot_bytes, free_page_bytes};
+ghost use Rattle.record_slots.specs.Free.{free_said, free_slot_bytes, free_page_bytes};
 
 use crate::SLOT_LEN;
 use byteorder::{ByteOrder, LittleEndian};
@@ -21,7 +21,7 @@ pub struct Free {
 
 /// What a slot says if it is free.
 pub fn read_free_slot(bytes: &[u8; SLOT_LEN]) -> Option<Free>
-    ensures { result ≡ free_slot_said bytes.now }
+    ensures { result ≡ free_said 0xF0 2 bytes.now }
 {
     if bytes[0] != FREE_SLOT {
         return None;
@@ -34,7 +34,7 @@ pub fn read_free_slot(bytes: &[u8; SLOT_LEN]) -> Option<Free>
 
 /// What a page says if it is free.
 pub fn read_free_page(bytes: &[u8; 512]) -> Option<Free>
-    ensures { result ≡ free_page_said bytes.now }
+    ensures { result ≡ free_said 0xFF 4 bytes.now }
 {
     if bytes[0] != FREE_PAGE {
         return None;
@@ -48,7 +48,7 @@ pub fn read_free_page(bytes: &[u8; 512]) -> Option<Free>
 /// Writes all 64 bytes of a free slot. Those of which it says nothing are zero.
 pub fn write_free_slot(free: &Free, out: &mut [u8; SLOT_LEN])
     ensures written { out.new ≡ free_slot_bytes free.now }
-    ensures reads_back { free_slot_said out.new ≡ Some free.now }
+    ensures reads_back { free_said 0xF0 2 out.new ≡ Some free.now }
 {
     *out = [0; SLOT_LEN];
     out[0] = FREE_SLOT;
@@ -58,7 +58,7 @@ pub fn write_free_slot(free: &Free, out: &mut [u8; SLOT_LEN])
 /// Writes all 512 bytes of a free page. Those of which it says nothing are zero.
 pub fn write_free_page(free: &Free, out: &mut [u8; 512])
     ensures written { out.new ≡ free_page_bytes free.now }
-    ensures reads_back { free_page_said out.new ≡ Some free.now }
+    ensures reads_back { free_said 0xFF 4 out.new ≡ Some free.now }
 {
     out.fill(0);
     out[0] = FREE_PAGE;

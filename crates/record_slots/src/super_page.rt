@@ -1,5 +1,4 @@
-ghost use Rattle.std.specs.Prelude.{◌≡◌, ◌+◌, ◌*◌, ◌<◌, IfSome, IfNone};
-ghost use Rattle.byteorder.specs.Endian.{little_from};
+ghost use Rattle.std.specs.Prelude.{◌≡◌, ◌≤◌, IfSome, IfNone};
 ghost use Rattle.record_slots.specs.Super.{HasSuperMark, SaysSuper, free_in, main_super, part_bytes, super_bytes};
 
 use crate::Name;
@@ -94,22 +93,22 @@ pub fn read_super(bytes: &[u8; 512]) -> Option<Super>
         next_slot: LittleEndian::read_u32(&bytes[NEXT_SLOT_AT..]),
         next_page: LittleEndian::read_u32(&bytes[NEXT_PAGE_AT..]),
         entries,
-        free_slot: read_free(bytes, version, 0),
-        free_page: read_free(bytes, version, 1),
-        free_slots: read_free(bytes, version, 2),
-        free_pages: read_free(bytes, version, 3),
+        free_slot: read_free(bytes, FREE_AT),
+        free_page: read_free(bytes, FREE_AT + 4),
+        free_slots: read_free(bytes, FREE_AT + 8),
+        free_pages: read_free(bytes, FREE_AT + 12),
     })
 }
 
 // One of the four numbers on what is free, which version 1 does not have.
-fn read_free(bytes: &[u8; 512], version: u8, i: usize) -> u32
-    requires { i < 4 }
-    ensures { result ≡ free_in version (little_from (272 + 4 * i) 4 bytes.now) }
+fn read_free(bytes: &[u8; 512], at: usize) -> u32
+    requires { at ≤ 508 }
+    ensures { result ≡ free_in at bytes.now }
 {
-    if version == 1 {
+    if bytes[VERSION_AT] == 1 {
         return 0;
     }
-    LittleEndian::read_u32(&bytes[FREE_AT + 4 * i..])
+    LittleEndian::read_u32(&bytes[at..])
 }
 
 /// Writes a super page, with zeros where it says nothing.

@@ -17,6 +17,7 @@ use Rattle.page_store.specs.declared.fault.PageFault.{PageFault}
 use Rattle.page_store.specs.declared.fault.PageFault.TheVariants.{LogFull, SavesFull, Media, Dead, Damaged}
 use Rattle.page_store.specs.declared.index_fault.IndexFault.{IndexFault}
 use Rattle.page_store.specs.declared.index_fault.IndexFault.TheVariants as insert
+use Rattle.page_store.specs.Access.{Access}
 use Rattle.page_store.specs.Index.{Index}
 use Rattle.page_store.specs.Tested.{Tests}
 use Rattle.page_store.specs.declared.index_fault.CheckFault.{CheckFault}
@@ -92,8 +93,8 @@ front_made T (LogFull g h n) blames = tt
 front_made T (Damaged bad) blames = blames
 
 -- the test of the index at an attaching, and the read of the super page behind it
-module _ (tells : Bool) (calls calls_now : Command → ℕ) (index : Index) (old new : StoreView) where
-  pub tested_blames : (fault : CheckFault) → (let r : Result (Unit {0}) CheckFault = Err fault in Tests tells calls calls_now (index.testing old.shape) old new r) → BlamesTested tells calls index old fault
+module _ (tells : Bool) (calls calls_now : Command → ℕ) (access : Access) (old new : StoreView) where
+  pub tested_blames : (fault : CheckFault) → (let r : Result (Unit {0}) CheckFault = Err fault in Tests tells calls calls_now (access.testing old.shape) old new r) → BlamesTested tells calls access old fault
   tested_blames (check.Damaged page) tests = inr (
     calls_now,
     new.moment,
@@ -110,9 +111,9 @@ module _ (tells : Bool) (calls calls_now : Command → ℕ) (index : Index) (old
   tested_blames check.Dead tests = tt
   tested_blames check.NoMemory tests = tt
 
-pub front_tested : (T : Type 0) (tells : Bool) (calls : Command → ℕ) (index : Index) (old : StoreView) (fault : PageFault) → (let r : Result T PageFault = Err fault in BlamesFront r) → BlamesTested tells calls index old (as_check fault)
-front_tested T tells calls index old Media blames = tt
-front_tested T tells calls index old Dead blames = tt
-front_tested T tells calls index old SavesFull blames = tt
-front_tested T tells calls index old (LogFull g h n) blames = tt
-front_tested T tells calls index old (Damaged page) blames = inl blames
+pub front_tested : (T : Type 0) (tells : Bool) (calls : Command → ℕ) (access : Access) (old : StoreView) (fault : PageFault) → (let r : Result T PageFault = Err fault in BlamesFront r) → BlamesTested tells calls access old (as_check fault)
+front_tested T tells calls access old Media blames = tt
+front_tested T tells calls access old Dead blames = tt
+front_tested T tells calls access old SavesFull blames = tt
+front_tested T tells calls access old (LogFull g h n) blames = tt
+front_tested T tells calls access old (Damaged page) blames = inl blames

@@ -17,9 +17,9 @@ use Rattle.record_slots.proofs.ReadingBack.{length-super_bytes, page_says}
 use Rattle.page_store.specs.Index.{Index, IsTable, IsEmptyRoot, HasCounts, Extends}
 use Rattle.page_store.proofs.Reading.{part_missed}
 use Rattle.record_table.specs.Making.{IsFit, with_page}
-use Rattle.record_table.specs.Shown.{found_key, in_table, pairs_from, level_under, table_in, table_of, pairs_of, keys_of}
+use Rattle.record_table.specs.Shown.{found_key, in_table, pairs_from, table_in, table_of, pairs_of, keys_of}
 use Rattle.record_table.specs.State.{Keys}
-use Rattle.record_table.proofs.Sharing.{Laws}
+use Rattle.record_table.proofs.Sharing.{Laws, level_under}
 use Rattle.record_table.proofs.Upgraded.{same_slots}
 
 -- the root of a table among others, and of one that is added

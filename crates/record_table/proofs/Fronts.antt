@@ -5,7 +5,7 @@ use Rattle.array_shape.specs.declared.shape.Shape.{Shape}
 use Rattle.array_shape.specs.Places.{data_len}
 use Rattle.array_shape.specs.Places as array
 use Rattle.record_slots.specs.Places.{page_bytes, page_count, next_slot, next_page, version_of, IsSuper}
-use Rattle.record_slots.specs.Super.{HasSuperMark, HasTables, SaysSuper, version_said, entries_said, form_said, next_slot_said, next_page_said}
+use Rattle.record_slots.specs.Super.{HasSuperMark, HasTables, SaysSuper, version_said, entries_said, form_said, next_said}
 use Rattle.record_slots.specs.declared.super_page.Super.{Super}
 
 -- the first 512 bytes are page 0
@@ -26,10 +26,10 @@ module _ (shape : Shape) (bytes page : List ℕ) (long : length bytes ≡ data_l
 
   module _ (front : Super) (says : SaysSuper page front) where
     slot_is : front.next_slot ≡ next_slot bytes
-    slot_is = says.next_slot ∙ ap next_slot_said page_is
+    slot_is = says.next_slot ∙ ap (next_said 8) page_is
 
     next_is : front.next_page ≡ next_page bytes
-    next_is = says.next_page ∙ ap next_page_said page_is
+    next_is = says.next_page ∙ ap (next_said 12) page_is
 
     form_is : form_said (page_bytes bytes 0) ≡ front.form
     form_is = ap form_said (sym page_is) ∙ sym says.form

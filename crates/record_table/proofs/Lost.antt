@@ -25,10 +25,10 @@ use Rattle.page_store.specs.Pairs.{Pair, Rise, found, removed}
 use Rattle.page_store.specs.Removes.{HasAbsent, Shrinks}
 use Rattle.page_store.specs.Records.{value_of}
 use Rattle.record_table.specs.Invariant.{AreSlotParts}
-use Rattle.record_table.specs.Removing.{IsKept, removal_under, Loses}
+use Rattle.record_table.specs.Removing.{IsKept, Loses}
 use Rattle.record_table.specs.Shown.{found_key, table_in, table_of, write_of, writes_of, pairs_of, keys_of}
 use Rattle.index_keys.specs.Keys.{LosesKey}
-use Rattle.record_table.proofs.Sharing.{Laws, Placed, placed, root_called, called_same, found_given, found_in, carries_one, level_same}
+use Rattle.record_table.proofs.Sharing.{Laws, removal_under, Placed, placed, root_called, called_same, found_given, found_in, carries_one, level_same}
 use Rattle.record_table.proofs.SlotParts.{said_same, one_slot}
 use Rattle.record_table.proofs.Tables.{record_at, get-table_in}
 

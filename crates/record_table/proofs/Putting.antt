@@ -1,6 +1,7 @@
 -- A put: the key is looked up in the index, inserted if it is new, and its slot is written.
 use Rattle.std.proofs.Common.{◌≡◌, ◌≢◌, ◌^◌, ℕ, suc, ◌+◌, ◌-◌, ◌*◌, ◌<◌, ◌≤◌, Bool, true, false, cond, inl, inr, IsTrue, List, [], ◌∷◌, length, Result, Ok, Err, refl, sym, ◌∙◌, ap, subst, arith}
 use Rattle.std.specs.Prelude.{filter, Option, Some, None, is_some, IsFalse}
+use Rattle.std.specs.Option.{option_map, unwrap_or}
 use Rattle.std.specs.FinMap.{get}
 use Rattle.std.proofs.lemmas.Bool.{false≢true}
 use Rattle.array_shape.specs.declared.shape.Shape.{Shape}
@@ -34,11 +35,11 @@ use Rattle.page_store.specs.declared.index_fault.IndexFault.{IndexFault}
 use Rattle.page_store.specs.declared.index_fault.IndexFault.TheVariants as insert
 use Rattle.page_store.proofs.Shown.{IsTold}
 use Rattle.record_table.specs.Calls.{Replies, after, saves_after}
-use Rattle.record_table.specs.Causes.{actions_under, actions_in, ComesTo, MaySave, Fits, Lacks, MayLack, HasRoom, IsFull, PutFits, PutLacks, IsSeen, IsShort, slot_in}
+use Rattle.record_table.specs.Causes.{actions_in, ComesTo, MaySave, Fits, Lacks, MayLack, HasRoom, IsFull, PutFits, PutLacks, IsSeen, IsShort, slot_in}
 use Rattle.record_table.specs.Does.{Does, Indexed, IndexedAt, Inserted, IsQuiet, replied}
 use Rattle.record_table.specs.Faults.{as_table, told_as, inserted_as}
 use Rattle.record_table.specs.Invariant.{Rests, Holds}
-use Rattle.record_table.specs.Shown.{found_key, state_of, pairs_of, level_under, keys_of}
+use Rattle.record_table.specs.Shown.{found_key, state_of, pairs_of, keys_of}
 use Rattle.record_table.specs.Sought.{LooksAs}
 use Rattle.index_keys.specs.Keys.{GainsKey, KeepsKeys, TakesPages}
 use Rattle.record_table.specs.State.{Keys, seen_by}
@@ -49,7 +50,7 @@ use Rattle.record_table.specs.declared.fault.TableFault.{TableFault}
 use Rattle.record_table.specs.declared.fault.TableFault.TheVariants.{SlotsFull, PagesFull, LogFull, Damaged}
 use Rattle.record_table.proofs.Doing.{look_bytes, look_keys, does_moved, does_wrote, does_failed, holds_dead, holds_moved, room_behind, full_behind, short_behind}
 use Rattle.record_table.proofs.Moving.{Moved, moved_by_look, moved_then, failed_then, rests_moved, moved_by_insert, failed_by_insert, found_due}
-use Rattle.record_table.proofs.Sharing.{Laws, called_same, found_in, named_there, takes, keeps, gains_key}
+use Rattle.record_table.proofs.Sharing.{Laws, level_under, called_same, found_in, named_there, takes, keeps, gains_key}
 use Rattle.record_table.proofs.Wrote.{wrote, write_failed, write_short}
 
 -- stores of one shape whose parts lie at the same places
@@ -86,7 +87,7 @@ module _ (a b : StoreView) (t : ℕ) (shape : b.shape ≡ a.shape) (ranges : lis
 
   module _ (index : Index) (table root key : ℕ) (same : b.state.bytes ≡ a.state.bytes) (named : IsTable a.state.bytes table root) where
     acts_are : actions_in index a.state.bytes table key ≡ index.actions a.state.bytes root key
-    acts_are = ap (actions_under index a.state.bytes key) named
+    acts_are = ap (λ (o : Option ℕ). unwrap_or (option_map (λ root. index.actions a.state.bytes root key) o) []) named
 
     comes : (B A : ℕ → List Action → Type 0) → ((left : ℕ) (acts : List Action) → B left acts → A left acts) → face_inserts.ComesTo index root key b B → ComesTo index table key a A
     comes B A over to = (

@@ -24,12 +24,12 @@ use Rattle.record_table.specs.Does.{OpensAs}
 use Rattle.record_table.specs.Does as answers
 use Rattle.record_table.specs.Faults.{told_as}
 use Rattle.record_table.specs.Invariant.{AreSlotParts, Holds}
-use Rattle.record_table.specs.Removing.{IsAbsent, IsUnwritten, Takes, RemoveCause, Lost, Removes, removal_under}
+use Rattle.record_table.specs.Removing.{IsAbsent, IsUnwritten, Takes, RemoveCause, Lost, Removes}
 use Rattle.record_table.specs.Shown.{table_of, writes_of, state_of}
 use Rattle.record_table.specs.Names.{IsCalled}
 use Rattle.record_table.specs.declared.fault.TableFault.TheVariants as refusal
 use Rattle.record_table.proofs.Moving.{Moved, Failed, moved_so, opens_with, rests_moved}
-use Rattle.record_table.proofs.Sharing.{Laws}
+use Rattle.record_table.proofs.Sharing.{Laws, removal_under}
 use Rattle.record_table.proofs.Lost.{has_absent, records_same, parts_kept, loses}
 use Rattle.eaw_face.proofs.Mirroring.{none_sent}
 

@@ -7,7 +7,7 @@ use Rattle.std.proofs.lemmas.Bool.Decides.{eqb_tells}
 use Rattle.std.proofs.lemmas.Option.{same_Some}
 use Rattle.record_slots.specs.Slots.{slot_said}
 use Rattle.record_slots.specs.Names.{names_in}
-use Rattle.record_slots.specs.Super.{next_slot_said, next_page_said, tables_said, free_slot_in, free_slots_in, free_pages_in}
+use Rattle.record_slots.specs.Super.{next_said, tables_said, free_in}
 use Rattle.record_slots.specs.Places.{page_bytes, slot_of, next_slot, next_page, tables_of, root_of, slot_due, used_slots, IsOfKey, Carries, AreGiven}
 use Rattle.record_slots.specs.declared.super_page.TableEntry.{TableEntry}
 use Rattle.record_slots.specs.declared.slot.Slot.{Slot}
@@ -19,7 +19,7 @@ use Rattle.page_store.specs.Pairs.{Pair, Rise, found}
 use Rattle.page_store.specs.Index.{Index, IsTable, HasCounts, KeepsIndex, Grows, Rests, Gains, IsEmptyRoot, Extends}
 use Rattle.index_keys.specs.Keys.{GainsKey, KeepsKeys, TakesPages}
 use Rattle.record_table.specs.Names.{IsCalled, names_of, name_at, key_in}
-use Rattle.record_table.specs.Shown.{KeyPair, found_key, write_said, pairs_from, pairs_of, level_under, keys_of}
+use Rattle.record_table.specs.Shown.{KeyPair, found_key, write_said, pairs_from, pairs_of, keys_of}
 use Rattle.record_table.proofs.Joint.{root_in, pairs_same, tables_apart, found_some, found_from, found_inserted}
 
 -- what an index guarantees about its data
@@ -154,6 +154,13 @@ unfolding pairs_of
 pairs_rest index d e tables same =
     ap (pairs_from index e) tables ∙ pairs_same index d e (tables_of d) same
 
+-- what the index with this root says: its levels, and the pages of a removal; none without a root
+abbrev pub level_under : Index → List ℕ → Option ℕ → ℕ
+level_under index bytes root = unwrap_or (option_map (index.level bytes) root) 0
+
+abbrev pub removal_under : Index → List ℕ → ℕ → Option ℕ → Option (List ℕ)
+removal_under index bytes key root = unwrap_or (option_map (λ page. index.removal bytes page key) root) None
+
 pub level_same : (index : Index) (d e : List ℕ) (table : ℕ) → tables_of e ≡ tables_of d → ((root : ℕ) → IsTable d table root → index.level e root ≡ index.level d root)
     → level_under index e (root_of e table) ≡ level_under index d (root_of d table)
 level_same index d e table tables same =
@@ -165,7 +172,7 @@ level_same index d e table tables same =
 
 -- the slot that is due, as the super page says it
 abbrev due_said : List ℕ → ℕ
-due_said page = if nat_eq (free_slots_in page) 0 then next_slot_said page else free_slot_in page - 1
+due_said page = if nat_eq (free_in 280 page) 0 then next_said 8 page else free_in 272 page - 1
 
 -- data with the same super page, pairs and levels has the same keys
 pub keys_same : (index : Index) (d e : List ℕ) → pairs_of index e ≡ pairs_of index d → page_bytes e 0 ≡ page_bytes d 0 → ((table root : ℕ) → IsTable d table root → index.level e root ≡ index.level d root)
@@ -173,9 +180,9 @@ pub keys_same : (index : Index) (d e : List ℕ) → pairs_of index e ≡ pairs_
 keys_same index d e pairs front levels = λ i. record {
   slot_of = found_key (pairs i);
   due = due_said (front i);
-  used_slots = next_slot_said (front i) - free_slots_in (front i);
-  used_pages = next_page_said (front i) - free_pages_in (front i);
-  next_page = next_page_said (front i);
+  used_slots = next_said 8 (front i) - free_in 280 (front i);
+  used_pages = next_said 12 (front i) - free_in 284 (front i);
+  next_page = next_said 12 (front i);
   levels = λ table. level_same index d e table (ap tables_said front) (λ root is. levels table root is) i;
 }
 

@@ -3,11 +3,12 @@ use Rattle.std.proofs.Common.{◌≡◌, ◌≢◌, ◌^◌, ℕ, zero, suc, ◌
 use Rattle.std.specs.Prelude.{nat_eq, if◌then◌else◌, slice_get, Some}
 use Rattle.std.specs.Option.{option_map}
 use Rattle.std.proofs.lemmas.Bool.{cases_eq}
+use Rattle.byteorder.specs.Endian.{little_from}
 use Rattle.mars_base.specs.Bytes.{range, put}
 use Rattle.mars_base.proofs.Puts.{length-put}
 use Rattle.pcm_media.proofs.Ranges.{range-put}
 use Rattle.record_slots.specs.Slots.{slot_said}
-use Rattle.record_slots.specs.Super.{SaysSuper, HasTables, AreTables, main_entries, main_super, main_table, are_named, tables_in, tables_used, tables_said, version_said, form_said, super_bytes, entries_said, free_in, free_slot_in, free_page_in, free_slots_in, free_pages_in}
+use Rattle.record_slots.specs.Super.{SaysSuper, HasTables, AreTables, main_entries, main_super, main_table, are_named, tables_in, tables_used, tables_said, version_said, form_said, super_bytes, entries_said, free_in}
 use Rattle.record_slots.specs.Places.{page_bytes, slot_of, next_slot, next_page, tables_of, version_of, free_slot, free_page, free_slots, free_pages}
 use Rattle.record_slots.proofs.MainAlone.{says_main, length-main}
 use Rattle.record_slots.specs.declared.super_page.Super.{Super}
@@ -128,23 +129,20 @@ module _ (index : Index) (laws : Laws index) (d page : List ℕ) (sound : index.
   page_same : next_page e ≡ next_page d
   page_same = sym now.next_page
 
-  none_then : (n : ℕ) → free_in (version_said (page_bytes d 0)) n ≡ 0
-  none_then n = ap (λ (v : ℕ). free_in v n) one
+  none_then : (place : ℕ) → free_in place (page_bytes d 0) ≡ 0
+  unfolding free_in
+  none_then place = ap (λ (v : ℕ). if nat_eq v 1 then 0 else little_from place 4 (page_bytes d 0)) one
 
   free_slot_same : free_slot e ≡ free_slot d
-  unfolding free_slot_in
   free_slot_same = sym now.free_slot ∙ sym (none_then _)
 
   free_page_same : free_page e ≡ free_page d
-  unfolding free_page_in
   free_page_same = sym now.free_page ∙ sym (none_then _)
 
   free_slots_same : free_slots e ≡ free_slots d
-  unfolding free_slots_in
   free_slots_same = sym now.free_slots ∙ sym (none_then _)
 
   free_pages_same : free_pages e ≡ free_pages d
-  unfolding free_pages_in
   free_pages_same = sym now.free_pages ∙ sym (none_then _)
 
   extends : Extends d e

@@ -12,7 +12,8 @@ use Rattle.eaw_face.specs.Causes.{IsAlive}
 use Rattle.history.specs.Writes.{Row}
 use Rattle.page_store.specs.Course.{Course, Reading, AreThere}
 use Rattle.page_store.specs.Follows.{Follows, reads_cost}
-use Rattle.page_store.specs.Index.{Index, slots_of}
+use Rattle.page_store.specs.Access.{Access}
+use Rattle.page_store.specs.Index.{slots_of}
 use Rattle.page_store.specs.Looks.{LookCause, is_failed}
 use Rattle.page_store.specs.Reads.{seen_cost}
 use Rattle.page_store.specs.Pairs.{Pair}
@@ -28,9 +29,9 @@ use Rattle.record_table.proofs.Looking.{failed_told}
 use Rattle.record_table.specs.Walked.{Look, AreLooks, ArePaid, LooksOnce, Walked, looks_cost, heard_cost, data_cost}
 
 -- so far: at most so many looks, and the calls that they and the slots behind them make
-pub record Walking (index : Index) (root : ℕ) (calls : Command → ℕ) (cost : ℕ → ℕ) (shape : Shape) (failed : Bool) (most before now : ℕ) (heard : List Hearing) : Type 0 where
+pub record Walking (access : Access) (root : ℕ) (calls : Command → ℕ) (cost : ℕ → ℕ) (shape : Shape) (failed : Bool) (most before now : ℕ) (heard : List Hearing) : Type 0 where
   pub looks : List Look
-  pub are : AreLooks index root shape looks
+  pub are : AreLooks access root shape looks
   pub few : length looks ≤ most
   pub exact : IsFalse failed → now ≡ before + (looks_cost calls looks + heard_cost cost heard)
 
@@ -77,8 +78,8 @@ pub told_failed : {T : Type 0} (r : Result T PageFault) → answers.is_failed (t
 told_failed (Ok x) = refl
 told_failed (Err fault) = failed_told fault
 
-module _ (index : Index) (root : ℕ) (calls : Command → ℕ) (cost : ℕ → ℕ) (shape : Shape) where
-  pub walk_begins : (before : ℕ) (heard : List Hearing) → heard ≡ [] → Walking index root calls cost shape false 0 before before heard
+module _ (access : Access) (root : ℕ) (calls : Command → ℕ) (cost : ℕ → ℕ) (shape : Shape) where
+  pub walk_begins : (before : ℕ) (heard : List Hearing) → heard ≡ [] → Walking access root calls cost shape false 0 before before heard
   walk_begins before heard none = record {
     looks = [];
     are = tt;
@@ -88,15 +89,15 @@ module _ (index : Index) (root : ℕ) (calls : Command → ℕ) (cost : ℕ → 
 
   -- one more look
   pub walk_looks : {T : Type 0} (tells : Bool) (calls_old calls_now : Command → ℕ) (most before from : ℕ) (heard : List Hearing) (shown : T → List Pair) (old new : StoreView) (result : Result T PageFault)
-      → Walking index root calls cost shape false most before old.moment heard → ((command : Command) → calls_old command ≡ calls command) → old.shape ≡ shape
-      → Follows tells calls_old calls_now (index.nexting root from) shown old new result
-      → Walking index root calls cost shape (is_failed result) (most + 1) before new.moment heard
+      → Walking access root calls cost shape false most before old.moment heard → ((command : Command) → calls_old command ≡ calls command) → old.shape ≡ shape
+      → Follows tells calls_old calls_now (access.nexting root from) shown old new result
+      → Walking access root calls cost shape (is_failed result) (most + 1) before new.moment heard
   walk_looks tells calls_old calls_now most before from heard shown old new result walking same shape_same follows =
       record {
         looks = (from, follows.read) ∷ walking.looks;
         are = (
           follows.way,
-          subst (λ (s : Shape). length follows.read ≤ (index.nexting root from).most s) shape_same follows.few,
+          subst (λ (s : Shape). length follows.read ≤ (access.nexting root from).most s) shape_same follows.few,
           subst (λ (s : Shape). AreThere (page_count s) follows.read) shape_same follows.reads.there,
           walking.are,
         );
@@ -105,8 +106,8 @@ module _ (index : Index) (root : ℕ) (calls : Command → ℕ) (cost : ℕ → 
       }
 
   -- slots are read
-  pub walk_hears : (failed : Bool) (most before mid now : ℕ) (heard more : List Hearing) → Walking index root calls cost shape false most before mid heard
-      → (IsFalse failed → now + heard_cost cost heard ≡ mid + heard_cost cost more) → Walking index root calls cost shape failed most before now more
+  pub walk_hears : (failed : Bool) (most before mid now : ℕ) (heard more : List Hearing) → Walking access root calls cost shape false most before mid heard
+      → (IsFalse failed → now + heard_cost cost heard ≡ mid + heard_cost cost more) → Walking access root calls cost shape failed most before now more
   walk_hears failed most before mid now heard more walking goes = record {
     looks = walking.looks;
     are = walking.are;
@@ -114,24 +115,24 @@ module _ (index : Index) (root : ℕ) (calls : Command → ℕ) (cost : ℕ → 
     exact = λ well. omega (arith, walking.exact refl, goes well);
   }
 
-  pub walk_more : (failed : Bool) (most other before now : ℕ) (heard : List Hearing) → most ≤ other → Walking index root calls cost shape failed most before now heard → Walking index root calls cost shape failed other before now heard
+  pub walk_more : (failed : Bool) (most other before now : ℕ) (heard : List Hearing) → most ≤ other → Walking access root calls cost shape failed most before now heard → Walking access root calls cost shape failed other before now heard
   walk_more failed most other before now heard le walking = record { looks = walking.looks; are = walking.are; few = omega (arith, walking.few, le); exact = walking.exact }
 
-  pub walk_ends : (failed : Bool) (most before now : ℕ) (heard : List Hearing) → most ≤ slots_of shape + 1 → length heard ≤ slots_of shape + 30 → Walking index root calls cost shape failed most before now heard
-      → Walked index root calls cost shape failed before now heard
+  pub walk_ends : (failed : Bool) (most before now : ℕ) (heard : List Hearing) → most ≤ slots_of shape + 1 → length heard ≤ slots_of shape + 30 → Walking access root calls cost shape failed most before now heard
+      → Walked access root calls cost shape failed before now heard
   walk_ends failed most before now heard le few walking = record { looks = walking.looks; are = walking.are; few = omega (arith, walking.few, le); few_heard = few; exact = walking.exact }
 
   -- one more look, and a slot
-  pub walk_steps : (failed : Bool) (calls_old : Command → ℕ) (one : ℕ → ℕ) (old_shape : Shape) (most before mid now from : ℕ) (heard more : List Hearing) → Walking index root calls cost shape false most before mid heard
+  pub walk_steps : (failed : Bool) (calls_old : Command → ℕ) (one : ℕ → ℕ) (old_shape : Shape) (most before mid now from : ℕ) (heard more : List Hearing) → Walking access root calls cost shape false most before mid heard
       → ((command : Command) → calls_old command ≡ calls command) → ((slot : ℕ) → one slot ≡ cost slot) → old_shape ≡ shape
-      → LooksOnce (index.nexting root from) calls_old one old_shape failed mid now heard more
-      → Walking index root calls cost shape failed (most + 1) before now more
+      → LooksOnce (access.nexting root from) calls_old one old_shape failed mid now heard more
+      → Walking access root calls cost shape failed (most + 1) before now more
   walk_steps failed calls_old one old_shape most before mid now from heard more walking same same_cost shape_same looks =
       record {
         looks = (from, looks.read) ∷ walking.looks;
         are = (
           looks.way,
-          subst (λ (s : Shape). length looks.read ≤ (index.nexting root from).most s) shape_same looks.few,
+          subst (λ (s : Shape). length looks.read ≤ (access.nexting root from).most s) shape_same looks.few,
           subst (λ (s : Shape). AreThere (page_count s) looks.read) shape_same looks.there,
           walking.are,
         );

@@ -3,6 +3,7 @@ use Rattle.std.specs.Prelude.{ℕ, ◌≡◌, ◌⊎◌, Bool, true, false, IsTr
 use Rattle.eaw_face.specs.Command.{Command}
 use Rattle.eaw_face.specs.StoreView.{StoreView}
 use Rattle.eaw_face.specs.Causes.{IsAlive}
+use Rattle.page_store.specs.Access.{Access}
 use Rattle.page_store.specs.Index.{Index}
 use Rattle.page_store.specs.Looks.{Looks, is_check_failed}
 use Rattle.page_store.specs.Shown.{PagesView}
@@ -30,11 +31,11 @@ AttachCause tells index old Dead = old.is_dead ≡ true
 AttachCause tells index old NoMemory = IsAlive old
 
 -- a test of the whole index, over any store, read this page and ended there, as the first that fails
-abbrev pub FailsAt : Bool → (Command → ℕ) → Index → StoreView → ℕ → Type 0
-FailsAt tells calls index old page = (calls_now : Command → ℕ) × (moment : ℕ) × (result : Result (Unit {0}) CheckFault) × (result ≡ Err (Damaged page))
-    × Tests tells calls calls_now (index.testing old.shape) old (record old { moment = moment }) result
+abbrev pub FailsAt : Bool → (Command → ℕ) → Access → StoreView → ℕ → Type 0
+FailsAt tells calls access old page = (calls_now : Command → ℕ) × (moment : ℕ) × (result : Result (Unit {0}) CheckFault) × (result ≡ Err (Damaged page))
+    × Tests tells calls calls_now (access.testing old.shape) old (record old { moment = moment }) result
 
 -- Which page is named as damaged: the one at which the test of the index ended, or the super page, which is read again behind it.
-abbrev pub BlamesTested : Bool → (Command → ℕ) → Index → StoreView → CheckFault → Type 0
-BlamesTested tells calls index old (Damaged page) = (page ≡ 0) ⊎ FailsAt tells calls index old page
-BlamesTested tells calls index old fault = Unit {0}
+abbrev pub BlamesTested : Bool → (Command → ℕ) → Access → StoreView → CheckFault → Type 0
+BlamesTested tells calls access old (Damaged page) = (page ≡ 0) ⊎ FailsAt tells calls access old page
+BlamesTested tells calls access old fault = Unit {0}

@@ -1,6 +1,7 @@
 -- When each answer comes. `Dead` goes first, then the refusals in their order.
 use Rattle.std.specs.Prelude.{ℕ, ◌≡◌, ◌-◌, ◌<◌, ◌≤◌, ◌⊎◌, Bool, true, false, IsTrue, length, Option, Some, None, IsSome, Result, Ok, Err, List, []}
 use Rattle.std.specs.FinMap.{get}
+use Rattle.std.specs.Option.{option_map, unwrap_or}
 use Rattle.mars_base.specs.Room.{HaveRoom, IsFirstFull}
 use Rattle.eaw_face.specs.Causes.{IsAlive}
 use Rattle.eaw_face.specs.StoreView.{StoreView}
@@ -39,13 +40,9 @@ IsSeen index old t key = IsSome (get (seen_by (state_of index old) t) key)
 abbrev pub slot_in : Index → PagesView → Key → Option ℕ
 slot_in index old key = found_key (pairs_of index old.store.state.bytes) key
 
--- the actions of the insertion of a key into the index of its table
-abbrev pub actions_under : Index → List ℕ → ℕ → Option ℕ → List Action
-actions_under index bytes key None = []
-actions_under index bytes key (Some root) = index.actions bytes root key
-
+-- the actions of the insertion of a key into the index of its table; none if there is no such table
 abbrev pub actions_in : Index → List ℕ → ℕ → ℕ → List Action
-actions_in index bytes table key = actions_under index bytes key (root_of bytes table)
+actions_in index bytes table key = unwrap_or (option_map (λ root. index.actions bytes root key) (root_of bytes table)) []
 
 -- How far the insertion of a key of a table comes: a slot is left, and then the actions follow one another.
 abbrev pub ComesTo : Index → ℕ → ℕ → StoreView → (ℕ → List Action → Type 0) → Type 0

@@ -2,6 +2,7 @@
 use Rattle.std.specs.Prelude.{ℕ, ◌≡◌, ◌≢◌, ◌^◌, ◌<◌, ◌≤◌, Bool, true, false, IsTrue, IsFalse, List, Option, Some, None, IsSome, Result, Ok, Err}
 use Rattle.std.specs.List.{list_any}
 use Rattle.std.specs.FinMap.{get}
+use Rattle.std.specs.Option.{option_map, unwrap_or}
 use Rattle.mars_base.specs.Causes.{Rose}
 use Rattle.eaw_face.specs.State.{listed}
 use Rattle.eaw_face.specs.StoreView.{LeavesOnly}
@@ -56,12 +57,8 @@ SearchCause tells old (Err (Damaged page)) = IsAlive old.store × ¬ IsTrue tell
 SearchCause tells old (Err fault) = ⊥
 
 -- the pages that the parts of a removal of a key from the index of its table lie in, or none if its pair is the last that its page keeps
-abbrev pub removal_under : Index → List ℕ → ℕ → Option ℕ → Option (List ℕ)
-removal_under index bytes key None = None
-removal_under index bytes key (Some root) = index.removal bytes root key
-
 abbrev pub removal_in : Index → ℕ → List ℕ → ℕ → Option (List ℕ)
-removal_in index table bytes key = removal_under index bytes key (root_of bytes table)
+removal_in index table bytes key = unwrap_or (option_map (λ root. index.removal bytes root key) (root_of bytes table)) None
 
 -- the key's pair is the last that its page keeps
 abbrev pub IsKept : Index → ℕ → List ℕ → ℕ → Type 0

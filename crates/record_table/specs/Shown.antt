@@ -1,6 +1,7 @@
 -- What pages show in terms of records.
 use Rattle.std.specs.Prelude.{Bool, false, ℕ, ◌+◌, ◌*◌, nat_eq, if◌then◌else◌, List, [], ◌∷◌, ◌++◌, map, Option, Some, None, IsSome}
 use Rattle.std.specs.FinMap.{empty}
+use Rattle.std.specs.Option.{option_map, unwrap_or}
 use Rattle.array_shape.specs.declared.shape.Shape.{Shape}
 use Rattle.array_shape.specs.Places.{logger_of}
 use Rattle.array_shape.specs.Logged.{Part}
@@ -50,11 +51,6 @@ pairs_from index bytes (entry ∷ entries) = map (in_table entry.name) (index.pa
 unfoldable pub pairs_of : Index → List ℕ → List KeyPair
 pairs_of index bytes = pairs_from index bytes (tables_of bytes)
 
--- how many levels of inner pages an index with this root has; none if there is no such table
-abbrev pub level_under : Index → List ℕ → Option ℕ → ℕ
-level_under index bytes None = 0
-level_under index bytes (Some root) = index.level bytes root
-
 -- the records of pairs: each key with the value in its slot
 abbrev pub table_in : List ℕ → List KeyPair → Table
 table_in bytes [] = empty
@@ -78,7 +74,7 @@ shown_by index s = record { table = table_of index s.store.bytes; logs = λ t. r
 abbrev pub state_of : Index → PagesView → TableState
 state_of index view = shown_by index (pages.state_of view)
 
--- the indexes in the data
+-- the indexes in the data; a table that there is not has no levels
 abbrev pub keys_of : Index → List ℕ → Keys
 keys_of index bytes = record {
   slot_of = found_key (pairs_of index bytes);
@@ -86,7 +82,7 @@ keys_of index bytes = record {
   used_slots = used_slots bytes;
   used_pages = used_pages bytes;
   next_page = next_page bytes;
-  levels = λ table. level_under index bytes (root_of bytes table);
+  levels = λ table. unwrap_or (option_map (index.level bytes) (root_of bytes table)) 0;
 }
 
 -- the logger that holds the writes to a slot, and how many entries of a logger one such write needs

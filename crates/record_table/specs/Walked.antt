@@ -6,7 +6,8 @@ use Rattle.eaw_face.specs.Command.{Command}
 use Rattle.eaw_face.specs.Command as store
 use Rattle.page_store.specs.Course.{Course, Reading, IsWay, AreThere}
 use Rattle.page_store.specs.Follows.{reads_cost}
-use Rattle.page_store.specs.Index.{Index, slots_of}
+use Rattle.page_store.specs.Access.{Access}
+use Rattle.page_store.specs.Index.{slots_of}
 use Rattle.page_store.specs.Pairs.{Pair}
 use Rattle.record_table.specs.Hearing.{Hearing}
 
@@ -20,10 +21,10 @@ abbrev pub Look : Type 0
 Look = ℕ × List Reading
 
 -- each went its course in the index of this root
-abbrev pub AreLooks : Index → ℕ → Shape → List Look → Type 0
-AreLooks index root shape [] = Unit {0}
-AreLooks index root shape (l ∷ ls) =
-    IsWay (index.nexting root l.0).goes l.1 × (length l.1 ≤ (index.nexting root l.0).most shape) × AreThere (page_count shape) l.1 × AreLooks index root shape ls
+abbrev pub AreLooks : Access → ℕ → Shape → List Look → Type 0
+AreLooks access root shape [] = Unit {0}
+AreLooks access root shape (l ∷ ls) =
+    IsWay (access.nexting root l.0).goes l.1 × (length l.1 ≤ (access.nexting root l.0).most shape) × AreThere (page_count shape) l.1 × AreLooks access root shape ls
 
 -- the calls of these looks, and of reads of the slots behind them, if each command and each slot make so many
 abbrev pub looks_cost : (Command → ℕ) → List Look → ℕ
@@ -48,9 +49,9 @@ data_cost calls shape slot = calls (store.read (64 * (slots_of shape + slot)) 64
 
 -- A walk made these looks, at most one more than there are slots, and read these slots, and nothing else: unless the medium failed, its calls are
 -- those of these reads. So it ends, whatever a store says.
-pub record Walked (index : Index) (root : ℕ) (calls : Command → ℕ) (cost : ℕ → ℕ) (shape : Shape) (failed : Bool) (before now : ℕ) (heard : List Hearing) : Type 0 where
+pub record Walked (access : Access) (root : ℕ) (calls : Command → ℕ) (cost : ℕ → ℕ) (shape : Shape) (failed : Bool) (before now : ℕ) (heard : List Hearing) : Type 0 where
   pub looks : List Look
-  pub are : AreLooks index root shape looks
+  pub are : AreLooks access root shape looks
   pub few : length looks ≤ slots_of shape + 1
   pub few_heard : length heard ≤ slots_of shape + 30
   pub exact : IsFalse failed → now ≡ before + (looks_cost calls looks + heard_cost cost heard)

@@ -41,7 +41,7 @@ pub fn read_whole<S: EawStore, K: KeyIndex, H: Keeper>(
     ensures long { IfOk result (λ whole. length whole.roots.at ≡ 8) }
     ensures inside { IfOk result (λ whole. ArePages (page_count (S.view pages.old.store).shape) whole.roots.at) }
     ensures cause { ReadCause S.tells K.index (S.view pages.old.store) result }
-    ensures blames { IfErr result (BlamesTested S.tells (S.calls pages.old.store) K.index (S.view pages.old.store)) }
+    ensures blames { IfErr result (BlamesTested S.tells (S.calls pages.old.store) K.access (S.view pages.old.store)) }
     ensures looks { Looks S.tells (S.opens (S.view pages.old.store).shape) (is_check_failed result)
         (pages_of (S.view pages.old.store) pages.old) (pages_of (S.view pages.new.store) pages.new) }
     ensures dead { IsErrOf result CheckFault.Dead → pages.new ≡ pages.old }
@@ -70,7 +70,7 @@ pub fn read_tables<S: EawStore, K: KeyIndex>(
 ) -> Result<Vec<(Name, Rows)>, CheckFault>
     ensures records { IsTrue S.tells → IfOk result (λ tables. records_in tables.items ≡ entries (table_of K.index (S.view pages.old.store).state.bytes)) }
     ensures cause { ReadCause S.tells K.index (S.view pages.old.store) result }
-    ensures blames { IfErr result (BlamesTested S.tells (S.calls pages.old.store) K.index (S.view pages.old.store)) }
+    ensures blames { IfErr result (BlamesTested S.tells (S.calls pages.old.store) K.access (S.view pages.old.store)) }
     ensures looks { Looks S.tells (S.opens (S.view pages.old.store).shape) (is_check_failed result)
         (pages_of (S.view pages.old.store) pages.old) (pages_of (S.view pages.new.store) pages.new) }
     ensures dead { IsErrOf result CheckFault.Dead → pages.new ≡ pages.old }

@@ -91,7 +91,7 @@ impl<S: EawStore, K: KeyIndex> Records<S, K> {
             (pages_of (S.view pages.store) pages) (pages_of (S.view attached.0.store) attached.0)) }
         ensures rows { IsTrue S.tells → IfOk result (λ attached. records_in attached.1.items ≡ entries (table_of K.index (S.view pages.store).state.bytes)) }
         ensures cause { IfErr result (λ failed. AttachCause S.tells K.index (S.view pages.store) failed.0) }
-        ensures blames { IfErr result (λ failed. BlamesTested S.tells (S.calls pages.store) K.index (S.view pages.store) failed.0) }
+        ensures blames { IfErr result (λ failed. BlamesTested S.tells (S.calls pages.store) K.access (S.view pages.store) failed.0) }
         ensures looks { IfErr result (λ failed. Looks S.tells (S.opens (S.view pages.store).shape) (is_refused_by_media failed.0)
             (pages_of (S.view pages.store) pages) (pages_of (S.view failed.1.store) failed.1)) }
         ensures dead { IfErr result (λ failed. failed.0 ≡ CheckFault.Dead → failed.1 ≡ pages) }
@@ -240,7 +240,7 @@ impl<S: EawStore, K: KeyIndex> Records<S, K> {
         ensures does { (name : List ℕ) → (IsTrue S.tells → IsAlive (S.view self.old.store) → IsCalled (S.view self.old.store).state.bytes table name)
             → Does S.tells (S.opens (S.view self.old.store).shape) K.index table tid (OnTable (Get name key))
             (pages_of (S.view self.old.store) self.old) (pages_of (S.view self.new.store) self.new) (replied found result) }
-        ensures gets { (root : ℕ) × Gets (K.index.finding root key) key tid (S.calls self.old.store) (S.view self.old.store) (S.view self.new.store) result × (IsTrue S.tells → IsAlive (S.view self.old.store) → IsTable (S.view self.old.store).state.bytes table root) }
+        ensures gets { (root : ℕ) × Gets (K.access.finding root key) key tid (S.calls self.old.store) (S.view self.old.store) (S.view self.new.store) result × (IsTrue S.tells → IsAlive (S.view self.old.store) → IsTable (S.view self.old.store).state.bytes table root) }
         ensures dead { IsErrOf result TableFault.Dead → self.new ≡ self.old }
     {
         let root = self.roots.of_table(table);
@@ -280,7 +280,7 @@ impl<S: EawStore, K: KeyIndex> Records<S, K> {
         ensures does { (name : List ℕ) → (IsTrue S.tells → IsAlive (S.view self.old.store) → IsCalled (S.view self.old.store).state.bytes table name)
             → Does S.tells (S.opens (S.view self.old.store).shape) K.index table tid (OnTable (Del name key))
             (pages_of (S.view self.old.store) self.old) (pages_of (S.view self.new.store) self.new) (replied (λ was. if was then Fine else Absent) result) }
-        ensures erases { (root : ℕ) × Erases (K.index.finding root key) key tid (S.calls self.old.store) (S.view self.old.store) result × (IsTrue S.tells → IsAlive (S.view self.old.store) → IsTable (S.view self.old.store).state.bytes table root) }
+        ensures erases { (root : ℕ) × Erases (K.access.finding root key) key tid (S.calls self.old.store) (S.view self.old.store) result × (IsTrue S.tells → IsAlive (S.view self.old.store) → IsTable (S.view self.old.store).state.bytes table root) }
         ensures dead { IsErrOf result TableFault.Dead → self.new ≡ self.old }
     {
         let root = self.roots.of_table(table);
@@ -318,7 +318,7 @@ impl<S: EawStore, K: KeyIndex> Records<S, K> {
             → Does S.tells (S.opens (S.view self.old.store).shape) K.index table tid (OnTable (Scan name low high))
             (pages_of (S.view self.old.store) self.old) (pages_of (S.view self.new.store) self.new) (replied Listed result) }
         ensures hears { (hearings : List Hearing) × HearsRows (S.view self.old.store).shape hearings (λ rows. rows) result × (root : ℕ)
-            × Walked K.index root (S.calls self.old.store) (row_cost (S.calls self.old.store) tid (S.view self.old.store)) (S.view self.old.store).shape
+            × Walked K.access root (S.calls self.old.store) (row_cost (S.calls self.old.store) tid (S.view self.old.store)) (S.view self.old.store).shape
             (is_failed result) (S.view self.old.store).moment (S.view self.new.store).moment hearings }
         ensures looks { LooksAs S.tells (S.opens (S.view self.old.store).shape) tid (is_failed result)
             (pages_of (S.view self.old.store) self.old) (pages_of (S.view self.new.store) self.new) }
@@ -411,7 +411,7 @@ impl<S: EawStore, K: KeyIndex> Records<S, K> {
         ensures next { IsTrue S.tells → IfOk result (IsNextAbsent K.index (S.view self.old.store).state.bytes (name_at (S.view self.old.store).state.bytes table) from) }
         ensures inside { IfOk result (λ key. IfSome key (λ key. from ≤ key)) }
         ensures hears { (hearings : List Hearing) × HearsAbsent (S.view self.old.store).shape hearings result × (root : ℕ)
-            × Walked K.index root (S.calls self.old.store) (data_cost (S.calls self.old.store) (S.view self.old.store).shape) (S.view self.old.store).shape
+            × Walked K.access root (S.calls self.old.store) (data_cost (S.calls self.old.store) (S.view self.old.store).shape) (S.view self.old.store).shape
             (is_failed result) (S.view self.old.store).moment (S.view self.new.store).moment hearings }
         ensures dead { IsErrOf result TableFault.Dead → self.new ≡ self.old }
     {
@@ -435,7 +435,7 @@ impl<S: EawStore, K: KeyIndex> Records<S, K> {
         requires unwritten { IsTrue S.tells → IsAlive (S.view self.old.store) → IsUnwritten K.index (pages_of (S.view self.old.store) self.old) (key_in (S.view self.old.store).state.bytes table key) }
         ensures removes { Removes S.tells (S.opens (S.view self.old.store).shape) K.index table tid key
             (pages_of (S.view self.old.store) self.old) (pages_of (S.view self.new.store) self.new) result }
-        ensures works { (root : ℕ) × RemovesFrom S.tells S.view S.calls K.index tid root key (S.view self.old.store) (S.view self.new.store) result × (IsTrue S.tells → IsAlive (S.view self.old.store) → IsTable (S.view self.old.store).state.bytes table root) }
+        ensures works { (root : ℕ) × RemovesFrom S.tells S.view S.calls K.index K.access tid root key (S.view self.old.store) (S.view self.new.store) result × (IsTrue S.tells → IsAlive (S.view self.old.store) → IsTable (S.view self.old.store).state.bytes table root) }
         ensures blames { BlamesOne (S.view self.old.store).shape result }
         ensures dead { IsErrOf result TableFault.Dead → self.new ≡ self.old }
     {

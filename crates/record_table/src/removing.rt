@@ -64,7 +64,7 @@ fn next_in_data<S: EawStore, K: KeyIndex>(
     ensures next { IsTrue S.tells → IfOk result (λ found. IfSome found (λ found. next (K.index.pairs (S.view pages.old.store).state.bytes root) from ≡ Some (found.key, found.slot))) }
     ensures slot { IfOk result (λ found. IfSome found (λ found. found.slot < slots_of (S.view pages.old.store).shape)) }
     ensures few { length hearings.new.said ≤ length hearings.old.said + 1 }
-    ensures looked { LooksOnce (K.index.nexting root from) (S.calls pages.old.store) (data_cost (S.calls pages.old.store) (S.view pages.old.store).shape) (S.view pages.old.store).shape
+    ensures looked { LooksOnce (K.access.nexting root from) (S.calls pages.old.store) (data_cost (S.calls pages.old.store) (S.view pages.old.store).shape) (S.view pages.old.store).shape
         (is_failed result) (S.view pages.old.store).moment (S.view pages.new.store).moment hearings.old.said hearings.new.said }
     ensures steady { AreSteady (is_failed result) (S.calls pages.old.store) (S.calls pages.new.store) }
     ensures hears { HearsOne (S.view pages.old.store).shape hearings.old.said hearings.new.said result }
@@ -106,7 +106,7 @@ pub fn next_absent<S: EawStore, K: KeyIndex>(
     ensures next { IsTrue S.tells → IfOk result (IsNextAbsent K.index (S.view pages.old.store).state.bytes (name_at (S.view pages.old.store).state.bytes table) from) }
     ensures inside { IfOk result (λ key. IfSome key (λ key. from ≤ key)) }
     ensures hears { HearsAbsent (S.view pages.old.store).shape hearings.new.said (told_as result) }
-    ensures walks { Walked K.index root (S.calls pages.old.store) (data_cost (S.calls pages.old.store) (S.view pages.old.store).shape) (S.view pages.old.store).shape
+    ensures walks { Walked K.access root (S.calls pages.old.store) (data_cost (S.calls pages.old.store) (S.view pages.old.store).shape) (S.view pages.old.store).shape
         (is_failed result) (S.view pages.old.store).moment (S.view pages.new.store).moment hearings.new.said }
 {
     let mut low = from;
@@ -151,7 +151,7 @@ pub fn remove<S: EawStore, K: KeyIndex>(
     ensures removes { Removes S.tells (S.opens (S.view pages.old.store).shape) K.index table tid key
         (pages_of (S.view pages.old.store) pages.old) (pages_of (S.view pages.new.store) pages.new) (told_as result) }
     ensures blames { BlamesOne (S.view pages.old.store).shape (told_as result) }
-    ensures works { RemovesFrom S.tells S.view S.calls K.index tid root key (S.view pages.old.store) (S.view pages.new.store) (told_as result) }
+    ensures works { RemovesFrom S.tells S.view S.calls K.index K.access tid root key (S.view pages.old.store) (S.view pages.new.store) (told_as result) }
     ensures holds { Holds S.tells K.index (pages_of (S.view pages.new.store) pages.new) }
     ensures dead { IsErrOf result PageFault.Dead → pages.new ≡ pages.old }
 {

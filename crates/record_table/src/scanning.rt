@@ -160,7 +160,7 @@ pub fn gather<S: EawStore, K: KeyIndex>(
     ensures cause { ScanCause S.tells result }
     ensures rows { IsTrue S.tells → (name : List ℕ) → IsCalled (S.view pages.old.store).state.bytes table name → OnOk result (rows.new ≡ rows_seen K.index tid name (pages_of (S.view pages.old.store) pages.old) low high) }
     ensures hears { HearsRows (S.view pages.old.store).shape hearings.new.said (λ done. rows.new) result }
-    ensures walks { Walked K.index root (S.calls pages.old.store) (row_cost (S.calls pages.old.store) tid (S.view pages.old.store)) (S.view pages.old.store).shape
+    ensures walks { Walked K.access root (S.calls pages.old.store) (row_cost (S.calls pages.old.store) tid (S.view pages.old.store)) (S.view pages.old.store).shape
         (answers.is_failed result) (S.view pages.old.store).moment (S.view pages.new.store).moment hearings.new.said }
 {
     let mut from = low;

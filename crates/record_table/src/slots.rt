@@ -142,7 +142,7 @@ pub fn seek<S: EawStore, K: KeyIndex>(
     ensures looks { LooksAs S.tells (S.opens (S.view pages.old.store).shape) tid (is_failed result)
         (pages_of (S.view pages.old.store) pages.old) (pages_of (S.view pages.new.store) pages.new) }
     ensures cause { LookCause S.tells (S.view pages.old.store) result }
-    ensures seeks { Seeks (K.index.finding root key) key tid (S.calls pages.old.store) hearings.old.said hearings.new.said
+    ensures seeks { Seeks (K.access.finding root key) key tid (S.calls pages.old.store) hearings.old.said hearings.new.said
         (S.view pages.old.store) (S.view pages.new.store).moment result }
     ensures finds { IsTrue S.tells → (name : List ℕ) → IsCalled (S.view pages.old.store).state.bytes table name → IfOk result (Finds K.index tid (of_table name key) (pages_of (S.view pages.old.store) pages.old)) }
     ensures inside { IfOk result (λ place. IfSome place (λ place. place.slot < slots_of (S.view pages.old.store).shape)) }

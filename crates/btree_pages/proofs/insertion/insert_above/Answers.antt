@@ -22,7 +22,8 @@ use Rattle.index_pages.specs.Slots.{list_check}
 use Rattle.index_pages.specs.declared.taking.Claim.{Claim}
 use Rattle.index_pages.proofs.Looking.{looks_none, looks_next}
 use Rattle.btree_pages.specs.Downward.{below}
-use Rattle.btree_pages.specs.Index.{tree, tree_actions, actions_below, half_for}
+use Rattle.btree_pages.specs.Index.{tree, tree_actions, actions_below}
+use Rattle.index_pages.specs.Actions.{half_for}
 use Rattle.btree_pages.specs.Steps.{limits_above}
 use Rattle.index_pages.proofs.Working.{act_blames, blamed_same}
 use Rattle.btree_pages.proofs.Acted.{growing_in, root_half_among}

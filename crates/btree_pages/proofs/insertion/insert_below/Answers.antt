@@ -22,7 +22,8 @@ use Rattle.index_pages.specs.declared.taking.Claim.{Claim}
 use Rattle.index_pages.proofs.Looking.{looks_next}
 use Rattle.btree_pages.specs.declared.node.Node.{Node}
 use Rattle.btree_pages.specs.Downward.{below}
-use Rattle.btree_pages.specs.Index.{tree_below, actions_below, half_for}
+use Rattle.btree_pages.specs.Index.{tree_below, actions_below}
+use Rattle.index_pages.specs.Actions.{half_for}
 use Rattle.btree_pages.specs.Steps.{known_from, limits_below}
 use Rattle.btree_pages.specs.Writes.{IsRead, cutting_pages, cutting_parts}
 use Rattle.btree_pages.proofs.Stepping.{stepped_first, stepped_child, stepped_room, stepped_cut, works_stop, works_peek_err, works_act, works_read_err}

@@ -10,16 +10,11 @@ use Rattle.index_pages.proofs.Members.{names_fail, rank_fails, rank_on, rank_is}
 use Rattle.index_pages.proofs.Tests.{check_looks}
 use Rattle.page_store.specs.Looks.{is_failed}
 use Rattle.page_store.specs.declared.fault.PageFault.{PageFault}
-use Rattle.std.proofs.Common.{suc, ◌*◌, ◌/◌, ◌%◌, List}
-use Rattle.page_store.specs.Index.{index_pages_of}
-use Rattle.page_store.specs.Tested.{Plan, Brings, holding, HasReadBytes}
-use Rattle.page_store.specs.Follows.{HasRead, one_reading}
-use Rattle.page_store.specs.declared.index_fault.CheckFault.{CheckFault}
-use Rattle.page_store.specs.declared.index_fault.CheckFault.TheVariants.{Damaged}
-use Rattle.record_slots.specs.Places.{page_bytes, slot_of}
-use Rattle.record_slots.specs.Free.{free_page_said}
-use Rattle.index_pages.specs.Plans.{Tries, list_plan, free_page_plan, free_pages_plan, one_excerpt}
-use Rattle.index_pages.proofs.Trying.{SoFar, so_first, so_holds, so_bad, so_passes, so_read, so_page, so_page_err, so_bytes_err, so_member, so_listed, so_ranked}
+use Rattle.std.proofs.Common.{suc}
+use Rattle.record_slots.specs.Places.{page_bytes}
+use Rattle.record_slots.specs.Free.{free_said}
+use Rattle.index_pages.specs.Plans.{list_plan, free_page_plan, free_pages_plan}
+use Rattle.index_pages.proofs.Trying.{SoFar, so_first, so_holds, so_bad, so_passes, so_page, so_page_err, so_member, so_listed, so_ranked}
 use Rattle.std.proofs.lemmas.Result.{err_from_is_err_and}
 use Rattle.index_pages.proofs.checking.check_free_pages.Goals as goal
 
@@ -69,7 +64,7 @@ loop-done-preserved g c =
           inv.left told says verdict (rank_on (free_page_of b) (λ (p : ℕ). p) 2 front.next_page (front.free_pages - c.loop-done.done) (front.free_pages - (c.loop-done.done + 1)) c.loop-done.named c.loop-done.page (omega (arith, c.loop-done-test.true)) names rank verdict
           (subst (λ (n : ℕ). list_check (free_page_of b) (λ (p : ℕ). p) 2 front.next_page (front.free_pages - (c.loop-done.done + 1)) n (c.loop-done.named - 1) verdict) next rest));
       tests =
-          so_ranked free_page_plan (λ page. page) 2 c.args.front.now.next_page (c.args.front.now.free_pages - c.loop-done.done) (c.args.front.now.free_pages - (c.loop-done.done + 1)) c.loop-done.named (free_page_said c.in_ok-said.ensures.reads.0) c.in-Some.free c.in-Some.free.next (c.loop-done.named - 1) (let e : (c.args.front.now.free_pages - c.loop-done.done) ≡ suc (c.args.front.now.free_pages - (c.loop-done.done + 1)) = omega (arith, c.loop-done-test.true) in e) (so_page (c.loop-done.invariant.looks.still refl) c.loop-done.invariant.looks.shape (c.loop-done.named - 1) _ c.in_ok-said.ensures.reads.0 (so_holds _ _ _ (so_member free_page_plan (λ page. page) 2 c.args.front.now.next_page (c.args.front.now.free_pages - c.loop-done.done) (c.args.front.now.free_pages - (c.loop-done.done + 1)) c.loop-done.named c.loop-done.page (let e : (c.args.front.now.free_pages - c.loop-done.done) ≡ suc (c.args.front.now.free_pages - (c.loop-done.done + 1)) = omega (arith, c.loop-done-test.true) in e) c.loop-done.invariant.tests) (omega (arith, c.if-named-le2.false), c.if-named-front.false)) c.in_ok-said.ensures.reads.1)
+          so_ranked free_page_plan (λ page. page) 2 c.args.front.now.next_page (c.args.front.now.free_pages - c.loop-done.done) (c.args.front.now.free_pages - (c.loop-done.done + 1)) c.loop-done.named (free_said 0xFF 4 c.in_ok-said.ensures.reads.0) c.in-Some.free c.in-Some.free.next (c.loop-done.named - 1) (let e : (c.args.front.now.free_pages - c.loop-done.done) ≡ suc (c.args.front.now.free_pages - (c.loop-done.done + 1)) = omega (arith, c.loop-done-test.true) in e) (so_page (c.loop-done.invariant.looks.still refl) c.loop-done.invariant.looks.shape (c.loop-done.named - 1) _ c.in_ok-said.ensures.reads.0 (so_holds _ _ _ (so_member free_page_plan (λ page. page) 2 c.args.front.now.next_page (c.args.front.now.free_pages - c.loop-done.done) (c.args.front.now.free_pages - (c.loop-done.done + 1)) c.loop-done.named c.loop-done.page (let e : (c.args.front.now.free_pages - c.loop-done.done) ≡ suc (c.args.front.now.free_pages - (c.loop-done.done + 1)) = omega (arith, c.loop-done-test.true) in e) c.loop-done.invariant.tests) (omega (arith, c.if-named-le2.false), c.if-named-front.false)) c.in_ok-said.ensures.reads.1)
           (sym c.in_ok-said.ensures.reads.2 ∙ c.in-Some.ensures.some.0) c.in-Some.ensures.some.1 refl refl;
     }
 
@@ -106,7 +101,7 @@ returns-in_err-said-clause-tests g c =
 
 pub returns-in_default-clause-tests : goal.returns-in_default-clause-tests
 returns-in_default-clause-tests g c =
-    so_bad _ _ _ (so_page (c.loop-done.invariant.looks.still refl) c.loop-done.invariant.looks.shape (c.loop-done.named - 1) _ c.in_ok-said.ensures.reads.0 (so_holds _ _ _ (so_member free_page_plan (λ page. page) 2 c.args.front.now.next_page (c.args.front.now.free_pages - c.loop-done.done) (c.args.front.now.free_pages - (c.loop-done.done + 1)) c.loop-done.named c.loop-done.page (let e : (c.args.front.now.free_pages - c.loop-done.done) ≡ suc (c.args.front.now.free_pages - (c.loop-done.done + 1)) = omega (arith, c.loop-done-test.true) in e) c.loop-done.invariant.tests) (omega (arith, c.if-named-le2.false), c.if-named-front.false)) c.in_ok-said.ensures.reads.1) (λ ranked. c.in_default.ensures.none (subst (λ (o : Option Free). HasRank (c.args.front.now.free_pages - c.loop-done.done) o) (sym c.in_ok-said.ensures.reads.2) (subst (λ (k : ℕ). HasRank k (free_page_said c.in_ok-said.ensures.reads.0)) (sym (let e : (c.args.front.now.free_pages - c.loop-done.done) ≡ suc (c.args.front.now.free_pages - (c.loop-done.done + 1)) = omega (arith, c.loop-done-test.true) in e)) ranked)))
+    so_bad _ _ _ (so_page (c.loop-done.invariant.looks.still refl) c.loop-done.invariant.looks.shape (c.loop-done.named - 1) _ c.in_ok-said.ensures.reads.0 (so_holds _ _ _ (so_member free_page_plan (λ page. page) 2 c.args.front.now.next_page (c.args.front.now.free_pages - c.loop-done.done) (c.args.front.now.free_pages - (c.loop-done.done + 1)) c.loop-done.named c.loop-done.page (let e : (c.args.front.now.free_pages - c.loop-done.done) ≡ suc (c.args.front.now.free_pages - (c.loop-done.done + 1)) = omega (arith, c.loop-done-test.true) in e) c.loop-done.invariant.tests) (omega (arith, c.if-named-le2.false), c.if-named-front.false)) c.in_ok-said.ensures.reads.1) (λ ranked. c.in_default.ensures.none (subst (λ (o : Option Free). HasRank (c.args.front.now.free_pages - c.loop-done.done) o) (sym c.in_ok-said.ensures.reads.2) (subst (λ (k : ℕ). HasRank k (free_said 0xFF 4 c.in_ok-said.ensures.reads.0)) (sym (let e : (c.args.front.now.free_pages - c.loop-done.done) ≡ suc (c.args.front.now.free_pages - (c.loop-done.done + 1)) = omega (arith, c.loop-done-test.true) in e)) ranked)))
 
 pub returns-then-named-ne0-clause-tests : goal.returns-then-named-ne0-clause-tests
 returns-then-named-ne0-clause-tests g c = so_bad _ _ _ (so_listed free_page_plan (λ page. page) 2 c.args.front.now.next_page (c.args.front.now.free_pages - c.loop-done.done) c.loop-done.named c.loop-done.page (omega (arith, c.loop-done-test.false)) c.loop-done.invariant.tests) c.if-named-ne0.true

@@ -5,8 +5,6 @@ use Rattle.record_slots.specs.Super.{SaysSuper}
 use Rattle.page_store.specs.Looks.{Looks}
 use Rattle.page_store.specs.Shown.{pages_of}
 use Rattle.index_pages.specs.Slots.{list_check, pages_check}
-use Rattle.std.proofs.Common.{◌+◌, ◌/◌}
-use Rattle.page_store.specs.Index.{index_pages_of}
 use Rattle.index_pages.specs.Plans.{list_plan, free_page_plan, free_pages_plan}
 use Rattle.index_pages.proofs.Trying.{SoFar}
 use Rattle.index_pages.proofs.checking.check_free_pages.Given as goal

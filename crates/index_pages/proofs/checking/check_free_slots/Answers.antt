@@ -11,16 +11,15 @@ use Rattle.index_pages.proofs.Members.{names_fail, rank_fails, rank_on, rank_is}
 use Rattle.index_pages.proofs.Tests.{check_looks}
 use Rattle.page_store.specs.Looks.{is_failed}
 use Rattle.page_store.specs.declared.fault.PageFault.{PageFault}
-use Rattle.std.proofs.Common.{suc, ◌*◌, ◌/◌, ◌%◌, List, [], ◌∷◌}
+use Rattle.std.proofs.Common.{suc, ◌*◌, ◌/◌, ◌%◌, [], ◌∷◌}
 use Rattle.page_store.specs.Index.{index_pages_of}
-use Rattle.page_store.specs.Tested.{Plan, Brings, holding, HasReadBytes}
-use Rattle.page_store.specs.Follows.{HasRead, one_reading}
+use Rattle.page_store.specs.Tested.{HasReadBytes}
 use Rattle.page_store.specs.declared.index_fault.CheckFault.{CheckFault}
 use Rattle.page_store.specs.declared.index_fault.CheckFault.TheVariants.{Damaged}
-use Rattle.record_slots.specs.Places.{page_bytes, slot_of}
-use Rattle.record_slots.specs.Free.{free_slot_said}
+use Rattle.record_slots.specs.Places.{slot_of}
+use Rattle.record_slots.specs.Free.{free_said}
 use Rattle.index_pages.specs.Plans.{Tries, list_plan, free_slot_plan, free_slots_plan, one_excerpt}
-use Rattle.index_pages.proofs.Trying.{SoFar, so_first, so_holds, so_bad, so_passes, so_read, so_page, so_page_err, so_bytes_err, so_member, so_listed, so_ranked}
+use Rattle.index_pages.proofs.Trying.{SoFar, so_first, so_holds, so_bad, so_passes, so_read, so_bytes_err, so_member, so_listed, so_ranked}
 use Rattle.std.proofs.lemmas.Result.{err_from_is_err_and}
 use Rattle.index_pages.proofs.checking.check_free_slots.Goals as goal
 
@@ -74,7 +73,7 @@ loop-done-preserved g c =
           inv.left told says verdict (rank_on (free_slot_of b) (slot_page b) 0 front.next_slot (front.free_slots - c.loop-done.done) (front.free_slots - (c.loop-done.done + 1)) c.loop-done.named c.loop-done.page (omega (arith, c.loop-done-test.true)) names rank verdict
           (subst (λ (x : ℕ × ℕ). list_check (free_slot_of b) (slot_page b) 0 front.next_slot (front.free_slots - (c.loop-done.done + 1)) x.0 x.1 verdict) (λ i. (next i, sym at i)) rest));
       tests =
-          so_ranked (free_slot_plan (index_pages_of (g.S.EawStore.view c.args.pages.now.store).shape)) (λ slot. index_pages_of (g.S.EawStore.view c.args.pages.now.store).shape + slot / 8) 0 c.args.front.now.next_slot (c.args.front.now.free_slots - c.loop-done.done) (c.args.front.now.free_slots - (c.loop-done.done + 1)) c.loop-done.named (free_slot_said c.in_ok-said.ensures.reads.0) c.in-Some.free c.in-Some.free.next (c.index_page_count-count.result + (c.loop-done.named - 1) / 8) (let e : (c.args.front.now.free_slots - c.loop-done.done) ≡ suc (c.args.front.now.free_slots - (c.loop-done.done + 1)) = omega (arith, c.loop-done-test.true) in e) (so_read (c.loop-done.invariant.looks.still refl) c.loop-done.invariant.looks.shape (index_pages_of (g.S.EawStore.view c.args.pages.now.store).shape + (c.loop-done.named - 1) / 8) ((c.loop-done.named - 1) % 8 * 64) 64 _ c.in_ok-said.ensures.reads.0 (so_holds _ _ _ (so_member (free_slot_plan (index_pages_of (g.S.EawStore.view c.args.pages.now.store).shape)) (λ slot. index_pages_of (g.S.EawStore.view c.args.pages.now.store).shape + slot / 8) 0 c.args.front.now.next_slot (c.args.front.now.free_slots - c.loop-done.done) (c.args.front.now.free_slots - (c.loop-done.done + 1)) c.loop-done.named c.loop-done.page (let e : (c.args.front.now.free_slots - c.loop-done.done) ≡ suc (c.args.front.now.free_slots - (c.loop-done.done + 1)) = omega (arith, c.loop-done-test.true) in e) c.loop-done.invariant.tests) (omega (arith, c.if-named-eq0.false), c.if-named-front.false)) (subst (λ (h : ℕ). HasReadBytes g.S.EawStore.tells false (g.S.EawStore.calls c.loop-done.pages.store) (g.S.EawStore.calls c.fetch_free_slot.new.pages.store) (g.S.EawStore.view c.loop-done.pages.store) (g.S.EawStore.view c.fetch_free_slot.new.pages.store) (record { page = h + (c.loop-done.named - 1) / 8; at = ((c.loop-done.named - 1) % 8 * 64); len = 64; said = c.in_ok-said.ensures.reads.0 } ∷ [])) (ap index_pages_of c.loop-done.invariant.looks.shape) c.in_ok-said.ensures.reads.1))
+          so_ranked (free_slot_plan (index_pages_of (g.S.EawStore.view c.args.pages.now.store).shape)) (λ slot. index_pages_of (g.S.EawStore.view c.args.pages.now.store).shape + slot / 8) 0 c.args.front.now.next_slot (c.args.front.now.free_slots - c.loop-done.done) (c.args.front.now.free_slots - (c.loop-done.done + 1)) c.loop-done.named (free_said 0xF0 2 c.in_ok-said.ensures.reads.0) c.in-Some.free c.in-Some.free.next (c.index_page_count-count.result + (c.loop-done.named - 1) / 8) (let e : (c.args.front.now.free_slots - c.loop-done.done) ≡ suc (c.args.front.now.free_slots - (c.loop-done.done + 1)) = omega (arith, c.loop-done-test.true) in e) (so_read (c.loop-done.invariant.looks.still refl) c.loop-done.invariant.looks.shape (index_pages_of (g.S.EawStore.view c.args.pages.now.store).shape + (c.loop-done.named - 1) / 8) ((c.loop-done.named - 1) % 8 * 64) 64 _ c.in_ok-said.ensures.reads.0 (so_holds _ _ _ (so_member (free_slot_plan (index_pages_of (g.S.EawStore.view c.args.pages.now.store).shape)) (λ slot. index_pages_of (g.S.EawStore.view c.args.pages.now.store).shape + slot / 8) 0 c.args.front.now.next_slot (c.args.front.now.free_slots - c.loop-done.done) (c.args.front.now.free_slots - (c.loop-done.done + 1)) c.loop-done.named c.loop-done.page (let e : (c.args.front.now.free_slots - c.loop-done.done) ≡ suc (c.args.front.now.free_slots - (c.loop-done.done + 1)) = omega (arith, c.loop-done-test.true) in e) c.loop-done.invariant.tests) (omega (arith, c.if-named-eq0.false), c.if-named-front.false)) (subst (λ (h : ℕ). HasReadBytes g.S.EawStore.tells false (g.S.EawStore.calls c.loop-done.pages.store) (g.S.EawStore.calls c.fetch_free_slot.new.pages.store) (g.S.EawStore.view c.loop-done.pages.store) (g.S.EawStore.view c.fetch_free_slot.new.pages.store) (record { page = h + (c.loop-done.named - 1) / 8; at = ((c.loop-done.named - 1) % 8 * 64); len = 64; said = c.in_ok-said.ensures.reads.0 } ∷ [])) (ap index_pages_of c.loop-done.invariant.looks.shape) c.in_ok-said.ensures.reads.1))
           (sym c.in_ok-said.ensures.reads.2 ∙ c.in-Some.ensures.some.0) c.in-Some.ensures.some.1 refl (ap (λ (n : ℕ). n + (c.loop-done.named - 1) / 8) c.index_page_count-count.ensures.count);
     }
 
@@ -112,7 +111,7 @@ returns-in_err-said-clause-tests g c =
 pub returns-in_default-clause-tests : goal.returns-in_default-clause-tests
 returns-in_default-clause-tests g c =
     subst (λ (n : ℕ). (let r : Result (Unit {0}) CheckFault = Err (Damaged (n + (c.loop-done.named - 1) / 8)) in Tries g.S.EawStore.tells (g.S.EawStore.calls c.args.pages.now.store) (g.S.EawStore.calls c.fetch_free_slot.new.pages.store) (free_slots_plan (index_pages_of (g.S.EawStore.view c.args.pages.now.store).shape) c.args.front.now) (g.S.EawStore.view c.args.pages.now.store) (g.S.EawStore.view c.fetch_free_slot.new.pages.store) r)) (sym c.index_page_count-count.ensures.count)
-    (so_bad _ _ _ (so_read (c.loop-done.invariant.looks.still refl) c.loop-done.invariant.looks.shape (index_pages_of (g.S.EawStore.view c.args.pages.now.store).shape + (c.loop-done.named - 1) / 8) ((c.loop-done.named - 1) % 8 * 64) 64 _ c.in_ok-said.ensures.reads.0 (so_holds _ _ _ (so_member (free_slot_plan (index_pages_of (g.S.EawStore.view c.args.pages.now.store).shape)) (λ slot. index_pages_of (g.S.EawStore.view c.args.pages.now.store).shape + slot / 8) 0 c.args.front.now.next_slot (c.args.front.now.free_slots - c.loop-done.done) (c.args.front.now.free_slots - (c.loop-done.done + 1)) c.loop-done.named c.loop-done.page (let e : (c.args.front.now.free_slots - c.loop-done.done) ≡ suc (c.args.front.now.free_slots - (c.loop-done.done + 1)) = omega (arith, c.loop-done-test.true) in e) c.loop-done.invariant.tests) (omega (arith, c.if-named-eq0.false), c.if-named-front.false)) (subst (λ (h : ℕ). HasReadBytes g.S.EawStore.tells false (g.S.EawStore.calls c.loop-done.pages.store) (g.S.EawStore.calls c.fetch_free_slot.new.pages.store) (g.S.EawStore.view c.loop-done.pages.store) (g.S.EawStore.view c.fetch_free_slot.new.pages.store) (record { page = h + (c.loop-done.named - 1) / 8; at = ((c.loop-done.named - 1) % 8 * 64); len = 64; said = c.in_ok-said.ensures.reads.0 } ∷ [])) (ap index_pages_of c.loop-done.invariant.looks.shape) c.in_ok-said.ensures.reads.1)) (λ ranked. c.in_default.ensures.none (subst (λ (o : Option Free). HasRank (c.args.front.now.free_slots - c.loop-done.done) o) (sym c.in_ok-said.ensures.reads.2) (subst (λ (k : ℕ). HasRank k (free_slot_said c.in_ok-said.ensures.reads.0)) (sym (let e : (c.args.front.now.free_slots - c.loop-done.done) ≡ suc (c.args.front.now.free_slots - (c.loop-done.done + 1)) = omega (arith, c.loop-done-test.true) in e)) ranked))))
+    (so_bad _ _ _ (so_read (c.loop-done.invariant.looks.still refl) c.loop-done.invariant.looks.shape (index_pages_of (g.S.EawStore.view c.args.pages.now.store).shape + (c.loop-done.named - 1) / 8) ((c.loop-done.named - 1) % 8 * 64) 64 _ c.in_ok-said.ensures.reads.0 (so_holds _ _ _ (so_member (free_slot_plan (index_pages_of (g.S.EawStore.view c.args.pages.now.store).shape)) (λ slot. index_pages_of (g.S.EawStore.view c.args.pages.now.store).shape + slot / 8) 0 c.args.front.now.next_slot (c.args.front.now.free_slots - c.loop-done.done) (c.args.front.now.free_slots - (c.loop-done.done + 1)) c.loop-done.named c.loop-done.page (let e : (c.args.front.now.free_slots - c.loop-done.done) ≡ suc (c.args.front.now.free_slots - (c.loop-done.done + 1)) = omega (arith, c.loop-done-test.true) in e) c.loop-done.invariant.tests) (omega (arith, c.if-named-eq0.false), c.if-named-front.false)) (subst (λ (h : ℕ). HasReadBytes g.S.EawStore.tells false (g.S.EawStore.calls c.loop-done.pages.store) (g.S.EawStore.calls c.fetch_free_slot.new.pages.store) (g.S.EawStore.view c.loop-done.pages.store) (g.S.EawStore.view c.fetch_free_slot.new.pages.store) (record { page = h + (c.loop-done.named - 1) / 8; at = ((c.loop-done.named - 1) % 8 * 64); len = 64; said = c.in_ok-said.ensures.reads.0 } ∷ [])) (ap index_pages_of c.loop-done.invariant.looks.shape) c.in_ok-said.ensures.reads.1)) (λ ranked. c.in_default.ensures.none (subst (λ (o : Option Free). HasRank (c.args.front.now.free_slots - c.loop-done.done) o) (sym c.in_ok-said.ensures.reads.2) (subst (λ (k : ℕ). HasRank k (free_said 0xF0 2 c.in_ok-said.ensures.reads.0)) (sym (let e : (c.args.front.now.free_slots - c.loop-done.done) ≡ suc (c.args.front.now.free_slots - (c.loop-done.done + 1)) = omega (arith, c.loop-done-test.true) in e)) ranked))))
 
 pub returns-then-named-ne0-clause-tests : goal.returns-then-named-ne0-clause-tests
 returns-then-named-ne0-clause-tests g c = so_bad _ _ _ (so_listed (free_slot_plan (index_pages_of (g.S.EawStore.view c.args.pages.now.store).shape)) (λ slot. index_pages_of (g.S.EawStore.view c.args.pages.now.store).shape + slot / 8) 0 c.args.front.now.next_slot (c.args.front.now.free_slots - c.loop-done.done) c.loop-done.named c.loop-done.page (omega (arith, c.loop-done-test.false)) c.loop-done.invariant.tests) c.if-named-ne0.true

@@ -1,12 +1,9 @@
-use Rattle.std.proofs.Common.{false}
 use Rattle.page_store.specs.Looks.{is_check_failed}
 use Rattle.page_store.specs.Shown.{pages_of}
 use Rattle.index_pages.proofs.Looking.{looks_next}
-use Rattle.std.proofs.Common.{Err, Ok, Result, refl, ap, subst, ℕ}
-use Rattle.array_shape.specs.declared.shape.Shape.{Shape}
+use Rattle.std.proofs.Common.{refl}
 use Rattle.page_store.specs.Index.{index_pages_of}
-use Rattle.page_store.specs.declared.index_fault.CheckFault.{CheckFault}
-use Rattle.index_pages.specs.Plans.{Tries, lists_plan, free_slots_plan, free_pages_plan}
+use Rattle.index_pages.specs.Plans.{lists_plan, free_slots_plan, free_pages_plan}
 use Rattle.index_pages.proofs.Causing.{still_same}
 use Rattle.index_pages.proofs.Trying.{so_first, so_then, so_fails, so_ends}
 use Rattle.std.proofs.lemmas.Result.{err_from_is_err_and}

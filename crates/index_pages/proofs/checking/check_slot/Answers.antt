@@ -1,4 +1,4 @@
-use Rattle.std.proofs.Common.{◌++◌, List, Option, inr, sym, ◌∙◌, ap, arith}
+use Rattle.std.proofs.Common.{◌++◌, Option, inr, sym, ◌∙◌, ap, arith}
 use Rattle.std.proofs.lemmas.Bool.{false≢true}
 use Rattle.record_slots.specs.declared.slot.Slot.{Slot}
 use Rattle.page_store.specs.Records.{row_at, value_of}
@@ -6,17 +6,9 @@ use Rattle.index_pages.proofs.Sizes.{slot_page_is}
 use Rattle.index_pages.proofs.Carrying.{carries_said, carries_not}
 use Rattle.page_store.specs.Shown.{pages_of}
 use Rattle.index_pages.proofs.Looking.{looks_none}
-use Rattle.std.proofs.Common.{◌≡◌, ◌+◌, ◌*◌, ◌/◌, ◌%◌, ◌<◌, ℕ, Ok, Err, Some, Result, refl, subst}
-use Rattle.mars_base.specs.Bytes.{range}
+use Rattle.std.proofs.Common.{subst}
 use Rattle.record_slots.specs.Places.{IsOfKey}
-use Rattle.record_slots.specs.Slots.{slot_said}
-use Rattle.page_store.specs.Course.{Reading}
 use Rattle.page_store.specs.Index.{index_pages_of}
-use Rattle.page_store.specs.Tested.{Plan}
-use Rattle.page_store.specs.declared.index_fault.CheckFault.{CheckFault}
-use Rattle.page_store.specs.declared.index_fault.CheckFault.TheVariants.{Damaged}
-use Rattle.index_pages.specs.Plans.{Tries, held_of, slot_plan}
-use Rattle.index_pages.proofs.Causing.{still_same}
 use Rattle.index_pages.proofs.Trying.{slot_unnamed, slot_unread, slot_other, slot_holds, slot_no_memory}
 use Rattle.std.proofs.lemmas.Result.{err_from_is_err_and}
 use Rattle.index_pages.proofs.checking.check_slot.Goals as goal

@@ -1,8 +1,7 @@
-use Rattle.std.proofs.Common.{◌≡◌, ◌+◌, ◌*◌, ◌/◌, ◌%◌, ◌<◌, ℕ, List, true, length, Result, refl, sym, ◌∙◌, ap, subst, arith}
+use Rattle.std.proofs.Common.{◌≡◌, ◌+◌, ◌*◌, ◌/◌, ◌%◌, ℕ, true, sym, ◌∙◌, ap, subst, arith}
 use Rattle.std.specs.Prelude.{OnOk}
 use Rattle.mars_base.specs.Bytes.{range}
 use Rattle.mars_base.specs.Costs.{Costs}
-use Rattle.array_shape.specs.Places.{page_count}
 use Rattle.eaw_face.specs.Command as store
 use Rattle.record_slots.specs.Places.{slot_of}
 use Rattle.page_store.specs.Looks.{is_failed}

@@ -1,4 +1,4 @@
-use Rattle.std.proofs.Common.{◌+◌, ◌/◌, ◌%◌, Some, ap, ◌∙◌, sym, subst, List, ℕ, Option, Result, Ok, Err}
+use Rattle.std.proofs.Common.{◌+◌, ◌/◌, Some, ap, ◌∙◌, sym, subst, List, ℕ, Option, Result, Ok, Err}
 use Rattle.record_slots.specs.Slots.{slot_said}
 use Rattle.record_slots.specs.declared.slot.Slot.{Slot}
 use Rattle.std.proofs.lemmas.Result.{err_from_is_err_and}

@@ -1,8 +1,7 @@
-use Rattle.std.proofs.Common.{◌≡◌, ◌+◌, ◌-◌, ◌<◌, ℕ, Option, Result, Ok, Err, refl, sym, subst, arith}
+use Rattle.std.proofs.Common.{◌-◌, ◌<◌, ℕ, Option, Result, Ok, Err, refl, sym, subst, arith}
 use Rattle.record_slots.specs.Places.{free_page_of}
 use Rattle.record_slots.specs.declared.free.Free.{Free}
 use Rattle.array_shape.specs.Places.{page_count}
-use Rattle.page_store.specs.Index.{index_pages_of}
 use Rattle.page_store.specs.declared.fault.PageFault.{PageFault}
 use Rattle.index_pages.specs.Slots.{HasRank}
 use Rattle.index_pages.proofs.Members.{first_member}

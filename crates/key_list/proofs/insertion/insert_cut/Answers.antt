@@ -21,7 +21,8 @@ use Rattle.page_store.specs.declared.fault.PageFault.{PageFault}
 use Rattle.index_pages.specs.Page.{page_pairs}
 use Rattle.index_pages.proofs.Working.{act_blames, blamed_same}
 use Rattle.key_list.specs.Finds.{limits_here, limits_cut}
-use Rattle.key_list.specs.Index.{chain_actions, adding, by_half}
+use Rattle.key_list.specs.Index.{chain_actions}
+use Rattle.index_pages.specs.Actions.{adding, half_for}
 use Rattle.key_list.specs.Located.{cutting_parts}
 use Rattle.key_list.proofs.Spending.{acted, cutting_by, none_done, peek_fails, act_ends, act_then}
 use Rattle.key_list.proofs.Whole.{made_first, made_cut}
@@ -232,7 +233,7 @@ returns-in_err-cut_page-clause-works g c =
     ∙ act_blames Claim v1.store c.args.change.tid (cutting_pages taken.number at.page) c.in_err-cut_page.field-0.0 c.in_err-cut_page.ensures.acts.cause in
     act_ends g.S.EawStore.tells V g.S.EawStore.calls (IsTrue g.S.EawStore.tells) c.args.change.tid limits_cut due (blamed_index s) Claim taken c.args.pages.now (acted (cutting_pages taken.number at.page) 1) (acting_of c.args.change.tid mark (cutting_parts taken.front taken.number at.page at.link at.pairs.items))
     v0.store v1.store v2.store c.in_ok-taken.ensures.peeks r c.in_err-cut_page.ensures.runs (cutting_by c.args.change.tid mark taken.front taken.number at.page at.link at.pairs.items) (0 ∷ [])
-    (adding v0.store.state.bytes (by_half (page_pairs v0.store.state.bytes at.page) c.args.change.key at.page (page_due v0.store.state.bytes 0)) ∷ []) (omega arith) (omega arith) blames
+    (adding v0.store.state.bytes (half_for (page_pairs v0.store.state.bytes at.page) at.page (page_due v0.store.state.bytes 0) c.args.change.key) ∷ []) (omega arith) (omega arith) blames
     (made_first g.S.EawStore.tells g.S.EawStore.opens c.args.change.tid c.args.change.root c.args.change.table c.args.change.key v0 c.index_page_count-count.result n.count n.all n.most small c.requires.may.one_of c.requires.may.sound c.requires.may.named c.requires.place.absent long c.requires.may.alive at.front at.page at.link at.pairs.items c.requires.place.located c.requires.place.said c.requires.place.slot c.requires.full (c.if-not-has_page.ensures.0 refl) v1 c.in_ok-taken.ensures.looks taken.front taken.number c.in_ok-taken.ensures.takes c.in_ok-taken.ensures.inside c.in_ok-taken.ensures.front c.in_ok-taken.ensures.slots) (λ told is. absurd (false≢true is)))
 
 pub returns-clause-works : goal.returns-clause-works

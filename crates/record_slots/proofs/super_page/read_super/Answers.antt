@@ -1,11 +1,11 @@
 use Rattle.std.proofs.Common.{sym, take, ◌∙◌, refl, arith}
 use Rattle.std.specs.Cmp.Lexicographic.{same_text}
-use Rattle.record_slots.specs.Super.{super_mark, version_said, form_said, next_slot_said, next_page_said, entries_said, free_slot_in, free_page_in, free_slots_in, free_pages_in}
+use Rattle.record_slots.specs.Super.{super_mark, version_said, form_said, next_said, entries_said, free_in}
 use Rattle.record_slots.proofs.Front.{four_read}
 use Rattle.record_slots.proofs.super_page.read_super.Goals as goal
 
 pub returns-clause-says : goal.returns-clause-says
-unfolding version_said form_said next_slot_said next_page_said entries_said free_slot_in free_page_in free_slots_in free_pages_in
+unfolding version_said form_said next_said entries_said free_in
 returns-clause-says c =
     let b = c.args.bytes.now in
     record {

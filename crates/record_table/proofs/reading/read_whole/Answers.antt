@@ -63,13 +63,13 @@ returns-in_err-check-clause-blames g c =
     let exit = err_from_is_err_and c.from_residual.result c.from_residual.ensures.1 in
     rw (exit.1) (
     let V = g.S.EawStore.view in
-    subst (BlamesTested g.S.EawStore.tells (g.S.EawStore.calls c.args.pages.now.store) g.K.KeyIndex.index (V c.args.pages.now.store)) (sym exit.2)
-    (tested_blames g.S.EawStore.tells (g.S.EawStore.calls c.args.pages.now.store) (g.S.EawStore.calls c.check.new.pages.store) g.K.KeyIndex.index (V c.args.pages.now.store) (V c.check.new.pages.store) c.in_err-check.field-0.0 c.in_err-check.ensures.tests))
+    subst (BlamesTested g.S.EawStore.tells (g.S.EawStore.calls c.args.pages.now.store) g.K.KeyIndex.access (V c.args.pages.now.store)) (sym exit.2)
+    (tested_blames g.S.EawStore.tells (g.S.EawStore.calls c.args.pages.now.store) (g.S.EawStore.calls c.check.new.pages.store) g.K.KeyIndex.access (V c.args.pages.now.store) (V c.check.new.pages.store) c.in_err-check.field-0.0 c.in_err-check.ensures.tests))
 
 pub returns-in_err-names-clause-blames : goal.returns-in_err-names-clause-blames
 returns-in_err-names-clause-blames g c =
     let exit = err_from_is_err_and c.from_residual-in_err-names.result c.from_residual-in_err-names.ensures.1 in
-    rw (exit.1, exit.2) (front_tested (Unit {0}) g.S.EawStore.tells (g.S.EawStore.calls c.args.pages.now.store) g.K.KeyIndex.index (g.S.EawStore.view c.args.pages.now.store) c.in_err-names.field-0.0 c.in_err-names.ensures.blames)
+    rw (exit.1, exit.2) (front_tested (Unit {0}) g.S.EawStore.tells (g.S.EawStore.calls c.args.pages.now.store) g.K.KeyIndex.access (g.S.EawStore.view c.args.pages.now.store) c.in_err-names.field-0.0 c.in_err-names.ensures.blames)
 
 pub returns-then-from-len-clause-blames : goal.returns-then-from-len-clause-blames
 returns-then-from-len-clause-blames g c = inl refl

@@ -37,8 +37,8 @@ loop-next-init g c =
       none = λ told key above below absent. omega arith;
       le = omega arith;
       left = omega (arith, ap (λ (hs : List Hearing). length hs) c.requires.unheard, c.slot_count-left.ensures);
-      walking = walk_more g.K.KeyIndex.index c.args.root (g.S.EawStore.calls c.args.pages.now.store) (data_cost (g.S.EawStore.calls c.args.pages.now.store) (V c.args.pages.now.store).shape) (V c.args.pages.now.store).shape false 0 (length c.args.hearings.now.said) (V c.args.pages.now.store).moment (V c.args.pages.now.store).moment c.args.hearings.now.said (omega arith)
-          (walk_begins g.K.KeyIndex.index c.args.root (g.S.EawStore.calls c.args.pages.now.store) (data_cost (g.S.EawStore.calls c.args.pages.now.store) (V c.args.pages.now.store).shape) (V c.args.pages.now.store).shape (V c.args.pages.now.store).moment c.args.hearings.now.said c.requires.unheard);
+      walking = walk_more g.K.KeyIndex.access c.args.root (g.S.EawStore.calls c.args.pages.now.store) (data_cost (g.S.EawStore.calls c.args.pages.now.store) (V c.args.pages.now.store).shape) (V c.args.pages.now.store).shape false 0 (length c.args.hearings.now.said) (V c.args.pages.now.store).moment (V c.args.pages.now.store).moment c.args.hearings.now.said (omega arith)
+          (walk_begins g.K.KeyIndex.access c.args.root (g.S.EawStore.calls c.args.pages.now.store) (data_cost (g.S.EawStore.calls c.args.pages.now.store) (V c.args.pages.now.store).shape) (V c.args.pages.now.store).shape (V c.args.pages.now.store).moment c.args.hearings.now.said c.requires.unheard);
       steady = λ command. refl;
       keys = λ told.
           let K = g.met.K.KeyIndex in
@@ -89,9 +89,9 @@ loop-next-preserved g c =
       none = search rules;
       le = search rules;
       left = omega (arith, one_met (V c.loop-next.pages.store).shape c.loop-next.hearings.said c.next_in_data.new.hearings.said c.in-Some.next (rw c.in-Some.is at c.in_ok-next.ensures.hears), c.loop-next.invariant.left, c.if-left-eq0.false);
-      walking = walk_more g.K.KeyIndex.index c.args.root (g.S.EawStore.calls c.args.pages.now.store) (data_cost (g.S.EawStore.calls c.args.pages.now.store) (V c.args.pages.now.store).shape) (V c.args.pages.now.store).shape false (length c.loop-next.hearings.said + 1) (length c.next_in_data.new.hearings.said) (V c.args.pages.now.store).moment (V c.next_in_data.new.pages.store).moment c.next_in_data.new.hearings.said
+      walking = walk_more g.K.KeyIndex.access c.args.root (g.S.EawStore.calls c.args.pages.now.store) (data_cost (g.S.EawStore.calls c.args.pages.now.store) (V c.args.pages.now.store).shape) (V c.args.pages.now.store).shape false (length c.loop-next.hearings.said + 1) (length c.next_in_data.new.hearings.said) (V c.args.pages.now.store).moment (V c.next_in_data.new.pages.store).moment c.next_in_data.new.hearings.said
           (omega (arith, one_met (V c.loop-next.pages.store).shape c.loop-next.hearings.said c.next_in_data.new.hearings.said c.in-Some.next (rw c.in-Some.is at c.in_ok-next.ensures.hears)))
-          (walk_steps g.K.KeyIndex.index c.args.root (g.S.EawStore.calls c.args.pages.now.store) (data_cost (g.S.EawStore.calls c.args.pages.now.store) (V c.args.pages.now.store).shape) (V c.args.pages.now.store).shape false (g.S.EawStore.calls c.loop-next.pages.store) (data_cost (g.S.EawStore.calls c.loop-next.pages.store) (V c.loop-next.pages.store).shape) (V c.loop-next.pages.store).shape (length c.loop-next.hearings.said) (V c.args.pages.now.store).moment (V c.loop-next.pages.store).moment (V c.next_in_data.new.pages.store).moment c.loop-next.low c.loop-next.hearings.said c.next_in_data.new.hearings.said
+          (walk_steps g.K.KeyIndex.access c.args.root (g.S.EawStore.calls c.args.pages.now.store) (data_cost (g.S.EawStore.calls c.args.pages.now.store) (V c.args.pages.now.store).shape) (V c.args.pages.now.store).shape false (g.S.EawStore.calls c.loop-next.pages.store) (data_cost (g.S.EawStore.calls c.loop-next.pages.store) (V c.loop-next.pages.store).shape) (V c.loop-next.pages.store).shape (length c.loop-next.hearings.said) (V c.args.pages.now.store).moment (V c.loop-next.pages.store).moment (V c.next_in_data.new.pages.store).moment c.loop-next.low c.loop-next.hearings.said c.next_in_data.new.hearings.said
           c.loop-next.invariant.walking c.loop-next.invariant.steady (read_same (g.S.EawStore.calls c.loop-next.pages.store) (g.S.EawStore.calls c.args.pages.now.store) (V c.loop-next.pages.store).shape (V c.args.pages.now.store).shape c.loop-next.invariant.steady c.loop-next.invariant.looks.shape) c.loop-next.invariant.looks.shape c.in_ok-next.ensures.looked);
       steady = λ command. c.in_ok-next.ensures.steady refl command ∙ c.loop-next.invariant.steady command;
       keys = λ told.
@@ -154,8 +154,8 @@ returns-then-left-eq0-clause-hears g c =
 pub returns-in_default-clause-walks : goal.returns-in_default-clause-walks
 returns-in_default-clause-walks g c =
     let V = g.S.EawStore.view in
-    walk_ends g.K.KeyIndex.index c.args.root (g.S.EawStore.calls c.args.pages.now.store) (data_cost (g.S.EawStore.calls c.args.pages.now.store) (V c.args.pages.now.store).shape) (V c.args.pages.now.store).shape false (length c.loop-next.hearings.said + 1) (V c.args.pages.now.store).moment (V c.next_in_data.new.pages.store).moment c.next_in_data.new.hearings.said (omega (arith, c.loop-next.invariant.left)) (omega (arith, c.in_ok-next.ensures.few, c.loop-next.invariant.left))
-    (walk_steps g.K.KeyIndex.index c.args.root (g.S.EawStore.calls c.args.pages.now.store) (data_cost (g.S.EawStore.calls c.args.pages.now.store) (V c.args.pages.now.store).shape) (V c.args.pages.now.store).shape false (g.S.EawStore.calls c.loop-next.pages.store) (data_cost (g.S.EawStore.calls c.loop-next.pages.store) (V c.loop-next.pages.store).shape) (V c.loop-next.pages.store).shape (length c.loop-next.hearings.said) (V c.args.pages.now.store).moment (V c.loop-next.pages.store).moment (V c.next_in_data.new.pages.store).moment c.loop-next.low c.loop-next.hearings.said c.next_in_data.new.hearings.said
+    walk_ends g.K.KeyIndex.access c.args.root (g.S.EawStore.calls c.args.pages.now.store) (data_cost (g.S.EawStore.calls c.args.pages.now.store) (V c.args.pages.now.store).shape) (V c.args.pages.now.store).shape false (length c.loop-next.hearings.said + 1) (V c.args.pages.now.store).moment (V c.next_in_data.new.pages.store).moment c.next_in_data.new.hearings.said (omega (arith, c.loop-next.invariant.left)) (omega (arith, c.in_ok-next.ensures.few, c.loop-next.invariant.left))
+    (walk_steps g.K.KeyIndex.access c.args.root (g.S.EawStore.calls c.args.pages.now.store) (data_cost (g.S.EawStore.calls c.args.pages.now.store) (V c.args.pages.now.store).shape) (V c.args.pages.now.store).shape false (g.S.EawStore.calls c.loop-next.pages.store) (data_cost (g.S.EawStore.calls c.loop-next.pages.store) (V c.loop-next.pages.store).shape) (V c.loop-next.pages.store).shape (length c.loop-next.hearings.said) (V c.args.pages.now.store).moment (V c.loop-next.pages.store).moment (V c.next_in_data.new.pages.store).moment c.loop-next.low c.loop-next.hearings.said c.next_in_data.new.hearings.said
     c.loop-next.invariant.walking c.loop-next.invariant.steady (read_same (g.S.EawStore.calls c.loop-next.pages.store) (g.S.EawStore.calls c.args.pages.now.store) (V c.loop-next.pages.store).shape (V c.args.pages.now.store).shape c.loop-next.invariant.steady c.loop-next.invariant.looks.shape) c.loop-next.invariant.looks.shape c.in_ok-next.ensures.looked)
 
 pub returns-in_err-next-clause-walks : goal.returns-in_err-next-clause-walks
@@ -163,27 +163,27 @@ returns-in_err-next-clause-walks g c =
     let exit = err_from_is_err_and c.from_residual.result c.from_residual.ensures.1 in
     rw (exit.1, exit.2) (
     let V = g.S.EawStore.view in
-    walk_ends g.K.KeyIndex.index c.args.root (g.S.EawStore.calls c.args.pages.now.store) (data_cost (g.S.EawStore.calls c.args.pages.now.store) (V c.args.pages.now.store).shape) (V c.args.pages.now.store).shape _ (length c.loop-next.hearings.said + 1) (V c.args.pages.now.store).moment (V c.next_in_data.new.pages.store).moment c.next_in_data.new.hearings.said (omega (arith, c.loop-next.invariant.left)) (omega (arith, c.in_err-next.ensures.few, c.loop-next.invariant.left))
-    (walk_steps g.K.KeyIndex.index c.args.root (g.S.EawStore.calls c.args.pages.now.store) (data_cost (g.S.EawStore.calls c.args.pages.now.store) (V c.args.pages.now.store).shape) (V c.args.pages.now.store).shape _ (g.S.EawStore.calls c.loop-next.pages.store) (data_cost (g.S.EawStore.calls c.loop-next.pages.store) (V c.loop-next.pages.store).shape) (V c.loop-next.pages.store).shape (length c.loop-next.hearings.said) (V c.args.pages.now.store).moment (V c.loop-next.pages.store).moment (V c.next_in_data.new.pages.store).moment c.loop-next.low c.loop-next.hearings.said c.next_in_data.new.hearings.said
+    walk_ends g.K.KeyIndex.access c.args.root (g.S.EawStore.calls c.args.pages.now.store) (data_cost (g.S.EawStore.calls c.args.pages.now.store) (V c.args.pages.now.store).shape) (V c.args.pages.now.store).shape _ (length c.loop-next.hearings.said + 1) (V c.args.pages.now.store).moment (V c.next_in_data.new.pages.store).moment c.next_in_data.new.hearings.said (omega (arith, c.loop-next.invariant.left)) (omega (arith, c.in_err-next.ensures.few, c.loop-next.invariant.left))
+    (walk_steps g.K.KeyIndex.access c.args.root (g.S.EawStore.calls c.args.pages.now.store) (data_cost (g.S.EawStore.calls c.args.pages.now.store) (V c.args.pages.now.store).shape) (V c.args.pages.now.store).shape _ (g.S.EawStore.calls c.loop-next.pages.store) (data_cost (g.S.EawStore.calls c.loop-next.pages.store) (V c.loop-next.pages.store).shape) (V c.loop-next.pages.store).shape (length c.loop-next.hearings.said) (V c.args.pages.now.store).moment (V c.loop-next.pages.store).moment (V c.next_in_data.new.pages.store).moment c.loop-next.low c.loop-next.hearings.said c.next_in_data.new.hearings.said
     c.loop-next.invariant.walking c.loop-next.invariant.steady (read_same (g.S.EawStore.calls c.loop-next.pages.store) (g.S.EawStore.calls c.args.pages.now.store) (V c.loop-next.pages.store).shape (V c.args.pages.now.store).shape c.loop-next.invariant.steady c.loop-next.invariant.looks.shape) c.loop-next.invariant.looks.shape c.in_err-next.ensures.looked))
 
 pub returns-then-is_none-clause-walks : goal.returns-then-is_none-clause-walks
 returns-then-is_none-clause-walks g c =
     let V = g.S.EawStore.view in
-    walk_ends g.K.KeyIndex.index c.args.root (g.S.EawStore.calls c.args.pages.now.store) (data_cost (g.S.EawStore.calls c.args.pages.now.store) (V c.args.pages.now.store).shape) (V c.args.pages.now.store).shape false (length c.loop-next.hearings.said + 1) (V c.args.pages.now.store).moment (V c.next_in_data.new.pages.store).moment c.next_in_data.new.hearings.said (omega (arith, c.loop-next.invariant.left)) (omega (arith, c.in_ok-next.ensures.few, c.loop-next.invariant.left))
-    (walk_steps g.K.KeyIndex.index c.args.root (g.S.EawStore.calls c.args.pages.now.store) (data_cost (g.S.EawStore.calls c.args.pages.now.store) (V c.args.pages.now.store).shape) (V c.args.pages.now.store).shape false (g.S.EawStore.calls c.loop-next.pages.store) (data_cost (g.S.EawStore.calls c.loop-next.pages.store) (V c.loop-next.pages.store).shape) (V c.loop-next.pages.store).shape (length c.loop-next.hearings.said) (V c.args.pages.now.store).moment (V c.loop-next.pages.store).moment (V c.next_in_data.new.pages.store).moment c.loop-next.low c.loop-next.hearings.said c.next_in_data.new.hearings.said
+    walk_ends g.K.KeyIndex.access c.args.root (g.S.EawStore.calls c.args.pages.now.store) (data_cost (g.S.EawStore.calls c.args.pages.now.store) (V c.args.pages.now.store).shape) (V c.args.pages.now.store).shape false (length c.loop-next.hearings.said + 1) (V c.args.pages.now.store).moment (V c.next_in_data.new.pages.store).moment c.next_in_data.new.hearings.said (omega (arith, c.loop-next.invariant.left)) (omega (arith, c.in_ok-next.ensures.few, c.loop-next.invariant.left))
+    (walk_steps g.K.KeyIndex.access c.args.root (g.S.EawStore.calls c.args.pages.now.store) (data_cost (g.S.EawStore.calls c.args.pages.now.store) (V c.args.pages.now.store).shape) (V c.args.pages.now.store).shape false (g.S.EawStore.calls c.loop-next.pages.store) (data_cost (g.S.EawStore.calls c.loop-next.pages.store) (V c.loop-next.pages.store).shape) (V c.loop-next.pages.store).shape (length c.loop-next.hearings.said) (V c.args.pages.now.store).moment (V c.loop-next.pages.store).moment (V c.next_in_data.new.pages.store).moment c.loop-next.low c.loop-next.hearings.said c.next_in_data.new.hearings.said
     c.loop-next.invariant.walking c.loop-next.invariant.steady (read_same (g.S.EawStore.calls c.loop-next.pages.store) (g.S.EawStore.calls c.args.pages.now.store) (V c.loop-next.pages.store).shape (V c.args.pages.now.store).shape c.loop-next.invariant.steady c.loop-next.invariant.looks.shape) c.loop-next.invariant.looks.shape c.in_ok-next.ensures.looked)
 
 pub returns-then-next-clause-walks : goal.returns-then-next-clause-walks
 returns-then-next-clause-walks g c =
     let V = g.S.EawStore.view in
-    walk_ends g.K.KeyIndex.index c.args.root (g.S.EawStore.calls c.args.pages.now.store) (data_cost (g.S.EawStore.calls c.args.pages.now.store) (V c.args.pages.now.store).shape) (V c.args.pages.now.store).shape false (length c.loop-next.hearings.said + 1) (V c.args.pages.now.store).moment (V c.next_in_data.new.pages.store).moment c.next_in_data.new.hearings.said (omega (arith, c.loop-next.invariant.left)) (omega (arith, c.in_ok-next.ensures.few, c.loop-next.invariant.left))
-    (walk_steps g.K.KeyIndex.index c.args.root (g.S.EawStore.calls c.args.pages.now.store) (data_cost (g.S.EawStore.calls c.args.pages.now.store) (V c.args.pages.now.store).shape) (V c.args.pages.now.store).shape false (g.S.EawStore.calls c.loop-next.pages.store) (data_cost (g.S.EawStore.calls c.loop-next.pages.store) (V c.loop-next.pages.store).shape) (V c.loop-next.pages.store).shape (length c.loop-next.hearings.said) (V c.args.pages.now.store).moment (V c.loop-next.pages.store).moment (V c.next_in_data.new.pages.store).moment c.loop-next.low c.loop-next.hearings.said c.next_in_data.new.hearings.said
+    walk_ends g.K.KeyIndex.access c.args.root (g.S.EawStore.calls c.args.pages.now.store) (data_cost (g.S.EawStore.calls c.args.pages.now.store) (V c.args.pages.now.store).shape) (V c.args.pages.now.store).shape false (length c.loop-next.hearings.said + 1) (V c.args.pages.now.store).moment (V c.next_in_data.new.pages.store).moment c.next_in_data.new.hearings.said (omega (arith, c.loop-next.invariant.left)) (omega (arith, c.in_ok-next.ensures.few, c.loop-next.invariant.left))
+    (walk_steps g.K.KeyIndex.access c.args.root (g.S.EawStore.calls c.args.pages.now.store) (data_cost (g.S.EawStore.calls c.args.pages.now.store) (V c.args.pages.now.store).shape) (V c.args.pages.now.store).shape false (g.S.EawStore.calls c.loop-next.pages.store) (data_cost (g.S.EawStore.calls c.loop-next.pages.store) (V c.loop-next.pages.store).shape) (V c.loop-next.pages.store).shape (length c.loop-next.hearings.said) (V c.args.pages.now.store).moment (V c.loop-next.pages.store).moment (V c.next_in_data.new.pages.store).moment c.loop-next.low c.loop-next.hearings.said c.next_in_data.new.hearings.said
     c.loop-next.invariant.walking c.loop-next.invariant.steady (read_same (g.S.EawStore.calls c.loop-next.pages.store) (g.S.EawStore.calls c.args.pages.now.store) (V c.loop-next.pages.store).shape (V c.args.pages.now.store).shape c.loop-next.invariant.steady c.loop-next.invariant.looks.shape) c.loop-next.invariant.looks.shape c.in_ok-next.ensures.looked)
 
 pub returns-then-left-eq0-clause-walks : goal.returns-then-left-eq0-clause-walks
 returns-then-left-eq0-clause-walks g c =
     let V = g.S.EawStore.view in
-    walk_ends g.K.KeyIndex.index c.args.root (g.S.EawStore.calls c.args.pages.now.store) (data_cost (g.S.EawStore.calls c.args.pages.now.store) (V c.args.pages.now.store).shape) (V c.args.pages.now.store).shape false (length c.loop-next.hearings.said + 1) (V c.args.pages.now.store).moment (V c.next_in_data.new.pages.store).moment c.next_in_data.new.hearings.said (omega (arith, c.loop-next.invariant.left)) (omega (arith, c.in_ok-next.ensures.few, c.loop-next.invariant.left))
-    (walk_steps g.K.KeyIndex.index c.args.root (g.S.EawStore.calls c.args.pages.now.store) (data_cost (g.S.EawStore.calls c.args.pages.now.store) (V c.args.pages.now.store).shape) (V c.args.pages.now.store).shape false (g.S.EawStore.calls c.loop-next.pages.store) (data_cost (g.S.EawStore.calls c.loop-next.pages.store) (V c.loop-next.pages.store).shape) (V c.loop-next.pages.store).shape (length c.loop-next.hearings.said) (V c.args.pages.now.store).moment (V c.loop-next.pages.store).moment (V c.next_in_data.new.pages.store).moment c.loop-next.low c.loop-next.hearings.said c.next_in_data.new.hearings.said
+    walk_ends g.K.KeyIndex.access c.args.root (g.S.EawStore.calls c.args.pages.now.store) (data_cost (g.S.EawStore.calls c.args.pages.now.store) (V c.args.pages.now.store).shape) (V c.args.pages.now.store).shape false (length c.loop-next.hearings.said + 1) (V c.args.pages.now.store).moment (V c.next_in_data.new.pages.store).moment c.next_in_data.new.hearings.said (omega (arith, c.loop-next.invariant.left)) (omega (arith, c.in_ok-next.ensures.few, c.loop-next.invariant.left))
+    (walk_steps g.K.KeyIndex.access c.args.root (g.S.EawStore.calls c.args.pages.now.store) (data_cost (g.S.EawStore.calls c.args.pages.now.store) (V c.args.pages.now.store).shape) (V c.args.pages.now.store).shape false (g.S.EawStore.calls c.loop-next.pages.store) (data_cost (g.S.EawStore.calls c.loop-next.pages.store) (V c.loop-next.pages.store).shape) (V c.loop-next.pages.store).shape (length c.loop-next.hearings.said) (V c.args.pages.now.store).moment (V c.loop-next.pages.store).moment (V c.next_in_data.new.pages.store).moment c.loop-next.low c.loop-next.hearings.said c.next_in_data.new.hearings.said
     c.loop-next.invariant.walking c.loop-next.invariant.steady (read_same (g.S.EawStore.calls c.loop-next.pages.store) (g.S.EawStore.calls c.args.pages.now.store) (V c.loop-next.pages.store).shape (V c.args.pages.now.store).shape c.loop-next.invariant.steady c.loop-next.invariant.looks.shape) c.loop-next.invariant.looks.shape c.in_ok-next.ensures.looked)

@@ -18,7 +18,7 @@ invariant-loop-next g l = record {
   le : l.from ≤ l.low;
   left : length l.hearings.said + l.left ≡ slots_of (g.S.EawStore.view l.initial.pages.store).shape;
   keys : IsTrue g.S.EawStore.tells → many l.low (g.K.KeyIndex.index.pairs (g.S.EawStore.view l.initial.pages.store).state.bytes l.root) ≤ l.left;
-  walking : Walking g.K.KeyIndex.index l.root (g.S.EawStore.calls l.initial.pages.store) (data_cost (g.S.EawStore.calls l.initial.pages.store) (g.S.EawStore.view l.initial.pages.store).shape) (g.S.EawStore.view l.initial.pages.store).shape
+  walking : Walking g.K.KeyIndex.access l.root (g.S.EawStore.calls l.initial.pages.store) (data_cost (g.S.EawStore.calls l.initial.pages.store) (g.S.EawStore.view l.initial.pages.store).shape) (g.S.EawStore.view l.initial.pages.store).shape
       false (length l.hearings.said) (g.S.EawStore.view l.initial.pages.store).moment (g.S.EawStore.view l.pages.store).moment l.hearings.said;
   steady : (command : Command) → g.S.EawStore.calls l.pages.store command ≡ g.S.EawStore.calls l.initial.pages.store command;
   held : AllHeld l.hearings.said;

@@ -95,7 +95,7 @@ returns-in_err-some-clause-hears g c =
     let exit = err_from_is_err_and c.from_residual.result c.from_residual.ensures.1 in
     rw (exit.1, exit.2) (
     let V = g.S.EawStore.view in
-    one_unfound g.S.EawStore.tells (g.S.EawStore.calls c.args.pages.now.store) (g.S.EawStore.calls c.next_pairs.new.pages.store) (g.K.KeyIndex.index.nexting c.args.root c.args.from) _ (V c.args.pages.now.store) (V c.next_pairs.new.pages.store) c.args.hearings.now.said c.in_err-some.field-0.0 c.in_err-some.ensures.follows)
+    one_unfound g.S.EawStore.tells (g.S.EawStore.calls c.args.pages.now.store) (g.S.EawStore.calls c.next_pairs.new.pages.store) (g.K.KeyIndex.access.nexting c.args.root c.args.from) _ (V c.args.pages.now.store) (V c.next_pairs.new.pages.store) c.args.hearings.now.said c.in_err-some.field-0.0 c.in_err-some.ensures.follows)
 
 pub returns-in_err-said-clause-hears : goal.returns-in_err-said-clause-hears
 returns-in_err-said-clause-hears g c =
@@ -137,19 +137,19 @@ returns-in_err-held-clause-few g c = let n = ap (λ (hs : List Hearing). length 
 pub returns-then-is_empty-clause-looked : goal.returns-then-is_empty-clause-looked
 returns-then-is_empty-clause-looked g c =
     let V = g.S.EawStore.view in
-    looks_alone g.S.EawStore.tells (g.S.EawStore.calls c.args.pages.now.store) (g.S.EawStore.calls c.next_pairs.new.pages.store) (data_cost (g.S.EawStore.calls c.args.pages.now.store) (V c.args.pages.now.store).shape) (g.K.KeyIndex.index.nexting c.args.root c.args.from) _ (V c.args.pages.now.store) (V c.next_pairs.new.pages.store) c.args.hearings.now.said _ c.in_ok-some.ensures.follows
+    looks_alone g.S.EawStore.tells (g.S.EawStore.calls c.args.pages.now.store) (g.S.EawStore.calls c.next_pairs.new.pages.store) (data_cost (g.S.EawStore.calls c.args.pages.now.store) (V c.args.pages.now.store).shape) (g.K.KeyIndex.access.nexting c.args.root c.args.from) _ (V c.args.pages.now.store) (V c.next_pairs.new.pages.store) c.args.hearings.now.said _ c.in_ok-some.ensures.follows
 
 pub returns-in_err-some-clause-looked : goal.returns-in_err-some-clause-looked
 returns-in_err-some-clause-looked g c =
     let exit = err_from_is_err_and c.from_residual.result c.from_residual.ensures.1 in
     rw (exit.1, exit.2) (
     let V = g.S.EawStore.view in
-    looks_alone g.S.EawStore.tells (g.S.EawStore.calls c.args.pages.now.store) (g.S.EawStore.calls c.next_pairs.new.pages.store) (data_cost (g.S.EawStore.calls c.args.pages.now.store) (V c.args.pages.now.store).shape) (g.K.KeyIndex.index.nexting c.args.root c.args.from) _ (V c.args.pages.now.store) (V c.next_pairs.new.pages.store) c.args.hearings.now.said _ c.in_err-some.ensures.follows)
+    looks_alone g.S.EawStore.tells (g.S.EawStore.calls c.args.pages.now.store) (g.S.EawStore.calls c.next_pairs.new.pages.store) (data_cost (g.S.EawStore.calls c.args.pages.now.store) (V c.args.pages.now.store).shape) (g.K.KeyIndex.access.nexting c.args.root c.args.from) _ (V c.args.pages.now.store) (V c.next_pairs.new.pages.store) c.args.hearings.now.said _ c.in_err-some.ensures.follows)
 
 pub returns-clause-looked : goal.returns-clause-looked
 returns-clause-looked g c =
     let V = g.S.EawStore.view in
-    looks_on g.S.EawStore.tells (g.S.EawStore.calls c.args.pages.now.store) (g.S.EawStore.calls c.next_pairs.new.pages.store) (data_cost (g.S.EawStore.calls c.args.pages.now.store) (V c.args.pages.now.store).shape) (g.K.KeyIndex.index.nexting c.args.root c.args.from) _ (V c.args.pages.now.store) (V c.next_pairs.new.pages.store) c.args.hearings.now.said false (V c.read_said.new.pages.store).moment c.heard.new.hearings.said _ c.in_ok-some.ensures.follows
+    looks_on g.S.EawStore.tells (g.S.EawStore.calls c.args.pages.now.store) (g.S.EawStore.calls c.next_pairs.new.pages.store) (data_cost (g.S.EawStore.calls c.args.pages.now.store) (V c.args.pages.now.store).shape) (g.K.KeyIndex.access.nexting c.args.root c.args.from) _ (V c.args.pages.now.store) (V c.next_pairs.new.pages.store) c.args.hearings.now.said false (V c.read_said.new.pages.store).moment c.heard.new.hearings.said _ c.in_ok-some.ensures.follows
     (paid_same false (data_cost (g.S.EawStore.calls c.next_pairs.new.pages.store) (V c.next_pairs.new.pages.store).shape) (data_cost (g.S.EawStore.calls c.args.pages.now.store) (V c.args.pages.now.store).shape) _ _ c.args.hearings.now.said c.heard.new.hearings.said
     (read_same (g.S.EawStore.calls c.next_pairs.new.pages.store) (g.S.EawStore.calls c.args.pages.now.store) (V c.next_pairs.new.pages.store).shape (V c.args.pages.now.store).shape (c.in_ok-some.ensures.follows.reads.steady refl) c.in_ok-some.ensures.looks.shape)
     (λ well. paid_one (data_cost (g.S.EawStore.calls c.next_pairs.new.pages.store) (V c.next_pairs.new.pages.store).shape) _ _ (get_or c.as_slice-some.result.now 0 (0, 0)).1 c.args.hearings.now.said c.heard.new.hearings.said _ (c.in_ok-said.ensures.costs.done refl) c.in_ok-held.ensures.hears refl))
@@ -159,7 +159,7 @@ returns-in_err-held-clause-looked g c =
     let exit = err_from_is_err_and c.from_residual-in_err-held.result c.from_residual-in_err-held.ensures.1 in
     rw (exit.1, exit.2) (
     let V = g.S.EawStore.view in
-    looks_on g.S.EawStore.tells (g.S.EawStore.calls c.args.pages.now.store) (g.S.EawStore.calls c.next_pairs.new.pages.store) (data_cost (g.S.EawStore.calls c.args.pages.now.store) (V c.args.pages.now.store).shape) (g.K.KeyIndex.index.nexting c.args.root c.args.from) _ (V c.args.pages.now.store) (V c.next_pairs.new.pages.store) c.args.hearings.now.said _ (V c.read_said.new.pages.store).moment c.heard.new.hearings.said _ c.in_ok-some.ensures.follows
+    looks_on g.S.EawStore.tells (g.S.EawStore.calls c.args.pages.now.store) (g.S.EawStore.calls c.next_pairs.new.pages.store) (data_cost (g.S.EawStore.calls c.args.pages.now.store) (V c.args.pages.now.store).shape) (g.K.KeyIndex.access.nexting c.args.root c.args.from) _ (V c.args.pages.now.store) (V c.next_pairs.new.pages.store) c.args.hearings.now.said _ (V c.read_said.new.pages.store).moment c.heard.new.hearings.said _ c.in_ok-some.ensures.follows
     (λ well. (paid_same false (data_cost (g.S.EawStore.calls c.next_pairs.new.pages.store) (V c.next_pairs.new.pages.store).shape) (data_cost (g.S.EawStore.calls c.args.pages.now.store) (V c.args.pages.now.store).shape) _ _ c.args.hearings.now.said c.heard.new.hearings.said
     (read_same (g.S.EawStore.calls c.next_pairs.new.pages.store) (g.S.EawStore.calls c.args.pages.now.store) (V c.next_pairs.new.pages.store).shape (V c.args.pages.now.store).shape (c.in_ok-some.ensures.follows.reads.steady refl) c.in_ok-some.ensures.looks.shape)
     (λ well. paid_one (data_cost (g.S.EawStore.calls c.next_pairs.new.pages.store) (V c.next_pairs.new.pages.store).shape) _ _ (get_or c.as_slice-some.result.now 0 (0, 0)).1 c.args.hearings.now.said c.heard.new.hearings.said _ (c.in_ok-said.ensures.costs.done refl) c.in_err-held.ensures.hears refl)) refl))
@@ -169,7 +169,7 @@ returns-in_err-said-clause-looked g c =
     let exit = err_from_is_err_and c.from_residual-in_err-said.result c.from_residual-in_err-said.ensures.1 in
     rw (exit.1, exit.2) (
     let V = g.S.EawStore.view in
-    looks_on g.S.EawStore.tells (g.S.EawStore.calls c.args.pages.now.store) (g.S.EawStore.calls c.next_pairs.new.pages.store) (data_cost (g.S.EawStore.calls c.args.pages.now.store) (V c.args.pages.now.store).shape) (g.K.KeyIndex.index.nexting c.args.root c.args.from) _ (V c.args.pages.now.store) (V c.next_pairs.new.pages.store) c.args.hearings.now.said _ (V c.read_said.new.pages.store).moment c.args.hearings.now.said _ c.in_ok-some.ensures.follows
+    looks_on g.S.EawStore.tells (g.S.EawStore.calls c.args.pages.now.store) (g.S.EawStore.calls c.next_pairs.new.pages.store) (data_cost (g.S.EawStore.calls c.args.pages.now.store) (V c.args.pages.now.store).shape) (g.K.KeyIndex.access.nexting c.args.root c.args.from) _ (V c.args.pages.now.store) (V c.next_pairs.new.pages.store) c.args.hearings.now.said _ (V c.read_said.new.pages.store).moment c.args.hearings.now.said _ c.in_ok-some.ensures.follows
     (λ well. absurd (not_refused g.S.EawStore.tells (V c.next_pairs.new.pages.store) c.in_err-said.field-0.0 c.in_err-said.ensures.faults c.in_err-said.ensures.cause ((c.in_ok-some.ensures.looks.still refl).dead ∙ c.in_ok-some.ensures.cause) well)))
 
 pub returns-then-is_empty-clause-steady : goal.returns-then-is_empty-clause-steady

@@ -138,8 +138,8 @@ loop-from-init g c =
     let shape = (V c.args.pages.now.store).shape in
     record {
       left = omega (arith, ap (λ (hs : List Hearing). length hs) c.requires.unheard, c.slot_count-left.ensures);
-      walking = walk_more g.K.KeyIndex.index c.args.root (g.S.EawStore.calls c.args.pages.now.store) (row_cost (g.S.EawStore.calls c.args.pages.now.store) c.args.tid (V c.args.pages.now.store)) (V c.args.pages.now.store).shape false 0 (length c.args.hearings.now.said) (V c.args.pages.now.store).moment (V c.args.pages.now.store).moment c.args.hearings.now.said (omega arith)
-          (walk_begins g.K.KeyIndex.index c.args.root (g.S.EawStore.calls c.args.pages.now.store) (row_cost (g.S.EawStore.calls c.args.pages.now.store) c.args.tid (V c.args.pages.now.store)) (V c.args.pages.now.store).shape (V c.args.pages.now.store).moment c.args.hearings.now.said c.requires.unheard);
+      walking = walk_more g.K.KeyIndex.access c.args.root (g.S.EawStore.calls c.args.pages.now.store) (row_cost (g.S.EawStore.calls c.args.pages.now.store) c.args.tid (V c.args.pages.now.store)) (V c.args.pages.now.store).shape false 0 (length c.args.hearings.now.said) (V c.args.pages.now.store).moment (V c.args.pages.now.store).moment c.args.hearings.now.said (omega arith)
+          (walk_begins g.K.KeyIndex.access c.args.root (g.S.EawStore.calls c.args.pages.now.store) (row_cost (g.S.EawStore.calls c.args.pages.now.store) c.args.tid (V c.args.pages.now.store)) (V c.args.pages.now.store).shape (V c.args.pages.now.store).moment c.args.hearings.now.said c.requires.unheard);
       steady = λ command. refl;
       keys = λ told. omega (
         arith,
@@ -196,9 +196,9 @@ loop-from-preserved g c =
     let all = rw c.in-Some.is at c.in_ok-next.ensures.all in
     record {
       left = omega (arith, all.1, c.if-met-left.false, c.loop-from.invariant.left);
-      walking = walk_more g.K.KeyIndex.index c.args.root (g.S.EawStore.calls c.args.pages.now.store) (row_cost (g.S.EawStore.calls c.args.pages.now.store) c.args.tid (V c.args.pages.now.store)) (V c.args.pages.now.store).shape false (length c.loop-from.hearings.said + 1) (length c.push_rows.new.hearings.said) (V c.args.pages.now.store).moment (V c.push_rows.new.pages.store).moment c.push_rows.new.hearings.said (omega (arith, all.1, eqb-false _ 0 (sym c.if-is_empty.ensures), ap (λ (ps : List Pair). length ps) c.as_slice-pairs.ensures.value))
-          (walk_hears g.K.KeyIndex.index c.args.root (g.S.EawStore.calls c.args.pages.now.store) (row_cost (g.S.EawStore.calls c.args.pages.now.store) c.args.tid (V c.args.pages.now.store)) (V c.args.pages.now.store).shape false (length c.loop-from.hearings.said + 1) (V c.args.pages.now.store).moment (V c.next_pairs.new.pages.store).moment (V c.push_rows.new.pages.store).moment c.loop-from.hearings.said c.push_rows.new.hearings.said
-          (walk_looks g.K.KeyIndex.index c.args.root (g.S.EawStore.calls c.args.pages.now.store) (row_cost (g.S.EawStore.calls c.args.pages.now.store) c.args.tid (V c.args.pages.now.store)) (V c.args.pages.now.store).shape g.S.EawStore.tells (g.S.EawStore.calls c.loop-from.pages.store) (g.S.EawStore.calls c.next_pairs.new.pages.store) (length c.loop-from.hearings.said) (V c.args.pages.now.store).moment c.loop-from.from c.loop-from.hearings.said _ (V c.loop-from.pages.store) (V c.next_pairs.new.pages.store) _ c.loop-from.invariant.walking c.loop-from.invariant.steady c.loop-from.invariant.looks.shape c.in_ok-pairs.ensures.follows)
+      walking = walk_more g.K.KeyIndex.access c.args.root (g.S.EawStore.calls c.args.pages.now.store) (row_cost (g.S.EawStore.calls c.args.pages.now.store) c.args.tid (V c.args.pages.now.store)) (V c.args.pages.now.store).shape false (length c.loop-from.hearings.said + 1) (length c.push_rows.new.hearings.said) (V c.args.pages.now.store).moment (V c.push_rows.new.pages.store).moment c.push_rows.new.hearings.said (omega (arith, all.1, eqb-false _ 0 (sym c.if-is_empty.ensures), ap (λ (ps : List Pair). length ps) c.as_slice-pairs.ensures.value))
+          (walk_hears g.K.KeyIndex.access c.args.root (g.S.EawStore.calls c.args.pages.now.store) (row_cost (g.S.EawStore.calls c.args.pages.now.store) c.args.tid (V c.args.pages.now.store)) (V c.args.pages.now.store).shape false (length c.loop-from.hearings.said + 1) (V c.args.pages.now.store).moment (V c.next_pairs.new.pages.store).moment (V c.push_rows.new.pages.store).moment c.loop-from.hearings.said c.push_rows.new.hearings.said
+          (walk_looks g.K.KeyIndex.access c.args.root (g.S.EawStore.calls c.args.pages.now.store) (row_cost (g.S.EawStore.calls c.args.pages.now.store) c.args.tid (V c.args.pages.now.store)) (V c.args.pages.now.store).shape g.S.EawStore.tells (g.S.EawStore.calls c.loop-from.pages.store) (g.S.EawStore.calls c.next_pairs.new.pages.store) (length c.loop-from.hearings.said) (V c.args.pages.now.store).moment c.loop-from.from c.loop-from.hearings.said _ (V c.loop-from.pages.store) (V c.next_pairs.new.pages.store) _ c.loop-from.invariant.walking c.loop-from.invariant.steady c.loop-from.invariant.looks.shape c.in_ok-pairs.ensures.follows)
           (paid_same _ (row_cost (g.S.EawStore.calls c.next_pairs.new.pages.store) c.args.tid (V c.next_pairs.new.pages.store)) (row_cost (g.S.EawStore.calls c.args.pages.now.store) c.args.tid (V c.args.pages.now.store)) _ _ c.loop-from.hearings.said c.push_rows.new.hearings.said (row_same (g.S.EawStore.calls c.next_pairs.new.pages.store) (g.S.EawStore.calls c.args.pages.now.store) c.args.tid (V c.next_pairs.new.pages.store) (V c.args.pages.now.store) (λ command. c.in_ok-pairs.ensures.follows.reads.steady refl command ∙ c.loop-from.invariant.steady command) (c.in_ok-pairs.ensures.looks.shape ∙ c.loop-from.invariant.looks.shape) (c.in_ok-pairs.ensures.looks.ranges ∙ (c.loop-from.invariant.looks.same refl).ranges)) c.in_ok-next.ensures.costs));
       steady = λ command. c.in_ok-next.ensures.steady refl command ∙ c.in_ok-pairs.ensures.follows.reads.steady refl command ∙ c.loop-from.invariant.steady command;
       keys = λ told.
@@ -241,7 +241,7 @@ returns-in_err-pairs-clause-hears g c =
     let rows = λ (done : Unit {0}). c.loop-from.rows in
     subst (λ (s : Shape). HearsRows s c.loop-from.hearings.said rows (Err exit.0)) c.loop-from.invariant.looks.shape
     (subst (λ (e : TableFault). HearsRows (V c.loop-from.pages.store).shape c.loop-from.hearings.said rows (Err e)) (sym exit.2)
-    (index_refused g.S.EawStore.tells (g.S.EawStore.calls c.loop-from.pages.store) (g.S.EawStore.calls c.next_pairs.new.pages.store) (g.K.KeyIndex.index.nexting c.args.root c.loop-from.from) _ (V c.loop-from.pages.store) (V c.next_pairs.new.pages.store) c.loop-from.hearings.said
+    (index_refused g.S.EawStore.tells (g.S.EawStore.calls c.loop-from.pages.store) (g.S.EawStore.calls c.next_pairs.new.pages.store) (g.K.KeyIndex.access.nexting c.args.root c.loop-from.from) _ (V c.loop-from.pages.store) (V c.next_pairs.new.pages.store) c.loop-from.hearings.said
     rows c.in_err-pairs.field-0.0 c.in_err-pairs.ensures.follows c.loop-from.invariant.spoke)))
 
 pub returns-in_err-next-clause-hears : goal.returns-in_err-next-clause-hears
@@ -283,31 +283,31 @@ returns-then-met-left-clause-hears g c =
 pub returns-clause-walks : goal.returns-clause-walks
 returns-clause-walks g c =
     let V = g.S.EawStore.view in
-    walk_ends g.K.KeyIndex.index c.args.root (g.S.EawStore.calls c.args.pages.now.store) (row_cost (g.S.EawStore.calls c.args.pages.now.store) c.args.tid (V c.args.pages.now.store)) (V c.args.pages.now.store).shape false (length c.loop-from.hearings.said) (V c.args.pages.now.store).moment (V c.loop-from.pages.store).moment c.loop-from.hearings.said (omega (arith, c.loop-from.invariant.left)) (omega (arith, c.loop-from.invariant.left))
+    walk_ends g.K.KeyIndex.access c.args.root (g.S.EawStore.calls c.args.pages.now.store) (row_cost (g.S.EawStore.calls c.args.pages.now.store) c.args.tid (V c.args.pages.now.store)) (V c.args.pages.now.store).shape false (length c.loop-from.hearings.said) (V c.args.pages.now.store).moment (V c.loop-from.pages.store).moment c.loop-from.hearings.said (omega (arith, c.loop-from.invariant.left)) (omega (arith, c.loop-from.invariant.left))
     (c.loop-from.invariant.walking)
 
 pub returns-then-is_empty-clause-walks : goal.returns-then-is_empty-clause-walks
 returns-then-is_empty-clause-walks g c =
     let V = g.S.EawStore.view in
-    walk_ends g.K.KeyIndex.index c.args.root (g.S.EawStore.calls c.args.pages.now.store) (row_cost (g.S.EawStore.calls c.args.pages.now.store) c.args.tid (V c.args.pages.now.store)) (V c.args.pages.now.store).shape false (length c.loop-from.hearings.said + 1) (V c.args.pages.now.store).moment (V c.next_pairs.new.pages.store).moment c.loop-from.hearings.said (omega (arith, c.loop-from.invariant.left)) (omega (arith, c.loop-from.invariant.left))
-    (walk_looks g.K.KeyIndex.index c.args.root (g.S.EawStore.calls c.args.pages.now.store) (row_cost (g.S.EawStore.calls c.args.pages.now.store) c.args.tid (V c.args.pages.now.store)) (V c.args.pages.now.store).shape g.S.EawStore.tells (g.S.EawStore.calls c.loop-from.pages.store) (g.S.EawStore.calls c.next_pairs.new.pages.store) (length c.loop-from.hearings.said) (V c.args.pages.now.store).moment c.loop-from.from c.loop-from.hearings.said _ (V c.loop-from.pages.store) (V c.next_pairs.new.pages.store) _ c.loop-from.invariant.walking c.loop-from.invariant.steady c.loop-from.invariant.looks.shape c.in_ok-pairs.ensures.follows)
+    walk_ends g.K.KeyIndex.access c.args.root (g.S.EawStore.calls c.args.pages.now.store) (row_cost (g.S.EawStore.calls c.args.pages.now.store) c.args.tid (V c.args.pages.now.store)) (V c.args.pages.now.store).shape false (length c.loop-from.hearings.said + 1) (V c.args.pages.now.store).moment (V c.next_pairs.new.pages.store).moment c.loop-from.hearings.said (omega (arith, c.loop-from.invariant.left)) (omega (arith, c.loop-from.invariant.left))
+    (walk_looks g.K.KeyIndex.access c.args.root (g.S.EawStore.calls c.args.pages.now.store) (row_cost (g.S.EawStore.calls c.args.pages.now.store) c.args.tid (V c.args.pages.now.store)) (V c.args.pages.now.store).shape g.S.EawStore.tells (g.S.EawStore.calls c.loop-from.pages.store) (g.S.EawStore.calls c.next_pairs.new.pages.store) (length c.loop-from.hearings.said) (V c.args.pages.now.store).moment c.loop-from.from c.loop-from.hearings.said _ (V c.loop-from.pages.store) (V c.next_pairs.new.pages.store) _ c.loop-from.invariant.walking c.loop-from.invariant.steady c.loop-from.invariant.looks.shape c.in_ok-pairs.ensures.follows)
 
 pub returns-in_err-pairs-clause-walks : goal.returns-in_err-pairs-clause-walks
 returns-in_err-pairs-clause-walks g c =
     let exit = err_from_is_err_and c.from_residual.result c.from_residual.ensures.1 in
     rw (exit.1) (
     let V = g.S.EawStore.view in
-    let A = λ (b : Bool). Walked g.K.KeyIndex.index c.args.root (g.S.EawStore.calls c.args.pages.now.store) (row_cost (g.S.EawStore.calls c.args.pages.now.store) c.args.tid (V c.args.pages.now.store)) (V c.args.pages.now.store).shape b (V c.args.pages.now.store).moment (V c.next_pairs.new.pages.store).moment c.loop-from.hearings.said in
+    let A = λ (b : Bool). Walked g.K.KeyIndex.access c.args.root (g.S.EawStore.calls c.args.pages.now.store) (row_cost (g.S.EawStore.calls c.args.pages.now.store) c.args.tid (V c.args.pages.now.store)) (V c.args.pages.now.store).shape b (V c.args.pages.now.store).moment (V c.next_pairs.new.pages.store).moment c.loop-from.hearings.said in
     subst (λ (e : TableFault). A (let r : Result (Unit {0}) TableFault = Err e in answers.is_failed r)) (sym exit.2)
-    (subst A (sym (failed_told c.in_err-pairs.field-0.0)) (walk_ends g.K.KeyIndex.index c.args.root (g.S.EawStore.calls c.args.pages.now.store) (row_cost (g.S.EawStore.calls c.args.pages.now.store) c.args.tid (V c.args.pages.now.store)) (V c.args.pages.now.store).shape _ (length c.loop-from.hearings.said + 1) (V c.args.pages.now.store).moment (V c.next_pairs.new.pages.store).moment c.loop-from.hearings.said (omega (arith, c.loop-from.invariant.left)) (omega (arith, c.loop-from.invariant.left))
-    (walk_looks g.K.KeyIndex.index c.args.root (g.S.EawStore.calls c.args.pages.now.store) (row_cost (g.S.EawStore.calls c.args.pages.now.store) c.args.tid (V c.args.pages.now.store)) (V c.args.pages.now.store).shape g.S.EawStore.tells (g.S.EawStore.calls c.loop-from.pages.store) (g.S.EawStore.calls c.next_pairs.new.pages.store) (length c.loop-from.hearings.said) (V c.args.pages.now.store).moment c.loop-from.from c.loop-from.hearings.said _ (V c.loop-from.pages.store) (V c.next_pairs.new.pages.store) _ c.loop-from.invariant.walking c.loop-from.invariant.steady c.loop-from.invariant.looks.shape c.in_err-pairs.ensures.follows))))
+    (subst A (sym (failed_told c.in_err-pairs.field-0.0)) (walk_ends g.K.KeyIndex.access c.args.root (g.S.EawStore.calls c.args.pages.now.store) (row_cost (g.S.EawStore.calls c.args.pages.now.store) c.args.tid (V c.args.pages.now.store)) (V c.args.pages.now.store).shape _ (length c.loop-from.hearings.said + 1) (V c.args.pages.now.store).moment (V c.next_pairs.new.pages.store).moment c.loop-from.hearings.said (omega (arith, c.loop-from.invariant.left)) (omega (arith, c.loop-from.invariant.left))
+    (walk_looks g.K.KeyIndex.access c.args.root (g.S.EawStore.calls c.args.pages.now.store) (row_cost (g.S.EawStore.calls c.args.pages.now.store) c.args.tid (V c.args.pages.now.store)) (V c.args.pages.now.store).shape g.S.EawStore.tells (g.S.EawStore.calls c.loop-from.pages.store) (g.S.EawStore.calls c.next_pairs.new.pages.store) (length c.loop-from.hearings.said) (V c.args.pages.now.store).moment c.loop-from.from c.loop-from.hearings.said _ (V c.loop-from.pages.store) (V c.next_pairs.new.pages.store) _ c.loop-from.invariant.walking c.loop-from.invariant.steady c.loop-from.invariant.looks.shape c.in_err-pairs.ensures.follows))))
 
 pub returns-in_default-clause-walks : goal.returns-in_default-clause-walks
 returns-in_default-clause-walks g c =
     let V = g.S.EawStore.view in
-    walk_ends g.K.KeyIndex.index c.args.root (g.S.EawStore.calls c.args.pages.now.store) (row_cost (g.S.EawStore.calls c.args.pages.now.store) c.args.tid (V c.args.pages.now.store)) (V c.args.pages.now.store).shape false (length c.loop-from.hearings.said + 1) (V c.args.pages.now.store).moment (V c.push_rows.new.pages.store).moment c.push_rows.new.hearings.said (omega (arith, c.loop-from.invariant.left)) (omega (arith, c.in_ok-next.ensures.few, c.loop-from.invariant.left))
-    (walk_hears g.K.KeyIndex.index c.args.root (g.S.EawStore.calls c.args.pages.now.store) (row_cost (g.S.EawStore.calls c.args.pages.now.store) c.args.tid (V c.args.pages.now.store)) (V c.args.pages.now.store).shape false (length c.loop-from.hearings.said + 1) (V c.args.pages.now.store).moment (V c.next_pairs.new.pages.store).moment (V c.push_rows.new.pages.store).moment c.loop-from.hearings.said c.push_rows.new.hearings.said
-    (walk_looks g.K.KeyIndex.index c.args.root (g.S.EawStore.calls c.args.pages.now.store) (row_cost (g.S.EawStore.calls c.args.pages.now.store) c.args.tid (V c.args.pages.now.store)) (V c.args.pages.now.store).shape g.S.EawStore.tells (g.S.EawStore.calls c.loop-from.pages.store) (g.S.EawStore.calls c.next_pairs.new.pages.store) (length c.loop-from.hearings.said) (V c.args.pages.now.store).moment c.loop-from.from c.loop-from.hearings.said _ (V c.loop-from.pages.store) (V c.next_pairs.new.pages.store) _ c.loop-from.invariant.walking c.loop-from.invariant.steady c.loop-from.invariant.looks.shape c.in_ok-pairs.ensures.follows)
+    walk_ends g.K.KeyIndex.access c.args.root (g.S.EawStore.calls c.args.pages.now.store) (row_cost (g.S.EawStore.calls c.args.pages.now.store) c.args.tid (V c.args.pages.now.store)) (V c.args.pages.now.store).shape false (length c.loop-from.hearings.said + 1) (V c.args.pages.now.store).moment (V c.push_rows.new.pages.store).moment c.push_rows.new.hearings.said (omega (arith, c.loop-from.invariant.left)) (omega (arith, c.in_ok-next.ensures.few, c.loop-from.invariant.left))
+    (walk_hears g.K.KeyIndex.access c.args.root (g.S.EawStore.calls c.args.pages.now.store) (row_cost (g.S.EawStore.calls c.args.pages.now.store) c.args.tid (V c.args.pages.now.store)) (V c.args.pages.now.store).shape false (length c.loop-from.hearings.said + 1) (V c.args.pages.now.store).moment (V c.next_pairs.new.pages.store).moment (V c.push_rows.new.pages.store).moment c.loop-from.hearings.said c.push_rows.new.hearings.said
+    (walk_looks g.K.KeyIndex.access c.args.root (g.S.EawStore.calls c.args.pages.now.store) (row_cost (g.S.EawStore.calls c.args.pages.now.store) c.args.tid (V c.args.pages.now.store)) (V c.args.pages.now.store).shape g.S.EawStore.tells (g.S.EawStore.calls c.loop-from.pages.store) (g.S.EawStore.calls c.next_pairs.new.pages.store) (length c.loop-from.hearings.said) (V c.args.pages.now.store).moment c.loop-from.from c.loop-from.hearings.said _ (V c.loop-from.pages.store) (V c.next_pairs.new.pages.store) _ c.loop-from.invariant.walking c.loop-from.invariant.steady c.loop-from.invariant.looks.shape c.in_ok-pairs.ensures.follows)
     (paid_same _ (row_cost (g.S.EawStore.calls c.next_pairs.new.pages.store) c.args.tid (V c.next_pairs.new.pages.store)) (row_cost (g.S.EawStore.calls c.args.pages.now.store) c.args.tid (V c.args.pages.now.store)) _ _ c.loop-from.hearings.said c.push_rows.new.hearings.said (row_same (g.S.EawStore.calls c.next_pairs.new.pages.store) (g.S.EawStore.calls c.args.pages.now.store) c.args.tid (V c.next_pairs.new.pages.store) (V c.args.pages.now.store) (λ command. c.in_ok-pairs.ensures.follows.reads.steady refl command ∙ c.loop-from.invariant.steady command) (c.in_ok-pairs.ensures.looks.shape ∙ c.loop-from.invariant.looks.shape) (c.in_ok-pairs.ensures.looks.ranges ∙ (c.loop-from.invariant.looks.same refl).ranges)) c.in_ok-next.ensures.costs))
 
 pub returns-in_err-next-clause-walks : goal.returns-in_err-next-clause-walks
@@ -315,15 +315,15 @@ returns-in_err-next-clause-walks g c =
     let exit = err_from_is_err_and c.from_residual-in_err-next.result c.from_residual-in_err-next.ensures.1 in
     rw (exit.1, exit.2) (
     let V = g.S.EawStore.view in
-    walk_ends g.K.KeyIndex.index c.args.root (g.S.EawStore.calls c.args.pages.now.store) (row_cost (g.S.EawStore.calls c.args.pages.now.store) c.args.tid (V c.args.pages.now.store)) (V c.args.pages.now.store).shape _ (length c.loop-from.hearings.said + 1) (V c.args.pages.now.store).moment (V c.push_rows.new.pages.store).moment c.push_rows.new.hearings.said (omega (arith, c.loop-from.invariant.left)) (omega (arith, c.in_err-next.ensures.few, c.loop-from.invariant.left))
-    (walk_hears g.K.KeyIndex.index c.args.root (g.S.EawStore.calls c.args.pages.now.store) (row_cost (g.S.EawStore.calls c.args.pages.now.store) c.args.tid (V c.args.pages.now.store)) (V c.args.pages.now.store).shape _ (length c.loop-from.hearings.said + 1) (V c.args.pages.now.store).moment (V c.next_pairs.new.pages.store).moment (V c.push_rows.new.pages.store).moment c.loop-from.hearings.said c.push_rows.new.hearings.said
-    (walk_looks g.K.KeyIndex.index c.args.root (g.S.EawStore.calls c.args.pages.now.store) (row_cost (g.S.EawStore.calls c.args.pages.now.store) c.args.tid (V c.args.pages.now.store)) (V c.args.pages.now.store).shape g.S.EawStore.tells (g.S.EawStore.calls c.loop-from.pages.store) (g.S.EawStore.calls c.next_pairs.new.pages.store) (length c.loop-from.hearings.said) (V c.args.pages.now.store).moment c.loop-from.from c.loop-from.hearings.said _ (V c.loop-from.pages.store) (V c.next_pairs.new.pages.store) _ c.loop-from.invariant.walking c.loop-from.invariant.steady c.loop-from.invariant.looks.shape c.in_ok-pairs.ensures.follows)
+    walk_ends g.K.KeyIndex.access c.args.root (g.S.EawStore.calls c.args.pages.now.store) (row_cost (g.S.EawStore.calls c.args.pages.now.store) c.args.tid (V c.args.pages.now.store)) (V c.args.pages.now.store).shape _ (length c.loop-from.hearings.said + 1) (V c.args.pages.now.store).moment (V c.push_rows.new.pages.store).moment c.push_rows.new.hearings.said (omega (arith, c.loop-from.invariant.left)) (omega (arith, c.in_err-next.ensures.few, c.loop-from.invariant.left))
+    (walk_hears g.K.KeyIndex.access c.args.root (g.S.EawStore.calls c.args.pages.now.store) (row_cost (g.S.EawStore.calls c.args.pages.now.store) c.args.tid (V c.args.pages.now.store)) (V c.args.pages.now.store).shape _ (length c.loop-from.hearings.said + 1) (V c.args.pages.now.store).moment (V c.next_pairs.new.pages.store).moment (V c.push_rows.new.pages.store).moment c.loop-from.hearings.said c.push_rows.new.hearings.said
+    (walk_looks g.K.KeyIndex.access c.args.root (g.S.EawStore.calls c.args.pages.now.store) (row_cost (g.S.EawStore.calls c.args.pages.now.store) c.args.tid (V c.args.pages.now.store)) (V c.args.pages.now.store).shape g.S.EawStore.tells (g.S.EawStore.calls c.loop-from.pages.store) (g.S.EawStore.calls c.next_pairs.new.pages.store) (length c.loop-from.hearings.said) (V c.args.pages.now.store).moment c.loop-from.from c.loop-from.hearings.said _ (V c.loop-from.pages.store) (V c.next_pairs.new.pages.store) _ c.loop-from.invariant.walking c.loop-from.invariant.steady c.loop-from.invariant.looks.shape c.in_ok-pairs.ensures.follows)
     (paid_same _ (row_cost (g.S.EawStore.calls c.next_pairs.new.pages.store) c.args.tid (V c.next_pairs.new.pages.store)) (row_cost (g.S.EawStore.calls c.args.pages.now.store) c.args.tid (V c.args.pages.now.store)) _ _ c.loop-from.hearings.said c.push_rows.new.hearings.said (row_same (g.S.EawStore.calls c.next_pairs.new.pages.store) (g.S.EawStore.calls c.args.pages.now.store) c.args.tid (V c.next_pairs.new.pages.store) (V c.args.pages.now.store) (λ command. c.in_ok-pairs.ensures.follows.reads.steady refl command ∙ c.loop-from.invariant.steady command) (c.in_ok-pairs.ensures.looks.shape ∙ c.loop-from.invariant.looks.shape) (c.in_ok-pairs.ensures.looks.ranges ∙ (c.loop-from.invariant.looks.same refl).ranges)) c.in_err-next.ensures.costs)))
 
 pub returns-then-met-left-clause-walks : goal.returns-then-met-left-clause-walks
 returns-then-met-left-clause-walks g c =
     let V = g.S.EawStore.view in
-    walk_ends g.K.KeyIndex.index c.args.root (g.S.EawStore.calls c.args.pages.now.store) (row_cost (g.S.EawStore.calls c.args.pages.now.store) c.args.tid (V c.args.pages.now.store)) (V c.args.pages.now.store).shape false (length c.loop-from.hearings.said + 1) (V c.args.pages.now.store).moment (V c.push_rows.new.pages.store).moment c.push_rows.new.hearings.said (omega (arith, c.loop-from.invariant.left)) (omega (arith, c.in_ok-next.ensures.few, c.loop-from.invariant.left))
-    (walk_hears g.K.KeyIndex.index c.args.root (g.S.EawStore.calls c.args.pages.now.store) (row_cost (g.S.EawStore.calls c.args.pages.now.store) c.args.tid (V c.args.pages.now.store)) (V c.args.pages.now.store).shape false (length c.loop-from.hearings.said + 1) (V c.args.pages.now.store).moment (V c.next_pairs.new.pages.store).moment (V c.push_rows.new.pages.store).moment c.loop-from.hearings.said c.push_rows.new.hearings.said
-    (walk_looks g.K.KeyIndex.index c.args.root (g.S.EawStore.calls c.args.pages.now.store) (row_cost (g.S.EawStore.calls c.args.pages.now.store) c.args.tid (V c.args.pages.now.store)) (V c.args.pages.now.store).shape g.S.EawStore.tells (g.S.EawStore.calls c.loop-from.pages.store) (g.S.EawStore.calls c.next_pairs.new.pages.store) (length c.loop-from.hearings.said) (V c.args.pages.now.store).moment c.loop-from.from c.loop-from.hearings.said _ (V c.loop-from.pages.store) (V c.next_pairs.new.pages.store) _ c.loop-from.invariant.walking c.loop-from.invariant.steady c.loop-from.invariant.looks.shape c.in_ok-pairs.ensures.follows)
+    walk_ends g.K.KeyIndex.access c.args.root (g.S.EawStore.calls c.args.pages.now.store) (row_cost (g.S.EawStore.calls c.args.pages.now.store) c.args.tid (V c.args.pages.now.store)) (V c.args.pages.now.store).shape false (length c.loop-from.hearings.said + 1) (V c.args.pages.now.store).moment (V c.push_rows.new.pages.store).moment c.push_rows.new.hearings.said (omega (arith, c.loop-from.invariant.left)) (omega (arith, c.in_ok-next.ensures.few, c.loop-from.invariant.left))
+    (walk_hears g.K.KeyIndex.access c.args.root (g.S.EawStore.calls c.args.pages.now.store) (row_cost (g.S.EawStore.calls c.args.pages.now.store) c.args.tid (V c.args.pages.now.store)) (V c.args.pages.now.store).shape false (length c.loop-from.hearings.said + 1) (V c.args.pages.now.store).moment (V c.next_pairs.new.pages.store).moment (V c.push_rows.new.pages.store).moment c.loop-from.hearings.said c.push_rows.new.hearings.said
+    (walk_looks g.K.KeyIndex.access c.args.root (g.S.EawStore.calls c.args.pages.now.store) (row_cost (g.S.EawStore.calls c.args.pages.now.store) c.args.tid (V c.args.pages.now.store)) (V c.args.pages.now.store).shape g.S.EawStore.tells (g.S.EawStore.calls c.loop-from.pages.store) (g.S.EawStore.calls c.next_pairs.new.pages.store) (length c.loop-from.hearings.said) (V c.args.pages.now.store).moment c.loop-from.from c.loop-from.hearings.said _ (V c.loop-from.pages.store) (V c.next_pairs.new.pages.store) _ c.loop-from.invariant.walking c.loop-from.invariant.steady c.loop-from.invariant.looks.shape c.in_ok-pairs.ensures.follows)
     (paid_same _ (row_cost (g.S.EawStore.calls c.next_pairs.new.pages.store) c.args.tid (V c.next_pairs.new.pages.store)) (row_cost (g.S.EawStore.calls c.args.pages.now.store) c.args.tid (V c.args.pages.now.store)) _ _ c.loop-from.hearings.said c.push_rows.new.hearings.said (row_same (g.S.EawStore.calls c.next_pairs.new.pages.store) (g.S.EawStore.calls c.args.pages.now.store) c.args.tid (V c.next_pairs.new.pages.store) (V c.args.pages.now.store) (λ command. c.in_ok-pairs.ensures.follows.reads.steady refl command ∙ c.loop-from.invariant.steady command) (c.in_ok-pairs.ensures.looks.shape ∙ c.loop-from.invariant.looks.shape) (c.in_ok-pairs.ensures.looks.ranges ∙ (c.loop-from.invariant.looks.same refl).ranges)) c.in_ok-next.ensures.costs))

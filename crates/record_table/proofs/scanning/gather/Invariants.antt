@@ -15,7 +15,7 @@ abbrev pub invariant-loop-from : goal.invariant-loop-from
 invariant-loop-from g l = record {
   left : length l.hearings.said + l.left ≡ slots_of (g.S.EawStore.view l.initial.pages.store).shape;
   keys : IsTrue g.S.EawStore.tells → many l.from (g.K.KeyIndex.index.pairs (g.S.EawStore.view l.initial.pages.store).state.bytes l.root) ≤ l.left;
-  walking : Walking g.K.KeyIndex.index l.root (g.S.EawStore.calls l.initial.pages.store) (row_cost (g.S.EawStore.calls l.initial.pages.store) l.tid (g.S.EawStore.view l.initial.pages.store)) (g.S.EawStore.view l.initial.pages.store).shape
+  walking : Walking g.K.KeyIndex.access l.root (g.S.EawStore.calls l.initial.pages.store) (row_cost (g.S.EawStore.calls l.initial.pages.store) l.tid (g.S.EawStore.view l.initial.pages.store)) (g.S.EawStore.view l.initial.pages.store).shape
       false (length l.hearings.said) (g.S.EawStore.view l.initial.pages.store).moment (g.S.EawStore.view l.pages.store).moment l.hearings.said;
   steady : (command : Command) → g.S.EawStore.calls l.pages.store command ≡ g.S.EawStore.calls l.initial.pages.store command;
   spoke : AllSpoke l.hearings.said;

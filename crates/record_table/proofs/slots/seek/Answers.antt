@@ -137,7 +137,7 @@ returns-in_err-held-clause-looks g c =
 pub returns-in_default-clause-seeks : goal.returns-in_default-clause-seeks
 returns-in_default-clause-seeks g c =
     let V = g.S.EawStore.view in
-    seeks_none g.S.EawStore.tells (g.K.KeyIndex.index.finding c.args.root c.args.key) c.args.key c.args.tid (g.S.EawStore.calls c.args.pages.now.store) (g.S.EawStore.calls c.find.new.pages.store) c.args.hearings.now.said
+    seeks_none g.S.EawStore.tells (g.K.KeyIndex.access.finding c.args.root c.args.key) c.args.key c.args.tid (g.S.EawStore.calls c.args.pages.now.store) (g.S.EawStore.calls c.find.new.pages.store) c.args.hearings.now.said
     (V c.args.pages.now.store) (V c.find.new.pages.store) (rw c.in_default.is at c.in_ok-slot.ensures.follows)
 
 pub returns-in_err-slot-clause-seeks : goal.returns-in_err-slot-clause-seeks
@@ -145,7 +145,7 @@ returns-in_err-slot-clause-seeks g c =
     let exit = err_from_is_err_and c.from_residual.result c.from_residual.ensures.1 in
     rw (exit.1, exit.2) (
     let V = g.S.EawStore.view in
-    seeks_err g.S.EawStore.tells (g.K.KeyIndex.index.finding c.args.root c.args.key) c.args.key c.args.tid (g.S.EawStore.calls c.args.pages.now.store) (g.S.EawStore.calls c.find.new.pages.store) c.args.hearings.now.said
+    seeks_err g.S.EawStore.tells (g.K.KeyIndex.access.finding c.args.root c.args.key) c.args.key c.args.tid (g.S.EawStore.calls c.args.pages.now.store) (g.S.EawStore.calls c.find.new.pages.store) c.args.hearings.now.said
     (V c.args.pages.now.store) (V c.find.new.pages.store) c.in_err-slot.field-0.0 c.in_err-slot.ensures.follows)
 
 pub returns-in_err-said-clause-seeks : goal.returns-in_err-said-clause-seeks
@@ -153,7 +153,7 @@ returns-in_err-said-clause-seeks g c =
     let exit = err_from_is_err_and c.from_residual-in_err-said.result c.from_residual-in_err-said.ensures.1 in
     rw (exit.1, exit.2) (
     let V = g.S.EawStore.view in
-    seeks_unread g.S.EawStore.tells (g.K.KeyIndex.index.finding c.args.root c.args.key) c.args.key c.args.tid (g.S.EawStore.calls c.args.pages.now.store) (g.S.EawStore.calls c.find.new.pages.store) c.args.hearings.now.said
+    seeks_unread g.S.EawStore.tells (g.K.KeyIndex.access.finding c.args.root c.args.key) c.args.key c.args.tid (g.S.EawStore.calls c.args.pages.now.store) (g.S.EawStore.calls c.find.new.pages.store) c.args.hearings.now.said
     (V c.args.pages.now.store) (V c.find.new.pages.store) c.in-Some.slot (rw c.in-Some.is at c.in_ok-slot.ensures.inside) c.in_ok-slot.ensures.looks.shape c.in_ok-slot.ensures.looks.ranges
     (V c.read_as.new.pages.store) (rw c.in-Some.is at c.in_ok-slot.ensures.follows)
     c.in_err-said.field-0.0 ((c.in_ok-slot.ensures.looks.still refl).dead ∙ c.in_ok-slot.ensures.cause) c.in_err-said.ensures.faults c.in_err-said.ensures.cause c.in_err-said.ensures.costs)
@@ -163,7 +163,7 @@ returns-in_err-held-clause-seeks g c =
     let exit = err_from_is_err_and c.from_residual-in_err-held.result c.from_residual-in_err-held.ensures.1 in
     rw (exit.1, exit.2) (
     let V = g.S.EawStore.view in
-    seeks_bad g.S.EawStore.tells (g.K.KeyIndex.index.finding c.args.root c.args.key) c.args.key c.args.tid (g.S.EawStore.calls c.args.pages.now.store) (g.S.EawStore.calls c.find.new.pages.store) c.args.hearings.now.said
+    seeks_bad g.S.EawStore.tells (g.K.KeyIndex.access.finding c.args.root c.args.key) c.args.key c.args.tid (g.S.EawStore.calls c.args.pages.now.store) (g.S.EawStore.calls c.find.new.pages.store) c.args.hearings.now.said
     (V c.args.pages.now.store) (V c.find.new.pages.store) c.in-Some.slot (rw c.in-Some.is at c.in_ok-slot.ensures.inside) c.in_ok-slot.ensures.looks.shape c.in_ok-slot.ensures.looks.ranges
     (V c.read_as.new.pages.store) (rw c.in-Some.is at c.in_ok-slot.ensures.follows)
     c.in_ok-said.said c.in_ok-said.ensures.costs c.in_err-held.field-0.0 c.page_of-page.result c.in_ok-said.said _ c.in_err-held.ensures.none.0 c.in_err-held.ensures.none.1 c.in_err-held.ensures.hears c.page_of-page.ensures.page)
@@ -171,7 +171,7 @@ returns-in_err-held-clause-seeks g c =
 pub returns-clause-seeks : goal.returns-clause-seeks
 returns-clause-seeks g c =
     let V = g.S.EawStore.view in
-    seeks_some g.S.EawStore.tells (g.K.KeyIndex.index.finding c.args.root c.args.key) c.args.key c.args.tid (g.S.EawStore.calls c.args.pages.now.store) (g.S.EawStore.calls c.find.new.pages.store) c.args.hearings.now.said
+    seeks_some g.S.EawStore.tells (g.K.KeyIndex.access.finding c.args.root c.args.key) c.args.key c.args.tid (g.S.EawStore.calls c.args.pages.now.store) (g.S.EawStore.calls c.find.new.pages.store) c.args.hearings.now.said
     (V c.args.pages.now.store) (V c.find.new.pages.store) c.in-Some.slot (rw c.in-Some.is at c.in_ok-slot.ensures.inside) c.in_ok-slot.ensures.looks.shape c.in_ok-slot.ensures.looks.ranges
     (V c.read_as.new.pages.store) (rw c.in-Some.is at c.in_ok-slot.ensures.follows)
     c.in_ok-said.said c.in_ok-said.ensures.costs _ c.in_ok-said.said c.in_ok-held.held _ refl c.in_ok-held.ensures.slot c.value_in.ensures c.in_ok-held.ensures.hears

@@ -8,7 +8,7 @@ use Rattle.index_pages.proofs.Sizes.{slots_are, index_pages_are}
 use Rattle.btree_laws.proofs.Ways.{way_own}
 use Rattle.btree_laws.specs.Descent.{leaf_for}
 use Rattle.btree_laws.specs.Sound.{IsTree}
-use Rattle.btree_pages.specs.Index.{adding}
+use Rattle.index_pages.specs.Actions.{adding}
 use Rattle.btree_pages.specs.Trees.{whole_of, table_sound}
 use Rattle.btree_pages.proofs.Crowds.{crowded_two, open_leaf, length-pairs_said}
 use Rattle.btree_pages.proofs.Given.{given_found}

@@ -1,7 +1,6 @@
 use Rattle.std.proofs.Common.{ℕ, List, ap, sym, subst, ◌∙◌, arith}
 use Rattle.std.specs.Prelude.{◌≡◌, ◌<◌, length, slice_get, Option, Some, None}
 use Rattle.std.specs.Option.{SomeIff}
-use Rattle.record_slots.specs.Names.{names_in}
 use Rattle.record_slots.specs.Super.{tables_used}
 use Rattle.record_slots.specs.Text.{IsName}
 use Rattle.record_slots.proofs.Naming.{name_used, name_beyond, used_name}

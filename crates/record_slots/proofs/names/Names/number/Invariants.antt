@@ -1,7 +1,5 @@
 use Rattle.std.proofs.Common.{◌≢◌, ◌<◌, ℕ, Some}
 use Rattle.std.specs.Prelude.{slice_get}
-use Rattle.record_slots.specs.Names.{names_in}
-use Rattle.record_slots.specs.Super.{tables_used}
 use Rattle.record_slots.proofs.names.Names.number.Given as goal
 
 -- no name so far is this one

@@ -1,6 +1,6 @@
 use Rattle.std.proofs.Common.{ℕ, List, [], ◌≡◌, refl, sym, subst, ap, ◌∙◌, IsTrue, arith}
 use Rattle.record_slots.specs.Names.{names_in}
-use Rattle.record_slots.specs.Super.{are_named, main_entries, tables_in, tables_used, main_table}
+use Rattle.record_slots.specs.Super.{are_named, main_entries, tables_in, tables_used}
 use Rattle.record_slots.proofs.names.Names.of.Goals as goal
 
 pub invariant_of-result : goal.invariant_of-result

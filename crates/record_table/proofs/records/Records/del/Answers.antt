@@ -222,7 +222,7 @@ returns-in_default-clause-erases g c =
     let name = name_at (V c.args.self.now.store).state.bytes c.args.table in
     let calls = called_inside g.S.EawStore.tells V c.args.self.now c.self.inside.pages c.self.view_is c.args.table name (λ told alive. called_below (V c.args.self.now.store).state.bytes c.args.table (c.requires.there told alive)) in
     let roots = rooted_as g.S.EawStore.tells (pages_of (V c.self.inside.pages.store) c.self.inside.pages) c.self.inside.roots.at c.args.table c.requires.table c.self.invariant.1.1 name calls c.of_table-root.result c.of_table-root.ensures in
-    erases V g.S.EawStore.calls g.S.EawStore.tells (λ root. g.K.KeyIndex.index.finding root c.args.key) c.args.table c.args.key c.args.tid c.of_table-root.result c.args.self.now c.self.inside.pages c.self.view_is roots
+    erases V g.S.EawStore.calls g.S.EawStore.tells (λ root. g.K.KeyIndex.access.finding root c.args.key) c.args.table c.args.key c.args.tid c.of_table-root.result c.args.self.now c.self.inside.pages c.self.view_is roots
     (V c.seek.new.pages.store).moment c.new-hearings.result.said c.seek.new.hearings.said c.new-hearings.ensures (let r : Result (Option Place) PageFault = Ok None in r) (rw c.in_default.is at c.in_ok-sought.ensures.seeks) (Ok false) refl
 
 pub returns-in_err-sought-clause-erases : goal.returns-in_err-sought-clause-erases
@@ -233,7 +233,7 @@ returns-in_err-sought-clause-erases g c =
     let name = name_at (V c.args.self.now.store).state.bytes c.args.table in
     let calls = called_inside g.S.EawStore.tells V c.args.self.now c.self.inside.pages c.self.view_is c.args.table name (λ told alive. called_below (V c.args.self.now.store).state.bytes c.args.table (c.requires.there told alive)) in
     let roots = rooted_as g.S.EawStore.tells (pages_of (V c.self.inside.pages.store) c.self.inside.pages) c.self.inside.roots.at c.args.table c.requires.table c.self.invariant.1.1 name calls c.of_table-root.result c.of_table-root.ensures in
-    erases V g.S.EawStore.calls g.S.EawStore.tells (λ root. g.K.KeyIndex.index.finding root c.args.key) c.args.table c.args.key c.args.tid c.of_table-root.result c.args.self.now c.self.inside.pages c.self.view_is roots
+    erases V g.S.EawStore.calls g.S.EawStore.tells (λ root. g.K.KeyIndex.access.finding root c.args.key) c.args.table c.args.key c.args.tid c.of_table-root.result c.args.self.now c.self.inside.pages c.self.view_is roots
     (V c.seek.new.pages.store).moment c.new-hearings.result.said c.seek.new.hearings.said c.new-hearings.ensures (let r : Result (Option Place) PageFault = Err c.in_err-sought.field-0.0 in r) c.in_err-sought.ensures.seeks (Err exit.0) (ap (λ (e : TableFault). let r : Result Bool TableFault = Err e in r) exit.2))
 
 pub returns-then-is_none-clause-erases : goal.returns-then-is_none-clause-erases
@@ -242,7 +242,7 @@ returns-then-is_none-clause-erases g c =
     let name = name_at (V c.args.self.now.store).state.bytes c.args.table in
     let calls = called_inside g.S.EawStore.tells V c.args.self.now c.self.inside.pages c.self.view_is c.args.table name (λ told alive. called_below (V c.args.self.now.store).state.bytes c.args.table (c.requires.there told alive)) in
     let roots = rooted_as g.S.EawStore.tells (pages_of (V c.self.inside.pages.store) c.self.inside.pages) c.self.inside.roots.at c.args.table c.requires.table c.self.invariant.1.1 name calls c.of_table-root.result c.of_table-root.ensures in
-    erases V g.S.EawStore.calls g.S.EawStore.tells (λ root. g.K.KeyIndex.index.finding root c.args.key) c.args.table c.args.key c.args.tid c.of_table-root.result c.args.self.now c.self.inside.pages c.self.view_is roots
+    erases V g.S.EawStore.calls g.S.EawStore.tells (λ root. g.K.KeyIndex.access.finding root c.args.key) c.args.table c.args.key c.args.tid c.of_table-root.result c.args.self.now c.self.inside.pages c.self.view_is roots
     (V c.seek.new.pages.store).moment c.new-hearings.result.said c.seek.new.hearings.said c.new-hearings.ensures (let r : Result (Option Place) PageFault = Ok (Some c.in-Some.place) in r) (rw c.in-Some.is at c.in_ok-sought.ensures.seeks) (Ok false)
     (erased_if c.in-Some.place.value (none_is c.in-Some.place.value c.if-is_none.ensures))
 
@@ -255,7 +255,7 @@ returns-clause-erases g c =
     let calls = called_inside g.S.EawStore.tells V c.args.self.now c.self.inside.pages c.self.view_is c.args.table name (λ told alive. called_below (V c.args.self.now.store).state.bytes c.args.table (c.requires.there told alive)) in
     let roots = rooted_as g.S.EawStore.tells (pages_of (V c.self.inside.pages.store) c.self.inside.pages) c.self.inside.roots.at c.args.table c.requires.table c.self.invariant.1.1 name calls c.of_table-root.result c.of_table-root.ensures in
     let written : (let r : Result Bool TableFault = Ok true in r) ≡ erased_as c.write_as.result = sym (ap erased_as (c.branch-write_as.ensures ∙ ap result_from_control_flow c.in_ok-write_as.is)) in
-    erases V g.S.EawStore.calls g.S.EawStore.tells (λ root. g.K.KeyIndex.index.finding root c.args.key) c.args.table c.args.key c.args.tid c.of_table-root.result c.args.self.now c.self.inside.pages c.self.view_is roots
+    erases V g.S.EawStore.calls g.S.EawStore.tells (λ root. g.K.KeyIndex.access.finding root c.args.key) c.args.table c.args.key c.args.tid c.of_table-root.result c.args.self.now c.self.inside.pages c.self.view_is roots
     (V c.seek.new.pages.store).moment c.new-hearings.result.said c.seek.new.hearings.said c.new-hearings.ensures (let r : Result (Option Place) PageFault = Ok (Some c.in-Some.place) in r) (rw c.in-Some.is at c.in_ok-sought.ensures.seeks) (Ok true)
     (is_erased g.S.EawStore.tells (g.S.EawStore.opens (V mid.store).shape) (write_as c.args.tid (64 * (slots_of (V mid.store).shape + c.in-Some.place.slot)) (slot_bytes (Absent c.args.table c.args.key))) (pages_of (V mid.store) mid) (pages_of (V new.store) new) c.write_as.result
     c.write_as.ensures.does c.in-Some.place.value c.if-is_none.ensures (Ok true) written)
@@ -270,7 +270,7 @@ returns-in_err-write_as-clause-erases g c =
     let roots = rooted_as g.S.EawStore.tells (pages_of (V c.self.inside.pages.store) c.self.inside.pages) c.self.inside.roots.at c.args.table c.requires.table c.self.invariant.1.1 name calls c.of_table-root.result c.of_table-root.ensures in
     let exit = err_from_is_err_and c.from_residual-in_err-write_as.result c.from_residual-in_err-write_as.ensures.1 in
     let written : c.from_residual-in_err-write_as.result ≡ erased_as c.write_as.result = exit.1 ∙ ap (λ (f : TableFault). let r : Result Bool TableFault = Err f in r) exit.2 ∙ sym (ap erased_as (c.branch-write_as.ensures ∙ ap result_from_control_flow c.in_err-write_as.is)) in
-    erases V g.S.EawStore.calls g.S.EawStore.tells (λ root. g.K.KeyIndex.index.finding root c.args.key) c.args.table c.args.key c.args.tid c.of_table-root.result c.args.self.now c.self.inside.pages c.self.view_is roots
+    erases V g.S.EawStore.calls g.S.EawStore.tells (λ root. g.K.KeyIndex.access.finding root c.args.key) c.args.table c.args.key c.args.tid c.of_table-root.result c.args.self.now c.self.inside.pages c.self.view_is roots
     (V c.seek.new.pages.store).moment c.new-hearings.result.said c.seek.new.hearings.said c.new-hearings.ensures (let r : Result (Option Place) PageFault = Ok (Some c.in-Some.place) in r) (rw c.in-Some.is at c.in_ok-sought.ensures.seeks) c.from_residual-in_err-write_as.result
     (is_erased g.S.EawStore.tells (g.S.EawStore.opens (V mid.store).shape) (write_as c.args.tid (64 * (slots_of (V mid.store).shape + c.in-Some.place.slot)) (slot_bytes (Absent c.args.table c.args.key))) (pages_of (V mid.store) mid) (pages_of (V new.store) new) c.write_as.result
     c.write_as.ensures.does c.in-Some.place.value c.if-is_none.ensures c.from_residual-in_err-write_as.result written)

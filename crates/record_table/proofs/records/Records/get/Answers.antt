@@ -86,10 +86,10 @@ returns-clause-gets g c =
     let roots = rooted_as g.S.EawStore.tells (pages_of (V c.self.inside.pages.store) c.self.inside.pages) c.self.inside.roots.at c.args.table c.requires.table c.self.invariant.1.1 name calls c.of_table-root.result c.of_table-root.ensures in
     let new = c.seek.new.pages in
     let there = subst (λ (p : Shown g.row.S.Denot). IsTrue g.S.EawStore.tells → IsAlive (V p.store) → IsTable (V p.store).state.bytes c.args.table c.of_table-root.result) c.self.view_is roots in
-    let heard_first = λ (r : Result (Option Place) PageFault) (seeks : Seeks (g.K.KeyIndex.index.finding c.of_table-root.result c.args.key) c.args.key c.args.tid (g.S.EawStore.calls inside.store) c.new-hearings.result.said c.seek.new.hearings.said (V inside.store) (V new.store).moment r).
-    subst (λ (hs : List Hearing). Seeks (g.K.KeyIndex.index.finding c.of_table-root.result c.args.key) c.args.key c.args.tid (g.S.EawStore.calls inside.store) hs c.seek.new.hearings.said (V inside.store) (V new.store).moment r) c.new-hearings.ensures seeks in (
+    let heard_first = λ (r : Result (Option Place) PageFault) (seeks : Seeks (g.K.KeyIndex.access.finding c.of_table-root.result c.args.key) c.args.key c.args.tid (g.S.EawStore.calls inside.store) c.new-hearings.result.said c.seek.new.hearings.said (V inside.store) (V new.store).moment r).
+    subst (λ (hs : List Hearing). Seeks (g.K.KeyIndex.access.finding c.of_table-root.result c.args.key) c.args.key c.args.tid (g.S.EawStore.calls inside.store) hs c.seek.new.hearings.said (V inside.store) (V new.store).moment r) c.new-hearings.ensures seeks in (
       root,
-      subst (λ (p : Shown g.row.S.Denot). Gets (g.K.KeyIndex.index.finding c.of_table-root.result c.args.key) c.args.key c.args.tid (g.S.EawStore.calls p.store) (V p.store) (V new.store) (Ok c.value_at.result)) c.self.view_is
+      subst (λ (p : Shown g.row.S.Denot). Gets (g.K.KeyIndex.access.finding c.of_table-root.result c.args.key) c.args.key c.args.tid (g.S.EawStore.calls p.store) (V p.store) (V new.store) (Ok c.value_at.result)) c.self.view_is
           (record { sought = Ok c.in_ok-found.found; hearings = c.seek.new.hearings.said; seeks = heard_first (Ok c.in_ok-found.found) c.in_ok-found.ensures.seeks; told = ap Ok c.value_at.ensures }),
       there,
     )
@@ -104,12 +104,12 @@ returns-in_err-found-clause-gets g c =
     let roots = rooted_as g.S.EawStore.tells (pages_of (V c.self.inside.pages.store) c.self.inside.pages) c.self.inside.roots.at c.args.table c.requires.table c.self.invariant.1.1 name calls c.of_table-root.result c.of_table-root.ensures in
     let new = c.seek.new.pages in
     let there = subst (λ (p : Shown g.row.S.Denot). IsTrue g.S.EawStore.tells → IsAlive (V p.store) → IsTable (V p.store).state.bytes c.args.table c.of_table-root.result) c.self.view_is roots in
-    let heard_first = λ (r : Result (Option Place) PageFault) (seeks : Seeks (g.K.KeyIndex.index.finding c.of_table-root.result c.args.key) c.args.key c.args.tid (g.S.EawStore.calls inside.store) c.new-hearings.result.said c.seek.new.hearings.said (V inside.store) (V new.store).moment r).
-    subst (λ (hs : List Hearing). Seeks (g.K.KeyIndex.index.finding c.of_table-root.result c.args.key) c.args.key c.args.tid (g.S.EawStore.calls inside.store) hs c.seek.new.hearings.said (V inside.store) (V new.store).moment r) c.new-hearings.ensures seeks in
+    let heard_first = λ (r : Result (Option Place) PageFault) (seeks : Seeks (g.K.KeyIndex.access.finding c.of_table-root.result c.args.key) c.args.key c.args.tid (g.S.EawStore.calls inside.store) c.new-hearings.result.said c.seek.new.hearings.said (V inside.store) (V new.store).moment r).
+    subst (λ (hs : List Hearing). Seeks (g.K.KeyIndex.access.finding c.of_table-root.result c.args.key) c.args.key c.args.tid (g.S.EawStore.calls inside.store) hs c.seek.new.hearings.said (V inside.store) (V new.store).moment r) c.new-hearings.ensures seeks in
     let exit = err_from_is_err_and c.from_residual.result c.from_residual.ensures.1 in
     rw (exit.1, exit.2) (
       root,
-      subst (λ (p : Shown g.row.S.Denot). Gets (g.K.KeyIndex.index.finding c.of_table-root.result c.args.key) c.args.key c.args.tid (g.S.EawStore.calls p.store) (V p.store) (V new.store) (Err (as_table c.in_err-found.field-0.0))) c.self.view_is
+      subst (λ (p : Shown g.row.S.Denot). Gets (g.K.KeyIndex.access.finding c.of_table-root.result c.args.key) c.args.key c.args.tid (g.S.EawStore.calls p.store) (V p.store) (V new.store) (Err (as_table c.in_err-found.field-0.0))) c.self.view_is
           (record { sought = Err c.in_err-found.field-0.0; hearings = c.seek.new.hearings.said; seeks = heard_first (Err c.in_err-found.field-0.0) c.in_err-found.ensures.seeks; told = refl }),
       there,
     )

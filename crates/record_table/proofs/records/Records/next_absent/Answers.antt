@@ -49,8 +49,8 @@ returns-clause-hears g c =
       rw c.told.ensures (subst (λ (p : Shown g.row.S.Denot). HearsAbsent (V p.store).shape c.next_absent.new.hearings.said (told_as c.next_absent.result)) c.self.view_is c.next_absent.ensures.hears),
       c.of_table-root.result,
       rw c.told.ensures (
-          subst (λ (p : Shown g.row.S.Denot). Walked g.K.KeyIndex.index c.of_table-root.result (g.S.EawStore.calls p.store) (data_cost (g.S.EawStore.calls p.store) (V p.store).shape) (V p.store).shape (answers.is_failed (told_as c.next_absent.result)) (V p.store).moment (V c.next_absent.new.pages.store).moment c.next_absent.new.hearings.said) c.self.view_is
-          (subst (λ (failed : Bool). Walked g.K.KeyIndex.index c.of_table-root.result (g.S.EawStore.calls c.self.inside.pages.store) (data_cost (g.S.EawStore.calls c.self.inside.pages.store) (V c.self.inside.pages.store).shape) (V c.self.inside.pages.store).shape failed (V c.self.inside.pages.store).moment (V c.next_absent.new.pages.store).moment c.next_absent.new.hearings.said) (sym (told_failed c.next_absent.result)) c.next_absent.ensures.walks)
+          subst (λ (p : Shown g.row.S.Denot). Walked g.K.KeyIndex.access c.of_table-root.result (g.S.EawStore.calls p.store) (data_cost (g.S.EawStore.calls p.store) (V p.store).shape) (V p.store).shape (answers.is_failed (told_as c.next_absent.result)) (V p.store).moment (V c.next_absent.new.pages.store).moment c.next_absent.new.hearings.said) c.self.view_is
+          (subst (λ (failed : Bool). Walked g.K.KeyIndex.access c.of_table-root.result (g.S.EawStore.calls c.self.inside.pages.store) (data_cost (g.S.EawStore.calls c.self.inside.pages.store) (V c.self.inside.pages.store).shape) (V c.self.inside.pages.store).shape failed (V c.self.inside.pages.store).moment (V c.next_absent.new.pages.store).moment c.next_absent.new.hearings.said) (sym (told_failed c.next_absent.result)) c.next_absent.ensures.walks)
           ),
     )
 

@@ -38,6 +38,6 @@ returns-clause-works g c =
     let roots = rooted_as T (pages_of (V c.self.inside.pages.store) c.self.inside.pages) c.self.inside.roots.at c.args.table c.requires.table c.self.invariant.1.1 name calls root c.of_table-root.ensures in
     rw c.told.ensures (
       root,
-      subst (λ (p : Shown g.row.S.Denot). RemovesFrom T V g.S.EawStore.calls g.K.KeyIndex.index c.args.tid root c.args.key (V p.store) (V c.remove.new.pages.store) (told_as c.remove.result)) c.self.view_is c.remove.ensures.works,
+      subst (λ (p : Shown g.row.S.Denot). RemovesFrom T V g.S.EawStore.calls g.K.KeyIndex.index g.K.KeyIndex.access c.args.tid root c.args.key (V p.store) (V c.remove.new.pages.store) (told_as c.remove.result)) c.self.view_is c.remove.ensures.works,
       subst (λ (p : Shown g.row.S.Denot). IsTrue T → IsAlive (V p.store) → IsTable (V p.store).state.bytes c.args.table root) c.self.view_is roots,
     )

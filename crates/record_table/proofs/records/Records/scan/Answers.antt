@@ -103,7 +103,7 @@ returns-clause-hears g c =
       subst (λ (p : Shown g.row.S.Denot). HearsRows (V p.store).shape c.gather.new.hearings.said (λ (rows : List Row). rows) (Ok c.gather.new.rows)) c.self.view_is
           (rows_given (V c.self.inside.pages.store).shape c.gather.new.hearings.said c.gather.new.rows (Ok tt) c.in_ok-gather.ensures.hears),
       c.of_table-root.result,
-      subst (λ (p : Shown g.row.S.Denot). Walked g.K.KeyIndex.index c.of_table-root.result (g.S.EawStore.calls p.store) (row_cost (g.S.EawStore.calls p.store) c.args.tid (V p.store)) (V p.store).shape false (V p.store).moment (V c.gather.new.pages.store).moment c.gather.new.hearings.said) c.self.view_is
+      subst (λ (p : Shown g.row.S.Denot). Walked g.K.KeyIndex.access c.of_table-root.result (g.S.EawStore.calls p.store) (row_cost (g.S.EawStore.calls p.store) c.args.tid (V p.store)) (V p.store).shape false (V p.store).moment (V c.gather.new.pages.store).moment c.gather.new.hearings.said) c.self.view_is
           c.in_ok-gather.ensures.walks,
     )
 
@@ -117,8 +117,8 @@ returns-in_err-gather-clause-hears g c =
       subst (λ (p : Shown g.row.S.Denot). HearsRows (V p.store).shape c.gather.new.hearings.said (λ (rows : List Row). rows) (scanned_as c.gather.new.rows c.gather.result)) c.self.view_is
           (rows_given (V c.self.inside.pages.store).shape c.gather.new.hearings.said c.gather.new.rows c.gather.result c.gather.ensures.hears),
       c.of_table-root.result,
-      subst (λ (p : Shown g.row.S.Denot). Walked g.K.KeyIndex.index c.of_table-root.result (g.S.EawStore.calls p.store) (row_cost (g.S.EawStore.calls p.store) c.args.tid (V p.store)) (V p.store).shape (answers.is_failed (scanned_as c.gather.new.rows c.gather.result)) (V p.store).moment (V c.gather.new.pages.store).moment c.gather.new.hearings.said) c.self.view_is
-          (subst (λ (failed : Bool). Walked g.K.KeyIndex.index c.of_table-root.result (g.S.EawStore.calls c.self.inside.pages.store) (row_cost (g.S.EawStore.calls c.self.inside.pages.store) c.args.tid (V c.self.inside.pages.store)) (V c.self.inside.pages.store).shape failed (V c.self.inside.pages.store).moment (V c.gather.new.pages.store).moment c.gather.new.hearings.said) (sym (scanned_failed c.gather.new.rows c.gather.result)) c.gather.ensures.walks),
+      subst (λ (p : Shown g.row.S.Denot). Walked g.K.KeyIndex.access c.of_table-root.result (g.S.EawStore.calls p.store) (row_cost (g.S.EawStore.calls p.store) c.args.tid (V p.store)) (V p.store).shape (answers.is_failed (scanned_as c.gather.new.rows c.gather.result)) (V p.store).moment (V c.gather.new.pages.store).moment c.gather.new.hearings.said) c.self.view_is
+          (subst (λ (failed : Bool). Walked g.K.KeyIndex.access c.of_table-root.result (g.S.EawStore.calls c.self.inside.pages.store) (row_cost (g.S.EawStore.calls c.self.inside.pages.store) c.args.tid (V c.self.inside.pages.store)) (V c.self.inside.pages.store).shape failed (V c.self.inside.pages.store).moment (V c.gather.new.pages.store).moment c.gather.new.hearings.said) (sym (scanned_failed c.gather.new.rows c.gather.result)) c.gather.ensures.walks),
     )
 
 pub returns-then-is_dead-clause-hears : goal.returns-then-is_dead-clause-hears
