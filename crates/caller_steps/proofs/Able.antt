@@ -6,8 +6,14 @@ use Rattle.history.specs.Table.{Granted}
 use Rattle.history.specs.declared.call.Call.{Call}
 use Rattle.history.specs.declared.call.Call.TheVariants.{Begin, Control}
 use Rattle.history.specs.declared.call.Control.TheVariants.{Settle, Purge}
+use Rattle.history.specs.declared.call.TableCall.{TableCall}
+use Rattle.history.specs.declared.call.TableCall.TheVariants.{Save, Back}
+use Rattle.history.specs.declared.call.Reply.{Reply}
+use Rattle.history.specs.declared.call.Reply.TheVariants.{NoTable, NoSave, SavesFull}
 use Rattle.caller_steps.specs.State.{State, unoffered}
 use Rattle.caller_steps.specs.Offers.{is_unoffered, takes_calls, is_engaged, may_do}
+use Rattle.caller_steps.specs.Step.{may_ask}
+use Rattle.caller_steps.specs.Fate.{is_refusal, is_media}
 
 module _ (s : State) (caller : ℕ) where
   -- within a transaction that was not offered,
@@ -41,3 +47,24 @@ module _ (s : State) (caller : ℕ) where
   able_takes (Control Settle) able = inr (inr (inl refl))
   able_takes (Control Purge) able = inr (inr (inr refl))
   able_takes _ able = inl able
+
+-- the refusal of a call that its transaction does not let be, or whose table is not there
+abbrev pub refusal_of : TableCall → Reply
+refusal_of Save = SavesFull
+refusal_of (Back n) = NoSave n
+refusal_of call = NoTable
+
+pub ask_refusal : (s : State) (caller : ℕ) (call : TableCall) (reply : Reply) → may_ask s caller call (Some reply) → reply ≡ refusal_of call
+ask_refusal s caller Save reply bad = bad.1
+ask_refusal s caller (Back n) reply bad = bad.1
+ask_refusal s caller call reply bad = bad.1
+
+pub ask_passes : (s : State) (caller : ℕ) (call : TableCall) (reply : Reply) → may_ask s caller call None → may_ask s caller call (Some reply) → ⊥
+ask_passes s caller Save reply pass bad = bad.0 pass
+ask_passes s caller (Back n) reply pass bad = bad.0 pass
+ask_passes s caller call reply pass bad = bad.0 pass
+
+pub ask_plain : (call : TableCall) → (is_refusal (refusal_of call) ≡ true) × (is_media (refusal_of call) ≡ false)
+ask_plain Save = (refl, refl)
+ask_plain (Back n) = (refl, refl)
+ask_plain call = (refl, refl)

@@ -12,7 +12,7 @@ use Rattle.history.specs.declared.transaction.Done.{Done}
 use Rattle.caller_steps.specs.State.{State}
 use Rattle.caller_steps.specs.Prefix.{HasPrefix, HasPrefixOf, Grows}
 use Rattle.caller_steps.specs.Sound.{IsSound}
-use Rattle.caller_steps.specs.Step.{StepIf}
+use Rattle.caller_steps.specs.Step.{StepOf}
 use Rattle.caller_steps.specs.Fate.{is_committed, committed_by, history_after}
 use Rattle.caller_steps.specs.Core.{CoreView, IsSafe, Steps, Continues}
 use Rattle.caller_steps.proofs.Sound.{step_sound}
@@ -107,7 +107,7 @@ module _ (tells : Bool) (caller : ℕ) (call : Call) (old new : CoreView) (reply
   step_grows = subst (λ h. Grows old.state.history h) (sym steps.moves.history) (after_grows old.limits.callers old.state caller call reply)
 
   -- If the medium has not failed before, nothing was in doubt; else nothing changes.
-  doubt_if : (dead : Bool) → old.state.is_dead ≡ dead → StepIf old.limits dead old.state caller call reply new.state
+  doubt_if : (dead : Bool) → old.state.is_dead ≡ dead → StepOf old.limits dead (old.state.offers caller) (old.state.live caller) old.state caller call reply new.state
       → Grows (old.state.history ++ old.state.doubt) (new.state.history ++ new.state.doubt)
   doubt_if true dead step = grows_same (old.state.history ++ old.state.doubt) (new.state.history ++ new.state.doubt) (ap (λ (s : State). s.history ++ s.doubt) step.1)
   doubt_if false alive step = subst (λ d. Grows (old.state.history ++ d) (new.state.history ++ new.state.doubt)) (sym (sound.certain alive))

@@ -1,5 +1,5 @@
 -- Each call has one reply, unless the medium fails or memory runs out.
-use Rattle.std.proofs.Common.{◌≡◌, ℕ, inl, inr, Bool, true, false, Option, Some, None, sym, ap, ◌∙◌, arith}
+use Rattle.std.proofs.Common.{◌≡◌, ◌⊎◌, ℕ, inl, inr, Bool, true, false, List, [], ◌∷◌, Option, Some, None, sym, ap, ◌∙◌, arith}
 use Rattle.std.proofs.lemmas.Bool.{true≢false, both_ways, cases_order}
 use Rattle.history.specs.Table.{Granted, Work, has_save, Answers}
 use Rattle.history.specs.declared.call.Call.{Call}
@@ -12,10 +12,12 @@ use Rattle.history.specs.declared.call.Reply.TheVariants.{Busy}
 use Rattle.history.specs.Locks.{has_table}
 use Rattle.caller_steps.specs.State as state
 use Rattle.caller_steps.specs.State.{State, unoffered, offered, unsettled, view_of}
+use Rattle.caller_steps.specs.Offers.{offerers}
 use Rattle.caller_steps.specs.Locked.{IsFree, IsBusyWith}
-use Rattle.caller_steps.specs.Room.{Limits, Fits, Lacks}
-use Rattle.caller_steps.specs.Step.{Asks, AsksTable, AsksWithin, StepAt, StepBy, StepIf, Step}
+use Rattle.caller_steps.specs.Room.{Limits, room_for}
+use Rattle.caller_steps.specs.Step.{Asks, Commits, Doubts, StepOf, Step}
 use Rattle.caller_steps.specs.Fate.{is_by_chance}
+use Rattle.caller_steps.proofs.Able.{ask_refusal, ask_passes}
 use Rattle.caller_steps.proofs.Full.{fits_none, lacks_one}
 
 -- the one-thread table has one reply to each call
@@ -40,8 +42,8 @@ busy_one old caller call one other a b = elim (cases_order one other) [
 -- the locks, the table or the full array give the reply
 data Ours (limits : Limits) (old : State) (caller : ℕ) (call : TableCall) (reply : Reply) : Type 0 where
   held : (holder : ℕ) → IsBusyWith old caller call holder → reply ≡ Busy holder → Ours limits old caller call reply
-  free : IsFree old caller call → Answers (view_of old caller) call reply → Fits limits old caller call → Ours limits old caller call reply
-  refused : IsFree old caller call → Lacks limits old caller call reply → Ours limits old caller call reply
+  free : IsFree old caller call → Answers (view_of old caller) call reply → room_for limits old caller call None → Ours limits old caller call reply
+  refused : IsFree old caller call → room_for limits old caller call (Some reply) → Ours limits old caller call reply
 
 module _ (limits : Limits) (old : State) (caller : ℕ) where
   not_of_array : (reply answer : Reply) (P : Type 0) → is_by_chance reply ≡ false → is_by_chance answer ≡ true → reply ≡ answer → P
@@ -69,57 +71,35 @@ module _ (limits : Limits) (old : State) (caller : ℕ) where
       → Asks limits calls old caller call one new → Asks limits calls old caller call other next → one ≡ other
   asks_one calls call one other new next ok ok' a b = ours_one call one other (ours calls call one new ok a) (ours calls call other next ok' b)
 
-  tabled_one : (calls : Granted) (call : TableCall) (one other : Reply) (new next : State) → is_by_chance one ≡ false → is_by_chance other ≡ false
-      → AsksTable limits calls old caller call one new → AsksTable limits calls old caller call other next → one ≡ other
-  tabled_one calls call one other new next ok ok' (inl (none, a)) (inl (none', b)) = a.0 ∙ sym b.0
-  tabled_one calls call one other new next ok ok' (inl (none, a)) (inr (some, b)) = absurd (both_ways (has_table old.names call) none some)
-  tabled_one calls call one other new next ok ok' (inr (some, a)) (inl (none, b)) = absurd (both_ways (has_table old.names call) none some)
-  tabled_one calls call one other new next ok ok' (inr (some, a)) (inr (some', b)) = asks_one calls call one other new next ok ok' a b
+  commits_one : (group : List ℕ) (one other : Reply) (new next : State) → is_by_chance one ≡ false → is_by_chance other ≡ false
+      → Commits group old caller one new ⊎ Doubts group old one new → Commits group old caller other next ⊎ Doubts group old other next → one ≡ other
+  commits_one group one other new next ok ok' (inl a) (inl b) = a.0 ∙ sym b.0
+  commits_one group one other new next ok ok' (inr a) b = absurd (true≢false (sym (ap is_by_chance a.1) ∙ ok))
+  commits_one group one other new next ok ok' (inl a) (inr b) = absurd (true≢false (sym (ap is_by_chance b.1) ∙ ok'))
 
-  within_one : (calls : Granted) (call : TableCall) (one other : Reply) (new next : State) → is_by_chance one ≡ false → is_by_chance other ≡ false
-      → AsksWithin limits calls old caller call one new → AsksWithin limits calls old caller call other next → one ≡ other
-  within_one calls Save one other new next ok ok' (inl (full, a)) (inl (full', b)) = a.0 ∙ sym b.0
-  within_one calls Save one other new next ok ok' (inl (full, a)) (inr (room, b)) = absurd (omega (arith, full, room))
-  within_one calls Save one other new next ok ok' (inr (room, a)) (inl (full, b)) = absurd (omega (arith, full, room))
-  within_one calls Save one other new next ok ok' (inr (room, a)) (inr (room', b)) = asks_one calls Save one other new next ok ok' a b
-  within_one calls (Back n) one other new next ok ok' (inl (none, a)) (inl (none', b)) = a.0 ∙ sym b.0
-  within_one calls (Back n) one other new next ok ok' (inl (none, a)) (inr (some, b)) = absurd (both_ways (has_save (view_of old caller).saves n) none some)
-  within_one calls (Back n) one other new next ok ok' (inr (some, a)) (inl (none, b)) = absurd (both_ways (has_save (view_of old caller).saves n) none some)
-  within_one calls (Back n) one other new next ok ok' (inr (some, a)) (inr (some', b)) = asks_one calls (Back n) one other new next ok ok' a b
-  within_one calls call one other new next ok ok' a b = tabled_one calls call one other new next ok ok' a b
-
-  one_at : (live : Option Granted) (call : Call) (one other : Reply) (new next : State) → is_by_chance one ≡ false → is_by_chance other ≡ false
-      → StepAt limits live old caller call one new → StepAt limits live old caller call other next → one ≡ other
-  one_at None Begin one other new next ok ok' a b = a.0 ∙ sym b.0
-  one_at None (Control Purge) one other new next ok ok' (inl a) b = absurd (true≢false (sym (ap is_by_chance a.1) ∙ ok))
-  one_at None (Control Purge) one other new next ok ok' (inr a) b = absurd (true≢false (sym (ap is_by_chance a.0) ∙ ok))
-  one_at None _ one other new next ok ok' a b = a.0 ∙ sym b.0
-  one_at (Some calls) (Control Commit) one other new next ok ok' (inr (inl a)) (inr (inl b)) = a.0 ∙ sym b.0
-  one_at (Some calls) (Control Commit) one other new next ok ok' (inl a) b = absurd (true≢false (sym (ap is_by_chance a.0) ∙ ok))
-  one_at (Some calls) (Control Commit) one other new next ok ok' (inr (inr a)) b = absurd (true≢false (sym (ap is_by_chance a.1) ∙ ok))
-  one_at (Some calls) (Control Commit) one other new next ok ok' (inr (inl a)) (inl b) = absurd (true≢false (sym (ap is_by_chance b.0) ∙ ok'))
-  one_at (Some calls) (Control Commit) one other new next ok ok' (inr (inl a)) (inr (inr b)) = absurd (true≢false (sym (ap is_by_chance b.1) ∙ ok'))
-  one_at (Some calls) (Table call) one other new next ok ok' a b = within_one calls call one other new next ok ok' a b
-  one_at (Some calls) _ one other new next ok ok' a b = a.0 ∙ sym b.0
-
-  one_by : (offer : state.Offer) (call : Call) (one other : Reply) (new next : State) → is_by_chance one ≡ false → is_by_chance other ≡ false
-      → StepBy limits offer old caller call one new → StepBy limits offer old caller call other next → one ≡ other
-  one_by unoffered call one other new next ok ok' a b = one_at (old.live caller) call one other new next ok ok' a b
-  one_by offered (Control Settle) one other new next ok ok' (inl a) b = absurd (true≢false (sym (ap is_by_chance a.0) ∙ ok))
-  one_by offered (Control Settle) one other new next ok ok' (inr (inside, inr a)) b = absurd (true≢false (sym (ap is_by_chance a.1) ∙ ok))
-  one_by offered (Control Settle) one other new next ok ok' (inr (inside, inl a)) (inl b) = absurd (true≢false (sym (ap is_by_chance b.0) ∙ ok'))
-  one_by offered (Control Settle) one other new next ok ok' (inr (inside, inl a)) (inr (inside', inr b)) = absurd (true≢false (sym (ap is_by_chance b.1) ∙ ok'))
-  one_by offered (Control Settle) one other new next ok ok' (inr (inside, inl a)) (inr (inside', inl b)) = a.0 ∙ sym b.0
-  one_by offered _ one other new next ok ok' a b = a.0 ∙ sym b.0
-  one_by (unsettled n) (Control Settle) one other new next ok ok' a b = a.0 ∙ sym b.0
-  one_by (unsettled n) _ one other new next ok ok' a b = a.0 ∙ sym b.0
-
-  one_if : (dead : Bool) (call : Call) (one other : Reply) (new next : State) → is_by_chance one ≡ false → is_by_chance other ≡ false
-      → StepIf limits dead old caller call one new → StepIf limits dead old caller call other next → one ≡ other
-  one_if true call one other new next ok ok' a b = a.0 ∙ sym b.0
-  one_if false call one other new next ok ok' a b = one_by (old.offers caller) call one other new next ok ok' a b
+  one_of : (dead : Bool) (offer : state.Offer) (live : Option Granted) (call : Call) (one other : Reply) (new next : State) → is_by_chance one ≡ false → is_by_chance other ≡ false
+      → StepOf limits dead offer live old caller call one new → StepOf limits dead offer live old caller call other next → one ≡ other
+  one_of true offer live call one other new next ok ok' a b = a.0 ∙ sym b.0
+  one_of false unoffered None Begin one other new next ok ok' a b = a.0 ∙ sym b.0
+  one_of false unoffered None (Control Purge) one other new next ok ok' (inl a) b = absurd (true≢false (sym (ap is_by_chance a.1) ∙ ok))
+  one_of false unoffered None (Control Purge) one other new next ok ok' (inr a) b = absurd (true≢false (sym (ap is_by_chance a.0) ∙ ok))
+  one_of false unoffered None _ one other new next ok ok' a b = a.0 ∙ sym b.0
+  one_of false unoffered (Some calls) (Control Commit) one other new next ok ok' (inl a) b = absurd (true≢false (sym (ap is_by_chance a.0) ∙ ok))
+  one_of false unoffered (Some calls) (Control Commit) one other new next ok ok' (inr a) (inl b) = absurd (true≢false (sym (ap is_by_chance b.0) ∙ ok'))
+  one_of false unoffered (Some calls) (Control Commit) one other new next ok ok' (inr a) (inr b) = commits_one (caller ∷ []) one other new next ok ok' a b
+  one_of false unoffered (Some calls) (Table call) one other new next ok ok' (inl a) (inl b) = ask_refusal old caller call one a.0 ∙ sym (ask_refusal old caller call other b.0)
+  one_of false unoffered (Some calls) (Table call) one other new next ok ok' (inl a) (inr b) = absurd (ask_passes old caller call one b.0 a.0)
+  one_of false unoffered (Some calls) (Table call) one other new next ok ok' (inr a) (inl b) = absurd (ask_passes old caller call other a.0 b.0)
+  one_of false unoffered (Some calls) (Table call) one other new next ok ok' (inr a) (inr b) = asks_one calls call one other new next ok ok' a.1 b.1
+  one_of false unoffered (Some calls) _ one other new next ok ok' a b = a.0 ∙ sym b.0
+  one_of false offered live (Control Settle) one other new next ok ok' (inl a) b = absurd (true≢false (sym (ap is_by_chance a.0) ∙ ok))
+  one_of false offered live (Control Settle) one other new next ok ok' (inr a) (inl b) = absurd (true≢false (sym (ap is_by_chance b.0) ∙ ok'))
+  one_of false offered live (Control Settle) one other new next ok ok' (inr a) (inr b) = commits_one (offerers limits.callers old) one other new next ok ok' a.1 b.1
+  one_of false offered live _ one other new next ok ok' a b = a.0 ∙ sym b.0
+  one_of false (unsettled n) live (Control Settle) one other new next ok ok' a b = a.0 ∙ sym b.0
+  one_of false (unsettled n) live _ one other new next ok ok' a b = a.0 ∙ sym b.0
 
   -- Two replies to a call in one state are equal, except for `Media`, `NoMemory` and the count of a purge.
   pub one_reply : (call : Call) (one other : Reply) (new next : State) → is_by_chance one ≡ false → is_by_chance other ≡ false
       → Step limits old caller call one new → Step limits old caller call other next → one ≡ other
-  one_reply call one other new next ok ok' a b = one_if old.is_dead call one other new next ok ok' a.acts b.acts
+  one_reply call one other new next ok ok' a b = one_of old.is_dead (old.offers caller) (old.live caller) call one other new next ok ok' a.acts b.acts

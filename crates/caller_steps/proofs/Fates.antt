@@ -21,10 +21,12 @@ use Rattle.caller_steps.specs.State as state
 use Rattle.caller_steps.specs.State.{State, Index, unoffered, offered, unsettled, offers_with, calls_of, commits_of, view_of, with_live, with_offer, done_by}
 use Rattle.caller_steps.specs.Offers.{is_offered, is_unoffered, may_do, offerers, group_in, group_end, group_done, number_among, committed_group, doubted_group}
 use Rattle.caller_steps.specs.Locked.{IsFree}
-use Rattle.caller_steps.specs.Room.{Limits, Lacks, LacksAt}
+use Rattle.caller_steps.specs.Room.{Limits}
+use Rattle.caller_steps.proofs.Lacking.{room_lacks, lacking_of_array}
+use Rattle.caller_steps.proofs.Alone.{commits_alone, doubts_alone}
 use Rattle.caller_steps.proofs.Offering.{offers_here, offers_apart, is_in, more_theirs, group_without, group_with, group_mine, offerers_once, offerer_has, offerer_is, group_history, group_names, group_base, group_dead, group_apart, group_ends, without_history, without_names, without_base, without_apart, without_ends}
-use Rattle.caller_steps.proofs.Able.{takes_within, free_outside}
-use Rattle.caller_steps.specs.Step.{Says, Asks, AsksTable, AsksWithin, StepAt, StepBy, StepIf, Acts, Step, Runs}
+use Rattle.caller_steps.proofs.Able.{takes_within, free_outside, refusal_of, ask_refusal, ask_plain}
+use Rattle.caller_steps.specs.Step.{Says, Asks, StepOf, Step, Runs}
 use Rattle.caller_steps.specs.Own.{is_commit}
 use Rattle.caller_steps.specs.Fate.{is_refusal, is_media, is_committed, is_of_array, committed_by, history_after, live_with, offer_with, Stays, EndsWith, Moves}
 
@@ -52,30 +54,9 @@ pub data Fate (callers : ℕ) (old : State) (caller : ℕ) (call : Call) (reply 
   -- keys without records were taken out of the index
   purged : (n : ℕ) → old.offers caller ≡ unoffered → old.live caller ≡ None → call ≡ Control Purge → reply ≡ Purged n → (index : Index) → new ≡ record old { index = index } → Fate callers old caller call reply new
 
--- a refusal for lack of room is a reply of the array
-pub lacks_at_of_array : (limits : Limits) (old : State) (caller : ℕ) (key : Key) (slot : Option ℕ) (reply : Reply) → LacksAt limits old caller key slot reply → is_of_array reply ≡ true
-lacks_at_of_array limits old caller key (Some slot) (LogFull g h n) lacks = refl
-lacks_at_of_array limits old caller key None (SlotsFull n) lacks = refl
-lacks_at_of_array limits old caller key None (PagesFull n) lacks = refl
-lacks_at_of_array limits old caller key None (LogFull g h n) lacks = refl
-lacks_at_of_array limits old caller key _ _ lacks = absurd lacks
-
-pub lacks_of_array : (limits : Limits) (old : State) (caller : ℕ) (call : TableCall) (reply : Reply) → Lacks limits old caller call reply → is_of_array reply ≡ true
-lacks_of_array limits old caller (Put name key value) reply lacks = lacks_at_of_array limits old caller (of_table name key) (old.index.slot_of (of_table name key)) reply lacks
-lacks_of_array limits old caller (Del name key) reply lacks = lacks_at_of_array limits old caller (of_table name key) (Some lacks.1) reply lacks.3
-lacks_of_array limits old caller _ reply lacks = absurd lacks
-
-lacks_at_refusal : (limits : Limits) (old : State) (caller : ℕ) (key : Key) (slot : Option ℕ) (reply : Reply) → LacksAt limits old caller key slot reply → (is_refusal reply ≡ true) × (is_media reply ≡ false)
-lacks_at_refusal limits old caller key (Some slot) (LogFull g h n) lacks = (refl, refl)
-lacks_at_refusal limits old caller key None (SlotsFull n) lacks = (refl, refl)
-lacks_at_refusal limits old caller key None (PagesFull n) lacks = (refl, refl)
-lacks_at_refusal limits old caller key None (LogFull g h n) lacks = (refl, refl)
-lacks_at_refusal limits old caller key _ _ lacks = absurd lacks
-
-lacks_refusal : (limits : Limits) (old : State) (caller : ℕ) (call : TableCall) (reply : Reply) → Lacks limits old caller call reply → (is_refusal reply ≡ true) × (is_media reply ≡ false)
-lacks_refusal limits old caller (Put name key value) reply lacks = lacks_at_refusal limits old caller (of_table name key) (old.index.slot_of (of_table name key)) reply lacks
-lacks_refusal limits old caller (Del name key) reply lacks = lacks_at_refusal limits old caller (of_table name key) (Some lacks.1) reply lacks.3
-lacks_refusal limits old caller _ reply lacks = absurd lacks
+-- what a step does
+abbrev pub Acts : Limits → State → ℕ → Call → Reply → State → Type 0
+Acts limits old caller call reply new = StepOf limits old.is_dead (old.offers caller) (old.live caller) old caller call reply new
 
 module _ (limits : Limits) (old : State) (caller : ℕ) (new : State) where
   says : (call : Call) (reply answer : Reply) → is_refusal answer ≡ true → is_media answer ≡ false → Says answer old reply new → Fate limits.callers old caller call reply new
@@ -85,55 +66,44 @@ module _ (limits : Limits) (old : State) (caller : ℕ) (new : State) where
   asks calls asked reply un is (inl short) = says (Table asked) reply NoMemory refl refl short
   asks calls asked reply un is (inr (inl held)) = says (Table asked) reply (Busy held.0) refl refl held.2
   asks calls asked reply un is (inr (inr (free, inl (answers, fits, index, indexes, e)))) = granted asked calls un refl is free answers index e
-  asks calls asked reply un is (inr (inr (free, inr (inl (lacks, index, indexes, e))))) = let both = lacks_refusal limits old caller asked reply lacks in refused both.0 both.1 index e
+  asks calls asked reply un is (inr (inr (free, inr (inl (lacks, index, indexes, e))))) =
+      let why = room_lacks limits old caller asked reply lacks in
+      let both = lacking_of_array limits old.index why.0 reply why.1 in
+      refused both.1 both.2 index e
   asks calls asked reply un is (inr (inr (free, inr (inr (uses, (re, index, e)))))) = failed refl re index e
 
-  tabled : (calls : Granted) (asked : TableCall) (reply : Reply) → old.offers caller ≡ unoffered → old.live caller ≡ Some calls → AsksTable limits calls old caller asked reply new → Fate limits.callers old caller (Table asked) reply new
-  tabled calls asked reply un is (inl (none, s)) = says (Table asked) reply NoTable refl refl s
-  tabled calls asked reply un is (inr (some, a)) = asks calls asked reply un is a
-
-  within : (calls : Granted) (asked : TableCall) (reply : Reply) → old.offers caller ≡ unoffered → old.live caller ≡ Some calls → AsksWithin limits calls old caller asked reply new → Fate limits.callers old caller (Table asked) reply new
-  within calls Save reply un is (inl (full, s)) = says (Table Save) reply SavesFull refl refl s
-  within calls Save reply un is (inr (room, a)) = asks calls Save reply un is a
-  within calls (Back n) reply un is (inl (none, s)) = says (Table (Back n)) reply (NoSave n) refl refl s
-  within calls (Back n) reply un is (inr (some, a)) = asks calls (Back n) reply un is a
-  within calls asked reply un is a = tabled calls asked reply un is a
-
-  fate_at : (live : Option Granted) (call : Call) (reply : Reply) → old.offers caller ≡ unoffered → old.live caller ≡ live → StepAt limits live old caller call reply new → Fate limits.callers old caller call reply new
-  fate_at None Begin reply un is (re, e) = began un is refl re e
-  fate_at None (Control Purge) reply un is (inl (n, re, purges)) = purged n un is refl re purges.index purges.same
-  fate_at None (Control Purge) reply un is (inr (re, index, e)) = failed refl re index e
-  fate_at None call reply un is s = says call reply NoTransaction refl refl s
-  fate_at (Some calls) Begin reply un is s = says Begin reply Already refl refl s
-  fate_at (Some calls) (Table asked) reply un is a = within calls asked reply un is a
-  fate_at (Some calls) (Control Commit) reply un is (inl short) = says (Control Commit) reply NoMemory refl refl short
-  fate_at (Some calls) (Control Commit) reply un is (inr (inl (re, index, settles, e))) = committed calls un refl re is index e
-  fate_at (Some calls) (Control Commit) reply un is (inr (inr (wrote, re, index, e))) = doubted calls un refl re is index e
-  fate_at (Some calls) (Control Abort) reply un is (re, e) = aborted calls un refl re is e
-  fate_at (Some calls) (Control Offer) reply un is (re, e) = given calls un refl re is e
-  fate_at (Some calls) (Control Settle) reply un is s = says (Control Settle) reply NoTransaction refl refl s
-  fate_at (Some calls) (Control Purge) reply un is s = says (Control Purge) reply Already refl refl s
-
-  fate_by : (offer : state.Offer) (call : Call) (reply : Reply) → old.offers caller ≡ offer → StepBy limits offer old caller call reply new → Fate limits.callers old caller call reply new
-  fate_by unoffered call reply is s = fate_at (old.live caller) call reply is refl s
-  fate_by offered Begin reply is s = says Begin reply Already refl refl s
-  fate_by offered (Control Purge) reply is s = says (Control Purge) reply Already refl refl s
-  fate_by offered (Control Settle) reply is (inl short) = says (Control Settle) reply NoMemory refl refl short
-  fate_by offered (Control Settle) reply is (inr (inside, inl (re, index, settles, e))) = settled inside is refl re index e
-  fate_by offered (Control Settle) reply is (inr (inside, inr (wrote, re, index, e))) = unsure inside is refl re index e
-  fate_by offered call reply is s = says call reply NoTransaction refl refl s
-  fate_by (unsettled n) Begin reply is s = says Begin reply Already refl refl s
-  fate_by (unsettled n) (Control Purge) reply is s = says (Control Purge) reply Already refl refl s
-  fate_by (unsettled n) (Control Settle) reply is (re, e) = told n is refl re e
-  fate_by (unsettled n) call reply is s = says call reply NoTransaction refl refl s
-
-  fate_if : (dead : Bool) (call : Call) (reply : Reply) → StepIf limits dead old caller call reply new → Fate limits.callers old caller call reply new
-  fate_if true call reply s = says call reply Dead refl refl s
-  fate_if false call reply s = fate_by (old.offers caller) call reply refl s
+  fate_of : (dead : Bool) (offer : state.Offer) (live : Option Granted) (call : Call) (reply : Reply) → old.offers caller ≡ offer → old.live caller ≡ live
+      → StepOf limits dead offer live old caller call reply new → Fate limits.callers old caller call reply new
+  fate_of true offer live call reply un is s = says call reply Dead refl refl s
+  fate_of false unoffered None Begin reply un is (re, e) = began un is refl re e
+  fate_of false unoffered None (Control Purge) reply un is (inl (n, re, purges)) = purged n un is refl re purges.index purges.same
+  fate_of false unoffered None (Control Purge) reply un is (inr (re, index, e)) = failed refl re index e
+  fate_of false unoffered None call reply un is s = says call reply NoTransaction refl refl s
+  fate_of false unoffered (Some calls) Begin reply un is s = says Begin reply Already refl refl s
+  fate_of false unoffered (Some calls) (Table asked) reply un is (inl (bad, e)) =
+      let plain = ask_plain asked in says (Table asked) reply (refusal_of asked) plain.0 plain.1 (ask_refusal old caller asked reply bad, e)
+  fate_of false unoffered (Some calls) (Table asked) reply un is (inr (fine, a)) = asks calls asked reply un is a
+  fate_of false unoffered (Some calls) (Control Commit) reply un is (inl short) = says (Control Commit) reply NoMemory refl refl short
+  fate_of false unoffered (Some calls) (Control Commit) reply un is (inr (inl commits)) = let alone = commits_alone calls old caller un is reply new commits in committed calls un refl alone.0 is alone.1 alone.3
+  fate_of false unoffered (Some calls) (Control Commit) reply un is (inr (inr doubts)) = let alone = doubts_alone calls old caller un is reply new doubts in doubted calls un refl alone.1 is alone.2 alone.3
+  fate_of false unoffered (Some calls) (Control Abort) reply un is (re, e) = aborted calls un refl re is e
+  fate_of false unoffered (Some calls) (Control Offer) reply un is (re, e) = given calls un refl re is e
+  fate_of false unoffered (Some calls) (Control Settle) reply un is s = says (Control Settle) reply NoTransaction refl refl s
+  fate_of false unoffered (Some calls) (Control Purge) reply un is s = says (Control Purge) reply Already refl refl s
+  fate_of false offered live Begin reply gave is s = says Begin reply Already refl refl s
+  fate_of false offered live (Control Purge) reply gave is s = says (Control Purge) reply Already refl refl s
+  fate_of false offered live (Control Settle) reply gave is (inl short) = says (Control Settle) reply NoMemory refl refl short
+  fate_of false offered live (Control Settle) reply gave is (inr (inside, inl (re, index, settles, e))) = settled inside gave refl re index e
+  fate_of false offered live (Control Settle) reply gave is (inr (inside, inr (wrote, re, index, e))) = unsure inside gave refl re index e
+  fate_of false offered live call reply gave is s = says call reply NoTransaction refl refl s
+  fate_of false (unsettled n) live Begin reply done is s = says Begin reply Already refl refl s
+  fate_of false (unsettled n) live (Control Purge) reply done is s = says (Control Purge) reply Already refl refl s
+  fate_of false (unsettled n) live (Control Settle) reply done is (re, e) = told n done refl re e
+  fate_of false (unsettled n) live call reply done is s = says call reply NoTransaction refl refl s
 
   -- Each step has one of the fates.
   pub acts_fate : (call : Call) (reply : Reply) → Acts limits old caller call reply new → Fate limits.callers old caller call reply new
-  acts_fate call reply acts = fate_if old.is_dead call reply acts
+  acts_fate call reply acts = fate_of old.is_dead (old.offers caller) (old.live caller) call reply refl refl acts
 
   pub step_fate : (call : Call) (reply : Reply) → Step limits old caller call reply new → Fate limits.callers old caller call reply new
   step_fate call reply step = acts_fate call reply step.acts

@@ -1,5 +1,5 @@
 -- How many entries of the loggers callers hold when the index gains a key.
-use Rattle.std.proofs.Common.{◌≡◌, ℕ, false, cond, List, [], ◌∷◌, length, filter, Option, Some, None, refl, sym, ap, subst, ◌∙◌}
+use Rattle.std.proofs.Common.{◌≡◌, ℕ, Bool, false, cond, List, [], ◌∷◌, length, filter, Option, Some, None, refl, sym, ap, subst, ◌∙◌}
 use Rattle.std.specs.Prelude.{IsSome}
 use Rattle.std.specs.List.{list_any}
 use Rattle.std.specs.Map.{update}
@@ -9,9 +9,13 @@ use Rattle.history.specs.declared.key.Key.{Key}
 use Rattle.history.specs.Writes.{Write, is_of}
 use Rattle.history.specs.Log.{log_of}
 use Rattle.caller_steps.specs.State.{State, Index, calls_of}
-use Rattle.caller_steps.specs.Room.{Limits, is_slot_on, is_write_on, held_on, GainsWithin}
+use Rattle.caller_steps.specs.Room.{Limits, is_slot_on, held_on, GainsWithin}
 use Rattle.history.proofs.Keys.{same_key, same_keys}
 use Rattle.caller_steps.proofs.AtKeys.{at_other_key}
+
+-- the key of a write has its slot on this logger
+abbrev pub is_write_on : Limits → Index → ℕ → Write → Bool
+is_write_on limits index g write = is_slot_on limits g (index.slot_of write.0)
 
 module _ (limits : Limits) (g : ℕ) where
   -- If a key that no write names gains a slot, the writes on a logger stay the same.

@@ -17,7 +17,7 @@ use Rattle.caller_steps.specs.State as state
 use Rattle.caller_steps.specs.State.{State, Index, unoffered, offered, unsettled, calls_of}
 use Rattle.caller_steps.specs.Offers.{offerers, group_writes}
 use Rattle.caller_steps.specs.Room.{Limits, Indexes}
-use Rattle.caller_steps.specs.Step.{Says, Asks, AsksTable, AsksWithin, StepAt, StepBy, StepIf, Step, Runs}
+use Rattle.caller_steps.specs.Step.{Says, Asks, StepOf, Step, Runs}
 use Rattle.caller_steps.specs.Fate.{is_refusal, is_media, live_with, Stays, EndsWith, Moves}
 use Rattle.caller_steps.specs.Run.{Turn, is_write, has_write}
 use Rattle.caller_steps.proofs.Fates.{step_moves}
@@ -66,49 +66,36 @@ module _ (limits : Limits) (old : State) (caller : ℕ) (new : State) (alive : n
   asked calls call reply same (inr (inr (free, inr (inl (lacks, index, indexes, e))))) = ap (λ (s : State). s.index) e ∙ same index indexes
   asked calls call reply same (inr (inr (free, inr (inr (uses, (re, index, e)))))) = absurd (true≢false (sym (ap (λ (s : State). s.is_dead) e) ∙ alive))
 
-  tabled : (calls : Granted) (call : TableCall) (reply : Reply) → ((index : Index) → Indexes limits call reply old.index index → index ≡ old.index) → AsksTable limits calls old caller call reply new → new.index ≡ old.index
-  tabled calls call reply same (inl (none, s)) = ap (λ (s : State). s.index) s.1
-  tabled calls call reply same (inr (some, a)) = asked calls call reply same a
-
-  within : (calls : Granted) (call : TableCall) (reply : Reply) → is_write (Table call) ≡ false → AsksWithin limits calls old caller call reply new → new.index ≡ old.index
+  within : (calls : Granted) (call : TableCall) (reply : Reply) → is_write (Table call) ≡ false → Asks limits calls old caller call reply new → new.index ≡ old.index
   within calls (Put name key value) reply reads a = absurd (true≢false reads)
-  within calls (Del name key) reply reads a = absurd (true≢false reads)
-  within calls Save reply reads (inl (full, s)) = ap (λ (s : State). s.index) s.1
-  within calls Save reply reads (inr (room, a)) = asked calls Save reply (λ index same. same) a
-  within calls (Back n) reply reads (inl (absent, s)) = ap (λ (s : State). s.index) s.1
-  within calls (Back n) reply reads (inr (there, a)) = asked calls (Back n) reply (λ index same. same) a
-  within calls call reply reads a = tabled calls call reply (λ index same. same) a
-
-  read_at : (live : Option Granted) (call : Call) (reply : Reply) → HasNone (unwrap_or live []) → is_write call ≡ false → StepAt limits live old caller call reply new → new.index ≡ old.index
-  read_at live (Control Purge) reply none reads s = absurd (true≢false reads)
-  read_at None _ reply none reads s = ap (λ (s : State). s.index) s.1
-  read_at (Some calls) (Table call) reply none reads a = within calls call reply reads a
-  read_at (Some calls) (Control Commit) reply none reads (inl short) = ap (λ (s : State). s.index) short.1
-  read_at (Some calls) (Control Commit) reply none reads (inr (inl (re, index, settles, e))) = ap (λ (s : State). s.index) e ∙ settles.none none
-  read_at (Some calls) (Control Commit) reply none reads (inr (inr (wrote, re, index, e))) = absurd (true≢false (sym (ap (λ (s : State). s.is_dead) e) ∙ alive))
-  read_at (Some calls) _ reply none reads s = ap (λ (s : State). s.index) s.1
+  within calls call reply reads a = asked calls call reply (λ index same. same) a
 
   -- a group of transactions that have written nothing has written nothing
   group_none : (callers : List ℕ) → ((other : ℕ) → HasNone (calls_of old other)) → group_writes old callers ≡ []
   group_none [] none = refl
   group_none (first ∷ callers) none = (λ i. none first i ++ group_writes old callers) ∙ group_none callers none
 
-  read_by : (offer : state.Offer) (call : Call) (reply : Reply) → ((other : ℕ) → HasNone (calls_of old other)) → is_write call ≡ false → StepBy limits offer old caller call reply new → new.index ≡ old.index
-  read_by unoffered call reply none reads s = read_at (old.live caller) call reply (none caller) reads s
-  read_by offered (Control Settle) reply none reads (inl short) = ap (λ (s : State). s.index) short.1
-  read_by offered (Control Settle) reply none reads (inr (inside, inl (re, index, settles, e))) = ap (λ (s : State). s.index) e ∙ settles.none (group_none (offerers limits.callers old) none)
-  read_by offered (Control Settle) reply none reads (inr (inside, inr (wrote, re, index, e))) = absurd (true≢false (sym (ap (λ (s : State). s.is_dead) e) ∙ alive))
-  read_by offered _ reply none reads s = ap (λ (s : State). s.index) s.1
-  read_by (unsettled n) (Control Settle) reply none reads s = ap (λ (s : State). s.index) s.1
-  read_by (unsettled n) _ reply none reads s = ap (λ (s : State). s.index) s.1
-
-  read_if : (dead : Bool) (call : Call) (reply : Reply) → ((other : ℕ) → HasNone (calls_of old other)) → is_write call ≡ false → StepIf limits dead old caller call reply new → new.index ≡ old.index
-  read_if true call reply none reads s = ap (λ (s : State). s.index) s.1
-  read_if false call reply none reads s = read_by (old.offers caller) call reply none reads s
+  read_of : (dead : Bool) (offer : state.Offer) (live : Option Granted) (call : Call) (reply : Reply) → ((other : ℕ) → HasNone (calls_of old other)) → is_write call ≡ false
+      → StepOf limits dead offer live old caller call reply new → new.index ≡ old.index
+  read_of true offer live call reply none reads s = ap (λ (s : State). s.index) s.1
+  read_of false offer live (Control Purge) reply none reads s = absurd (true≢false reads)
+  read_of false unoffered None _ reply none reads s = ap (λ (s : State). s.index) s.1
+  read_of false unoffered (Some calls) (Table call) reply none reads (inl (bad, e)) = ap (λ (s : State). s.index) e
+  read_of false unoffered (Some calls) (Table call) reply none reads (inr (fine, a)) = within calls call reply reads a
+  read_of false unoffered (Some calls) (Control Commit) reply none reads (inl short) = ap (λ (s : State). s.index) short.1
+  read_of false unoffered (Some calls) (Control Commit) reply none reads (inr (inl (re, index, settles, e))) = ap (λ (s : State). s.index) e ∙ settles.none (group_none (caller ∷ []) none)
+  read_of false unoffered (Some calls) (Control Commit) reply none reads (inr (inr (wrote, re, index, e))) = absurd (true≢false (sym (ap (λ (s : State). s.is_dead) e) ∙ alive))
+  read_of false unoffered (Some calls) _ reply none reads s = ap (λ (s : State). s.index) s.1
+  read_of false offered live (Control Settle) reply none reads (inl short) = ap (λ (s : State). s.index) short.1
+  read_of false offered live (Control Settle) reply none reads (inr (inside, inl (re, index, settles, e))) = ap (λ (s : State). s.index) e ∙ settles.none (group_none (offerers limits.callers old) none)
+  read_of false offered live (Control Settle) reply none reads (inr (inside, inr (wrote, re, index, e))) = absurd (true≢false (sym (ap (λ (s : State). s.is_dead) e) ∙ alive))
+  read_of false offered live _ reply none reads s = ap (λ (s : State). s.index) s.1
+  read_of false (unsettled n) live (Control Settle) reply none reads s = ap (λ (s : State). s.index) s.1
+  read_of false (unsettled n) live _ reply none reads s = ap (λ (s : State). s.index) s.1
 
   -- a step leaves the index and the data
   step_reads : (call : Call) (reply : Reply) → ((other : ℕ) → HasNone (calls_of old other)) → is_write call ≡ false → Step limits old caller call reply new → new.index ≡ old.index
-  step_reads call reply none reads s = read_if old.is_dead call reply none reads s.acts
+  step_reads call reply none reads s = read_of old.is_dead (old.offers caller) (old.live caller) call reply none reads s.acts
 
   -- and nothing is written by a live transaction
   step_none : (call : Call) (reply : Reply) → ((other : ℕ) → HasNone (calls_of old other)) → is_write call ≡ false → Step limits old caller call reply new → (other : ℕ) → HasNone (calls_of new other)

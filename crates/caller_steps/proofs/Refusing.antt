@@ -1,6 +1,6 @@
 -- Why the refusals within a run stand, and which keys its index gains and loses.
-use Rattle.std.proofs.Common.{◌≡◌, ◌≢◌, ◌⊎◌, ◌||◌, ℕ, suc, ◌-◌, ◌≤◌, inl, inr, ⊎_elim, List, [], ◌∷◌, ◌++◌, Bool, true, false, Option, Some, None, refl, sym, ap, ◌∙◌, subst, arith}
-use Rattle.std.specs.Prelude.{IsTrue, IsFalse, IsSome, unwrap_or, if◌then◌else◌}
+use Rattle.std.proofs.Common.{◌≡◌, ◌≢◌, ◌⊎◌, ◌||◌, ℕ, suc, ◌+◌, length, ◌-◌, ◌≤◌, inl, inr, ⊎_elim, List, [], ◌∷◌, ◌++◌, Bool, true, false, Option, Some, None, refl, sym, ap, ◌∙◌, subst, arith}
+use Rattle.std.specs.Prelude.{IsTrue, IsFalse, IsSome, is_none, unwrap_or, if◌then◌else◌}
 use Rattle.std.specs.List.{list_any}
 use Rattle.std.specs.FinMap.{get}
 use Rattle.std.proofs.lemmas.Bool.{true≢false, cases_Bool, or_left, or_right, or_parts}
@@ -17,15 +17,15 @@ use Rattle.history.specs.declared.call.TableCall.{TableCall}
 use Rattle.history.specs.declared.call.TableCall.TheVariants.{Get, Put, Del, Scan, Save, Back}
 use Rattle.history.specs.declared.call.Control.TheVariants.{Commit, Abort, Offer, Settle, Purge}
 use Rattle.history.specs.declared.call.Reply.{Reply}
-use Rattle.history.specs.declared.call.Reply.TheVariants.{Fine, NoTransaction, NoTable, Already, NoSave, SavesFull, Busy, LogFull, SlotsFull, PagesFull, Media, Dead, NoMemory}
+use Rattle.history.specs.declared.call.Reply.TheVariants.{Fine, Committed, NoTransaction, NoTable, Already, NoSave, SavesFull, Busy, LogFull, SlotsFull, PagesFull, Media, Dead, NoMemory}
 use Rattle.caller_steps.specs.State as state
 use Rattle.caller_steps.specs.State.{State, Index, keys_of, unoffered, offered, unsettled, view_of}
-use Rattle.caller_steps.specs.Offers.{offerers, group_writes}
+use Rattle.caller_steps.specs.Offers.{offerers, number_among, group_writes}
 use Rattle.caller_steps.specs.Locked.{Blocks}
 use Rattle.caller_steps.specs.Purging.{Lost}
-use Rattle.caller_steps.specs.Room.{Limits, LacksAt, Lacks, GainsWithin, TakesWithin, Inserts, IndexesAt, Indexes, Settles}
+use Rattle.caller_steps.specs.Room.{Limits, room_for, GainsWithin, TakesWithin, IndexesAt, Indexes, Settles}
 use Rattle.index_keys.specs.Keys.{KeepsKeys}
-use Rattle.caller_steps.specs.Step.{Says, Asks, AsksTable, AsksWithin, StepAt, StepBy, StepIf, Step, Runs}
+use Rattle.caller_steps.specs.Step.{Says, Asks, Commits, Doubts, StepOf, Step, Runs}
 use Rattle.caller_steps.specs.Fate.{is_media}
 use Rattle.caller_steps.specs.Run.{Turn, Goes, GoesAlong, turns_of, has_fault, is_purge, has_purge, IsTurn}
 use Rattle.history.proofs.Modes.{clash_turned}
@@ -35,6 +35,8 @@ use Rattle.caller_steps.proofs.Running.{turns_cut, turns_names, turns_dead, turn
 use Rattle.caller_steps.proofs.Owning.{turns_live, fresh_live}
 use Rattle.caller_steps.proofs.Fates.{step_moves}
 use Rattle.caller_steps.proofs.Trying.{purge_loses}
+use Rattle.caller_steps.proofs.Able.{refusal_of, ask_refusal}
+use Rattle.caller_steps.proofs.Lacking.{Lacking, no_slot, no_page, no_entry, write_lacks, removal_lacks}
 
 -- an index after a call: it has no fewer pages in use and levels, and the same keys or one more, which the call puts
 pub record Rises (limits : Limits) (call : Call) (old new : Index) : Type 0 where
@@ -73,7 +75,7 @@ same_index limits call old new e = record {
 lost_index : (limits : Limits) (keys : List Key) (old new : Index) → Lost old keys new → IndexMoves limits (Control Purge) old new
 lost_index limits keys old new lost = record { rises = λ plain. absurd (true≢false plain); falls = λ _. (keys, lost) }
 
-inserts : (limits : Limits) (key : Key) (reply : Reply) (old new : Index) → Inserts limits key reply old new
+inserts : (limits : Limits) (key : Key) (reply : Reply) (old new : Index) → IndexesAt limits key None reply old new
     → TakesWithin limits old new × (KeepsKeys (keys_of old) (keys_of new) ⊎ GainsWithin limits key old new)
 inserts limits key Fine old new i = (i.0, inr i.1)
 inserts limits key (LogFull g h n) old new i = (i.0, i.1)
@@ -169,22 +171,27 @@ module _ (limits : Limits) (old : State) (caller : ℕ) (new : State) where
   plain work Save reply answers = subst (λ r. Told limits old caller new (Table Save) r) (sym answers) tt
   plain work (Back n) reply answers = subst (λ r. Told limits old caller new (Table (Back n)) r) (sym answers.1) tt
 
-  put_lacks : (name : List ℕ) (key : ℕ) (value : List ℕ) (slot : Option ℕ) (reply : Reply) → LacksAt limits old caller (of_table name key) slot reply → IndexesAt limits (of_table name key) slot reply old.index new.index → T (Table (Put name key value)) reply
+  put_lacks : (name : List ℕ) (key : ℕ) (value : List ℕ) (slot : Option ℕ) (reply : Reply) → Lacking limits old.index slot reply
+      → IndexesAt limits (of_table name key) slot reply old.index new.index → T (Table (Put name key value)) reply
   unfolding T
-  put_lacks name key value (Some slot) (LogFull g h n) lacks index = tt
-  put_lacks name key value None (SlotsFull n) lacks index = (lacks.1, index.1.slots ∙ lacks.0)
-  put_lacks name key value None (PagesFull n) lacks index = (lacks.1, index.2)
-  put_lacks name key value None (LogFull g h n) lacks index = tt
-  put_lacks name key value _ _ lacks index = absurd lacks
+  put_lacks name key value None reply (no_slot none full e) indexes =
+      let made = subst (λ r. IndexesAt limits (of_table name key) None r old.index new.index) e indexes in
+      subst (λ r. Told limits old caller new (Table (Put name key value)) r) (sym e) (refl, made.1.slots ∙ full)
+  put_lacks name key value None reply (no_page none e) indexes =
+      let made = subst (λ r. IndexesAt limits (of_table name key) None r old.index new.index) e indexes in
+      subst (λ r. Told limits old caller new (Table (Put name key value)) r) (sym e) (refl, made.2)
+  put_lacks name key value None reply (no_entry g h n e) indexes = subst (λ r. Told limits old caller new (Table (Put name key value)) r) (sym e) tt
+  put_lacks name key value (Some slot) reply (no_slot none full e) indexes = absurd (cc)
+  put_lacks name key value (Some slot) reply (no_page none e) indexes = absurd (cc)
+  put_lacks name key value (Some slot) reply (no_entry g h n e) indexes = subst (λ r. Told limits old caller new (Table (Put name key value)) r) (sym e) tt
 
-  del_lacks : (name : List ℕ) (key : ℕ) (slot : ℕ) (reply : Reply) → LacksAt limits old caller (of_table name key) (Some slot) reply → T (Table (Del name key)) reply
+  lacks_told : (asked : TableCall) (reply : Reply) → room_for limits old caller asked (Some reply) → Indexes limits asked reply old.index new.index → T (Table asked) reply
   unfolding T
-  del_lacks name key slot (LogFull g h n) lacks = tt
-  del_lacks name key slot _ lacks = absurd lacks
-
-  lacks_told : (asked : TableCall) (reply : Reply) → Lacks limits old caller asked reply → Indexes limits asked reply old.index new.index → T (Table asked) reply
-  lacks_told (Put name key value) reply lacks indexes = put_lacks name key value (old.index.slot_of (of_table name key)) reply lacks indexes
-  lacks_told (Del name key) reply lacks indexes = del_lacks name key lacks.1 reply lacks.3
+  lacks_told (Put name key value) reply lacks indexes =
+      put_lacks name key value (old.index.slot_of (of_table name key)) reply (write_lacks limits old caller (of_table name key) (old.index.slot_of (of_table name key)) reply lacks) indexes
+  lacks_told (Del name key) reply lacks indexes =
+      let is = removal_lacks limits old caller (of_table name key) (is_none (get (view_of old caller).table (of_table name key))) reply lacks in
+      subst (λ r. Told limits old caller new (Table (Del name key)) r) (sym is.3) tt
   lacks_told _ reply lacks indexes = absurd lacks
 
   fails : (call : Call) (reply : Reply) → reply ≡ Media → new.is_dead ≡ true → Left limits old caller new call reply
@@ -202,65 +209,53 @@ module _ (limits : Limits) (old : State) (caller : ℕ) (new : State) where
       record { told = lacks_told asked reply lacks now; index = λ alive. index_moves limits asked reply old.index new.index now }
   asks calls asked reply (inr (inr (free, inr (inr (uses, (re, index, e)))))) = fails (Table asked) reply re (ap (λ (s : State). s.is_dead) e)
 
-  tabled : (calls : Granted) (asked : TableCall) (reply : Reply) → AsksTable limits calls old caller asked reply new → Left limits old caller new (Table asked) reply
+  refused_told : (asked : TableCall) → T (Table asked) (refusal_of asked)
   unfolding T
-  tabled calls asked reply (inl (none, s)) = says (Table asked) reply NoTable tt s
-  tabled calls asked reply (inr (some, a)) = asks calls asked reply a
+  refused_told Save = tt
+  refused_told (Back n) = tt
+  refused_told asked = tt
 
-  within : (calls : Granted) (asked : TableCall) (reply : Reply) → AsksWithin limits calls old caller asked reply new → Left limits old caller new (Table asked) reply
+  commits_left : (group : List ℕ) (call : Call) (reply : Reply) → is_purge call ≡ false → ((n : ℕ) → T call (Committed n)) → T call Media
+      → Commits group old caller reply new ⊎ Doubts group old reply new → Left limits old caller new call reply
   unfolding T
-  within calls Save reply (inl (full, s)) = says (Table Save) reply SavesFull tt s
-  within calls Save reply (inr (room, a)) = asks calls Save reply a
-  within calls (Back n) reply (inl (none, s)) = says (Table (Back n)) reply (NoSave n) tt s
-  within calls (Back n) reply (inr (some, a)) = asks calls (Back n) reply a
-  within calls asked reply a = tabled calls asked reply a
+  commits_left group call reply plain told failed (inl (re, index, settles, e)) = record {
+    told = subst (λ r. Told limits old caller new call r) (sym re) (told (number_among (length old.history + 1) group caller));
+    index = λ alive. subst (λ (i : Index). IndexMoves limits call old.index i) (sym (ap (λ (s : State). s.index) e)) (settled_index limits call (group_writes old group) old.index index plain settles);
+  }
+  commits_left group call reply plain told failed (inr (wrote, re, index, e)) = fails call reply re (ap (λ (s : State). s.is_dead) e)
 
-  left_at : (live : Option Granted) (call : Call) (reply : Reply) → StepAt limits live old caller call reply new → Left limits old caller new call reply
+  left_of : (dead : Bool) (offer : state.Offer) (live : Option Granted) (call : Call) (reply : Reply) → old.is_dead ≡ dead → StepOf limits dead offer live old caller call reply new
+      → Left limits old caller new call reply
   unfolding T
-  left_at None Begin reply (re, e) = same Begin reply (subst (λ r. Told limits old caller new Begin r) (sym re) tt) (ap (λ (s : State). s.index) e)
-  left_at None (Control Purge) reply (inl (n, re, purges)) = record {
+  left_of true offer live call reply dead s = says call reply Dead dead s
+  left_of false unoffered None Begin reply dead (re, e) = same Begin reply (subst (λ r. Told limits old caller new Begin r) (sym re) tt) (ap (λ (s : State). s.index) e)
+  left_of false unoffered None (Control Purge) reply dead (inl (n, re, purges)) = record {
     told = subst (λ r. Told limits old caller new (Control Purge) r) (sym re) tt;
     index = λ alive. let loses = purge_loses limits old n new purges in lost_index limits loses.0 old.index new.index loses.3;
   }
-  left_at None (Control Purge) reply (inr (re, index, e)) = fails (Control Purge) reply re (ap (λ (s : State). s.is_dead) e)
-  left_at None call reply s = says call reply NoTransaction tt s
-  left_at (Some calls) Begin reply s = says Begin reply Already tt s
-  left_at (Some calls) (Table asked) reply a = within calls asked reply a
-  left_at (Some calls) (Control Commit) reply (inl short) = says (Control Commit) reply NoMemory tt short
-  left_at (Some calls) (Control Commit) reply (inr (inl (re, index, settles, e))) = record {
-    told = subst (λ r. Told limits old caller new (Control Commit) r) (sym re) tt;
-    index = λ alive. subst (λ (i : Index). IndexMoves limits (Control Commit) old.index i) (sym (ap (λ (s : State). s.index) e)) (settled_index limits (Control Commit) _ old.index index refl settles);
-  }
-  left_at (Some calls) (Control Commit) reply (inr (inr (wrote, re, index, e))) = fails (Control Commit) reply re (ap (λ (s : State). s.is_dead) e)
-  left_at (Some calls) (Control Abort) reply (re, e) = same (Control Abort) reply (subst (λ r. Told limits old caller new (Control Abort) r) (sym re) tt) (ap (λ (s : State). s.index) e)
-  left_at (Some calls) (Control Offer) reply (re, e) = same (Control Offer) reply (subst (λ r. Told limits old caller new (Control Offer) r) (sym re) tt) (ap (λ (s : State). s.index) e)
-  left_at (Some calls) (Control Settle) reply s = says (Control Settle) reply NoTransaction tt s
-  left_at (Some calls) (Control Purge) reply s = says (Control Purge) reply Already tt s
-
-  left_by : (offer : state.Offer) (call : Call) (reply : Reply) → StepBy limits offer old caller call reply new → Left limits old caller new call reply
-  unfolding T
-  left_by unoffered call reply s = left_at (old.live caller) call reply s
-  left_by offered Begin reply s = says Begin reply Already tt s
-  left_by offered (Control Purge) reply s = says (Control Purge) reply Already tt s
-  left_by offered (Control Settle) reply (inl short) = says (Control Settle) reply NoMemory tt short
-  left_by offered (Control Settle) reply (inr (inside, inl (re, index, settles, e))) = record {
-    told = subst (λ r. Told limits old caller new (Control Settle) r) (sym re) tt;
-    index = λ alive. subst (λ (i : Index). IndexMoves limits (Control Settle) old.index i) (sym (ap (λ (s : State). s.index) e)) (settled_index limits (Control Settle) (group_writes old (offerers limits.callers old)) old.index index refl settles);
-  }
-  left_by offered (Control Settle) reply (inr (inside, inr (wrote, re, index, e))) = fails (Control Settle) reply re (ap (λ (s : State). s.is_dead) e)
-  left_by offered call reply s = says call reply NoTransaction tt s
-  left_by (unsettled n) Begin reply s = says Begin reply Already tt s
-  left_by (unsettled n) (Control Purge) reply s = says (Control Purge) reply Already tt s
-  left_by (unsettled n) (Control Settle) reply (re, e) = same (Control Settle) reply (subst (λ r. Told limits old caller new (Control Settle) r) (sym re) tt) (ap (λ (s : State). s.index) e)
-  left_by (unsettled n) call reply s = says call reply NoTransaction tt s
-
-  left_if : (dead : Bool) (call : Call) (reply : Reply) → old.is_dead ≡ dead → StepIf limits dead old caller call reply new → Left limits old caller new call reply
-  unfolding T
-  left_if true call reply is s = says call reply Dead is s
-  left_if false call reply is s = left_by (old.offers caller) call reply s
+  left_of false unoffered None (Control Purge) reply dead (inr (re, index, e)) = fails (Control Purge) reply re (ap (λ (s : State). s.is_dead) e)
+  left_of false unoffered None call reply dead s = says call reply NoTransaction tt s
+  left_of false unoffered (Some calls) Begin reply dead s = says Begin reply Already tt s
+  left_of false unoffered (Some calls) (Table asked) reply dead (inl (bad, e)) = says (Table asked) reply (refusal_of asked) (refused_told asked) (ask_refusal old caller asked reply bad, e)
+  left_of false unoffered (Some calls) (Table asked) reply dead (inr (fine, a)) = asks calls asked reply a
+  left_of false unoffered (Some calls) (Control Commit) reply dead (inl short) = says (Control Commit) reply NoMemory tt short
+  left_of false unoffered (Some calls) (Control Commit) reply dead (inr commits) = commits_left (caller ∷ []) (Control Commit) reply refl (λ n. tt) tt commits
+  left_of false unoffered (Some calls) (Control Abort) reply dead (re, e) = same (Control Abort) reply (subst (λ r. Told limits old caller new (Control Abort) r) (sym re) tt) (ap (λ (s : State). s.index) e)
+  left_of false unoffered (Some calls) (Control Offer) reply dead (re, e) = same (Control Offer) reply (subst (λ r. Told limits old caller new (Control Offer) r) (sym re) tt) (ap (λ (s : State). s.index) e)
+  left_of false unoffered (Some calls) (Control Settle) reply dead s = says (Control Settle) reply NoTransaction tt s
+  left_of false unoffered (Some calls) (Control Purge) reply dead s = says (Control Purge) reply Already tt s
+  left_of false offered live Begin reply dead s = says Begin reply Already tt s
+  left_of false offered live (Control Purge) reply dead s = says (Control Purge) reply Already tt s
+  left_of false offered live (Control Settle) reply dead (inl short) = says (Control Settle) reply NoMemory tt short
+  left_of false offered live (Control Settle) reply dead (inr (inside, commits)) = commits_left (offerers limits.callers old) (Control Settle) reply refl (λ n. tt) tt commits
+  left_of false offered live call reply dead s = says call reply NoTransaction tt s
+  left_of false (unsettled n) live Begin reply dead s = says Begin reply Already tt s
+  left_of false (unsettled n) live (Control Purge) reply dead s = says (Control Purge) reply Already tt s
+  left_of false (unsettled n) live (Control Settle) reply dead (re, e) = same (Control Settle) reply (subst (λ r. Told limits old caller new (Control Settle) r) (sym re) tt) (ap (λ (s : State). s.index) e)
+  left_of false (unsettled n) live call reply dead s = says call reply NoTransaction tt s
 
   pub step_left : (call : Call) (reply : Reply) → Step limits old caller call reply new → Left limits old caller new call reply
-  step_left call reply step = left_if old.is_dead call reply refl step.acts
+  step_left call reply step = left_of old.is_dead (old.offers caller) (old.live caller) call reply refl step.acts
 
 -- a call that clashes with what is live of a caller clashes with what its own turns say is live
 held_by : (names : List (List ℕ)) (call : TableCall) (stripe : ℕ) (own : Own) (offer : state.Offer) → clash (touches names call stripe) (touched names (unwrap_or (live_in own offer) []) stripe) ≡ true

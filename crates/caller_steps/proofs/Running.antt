@@ -11,7 +11,7 @@ use Rattle.history.specs.declared.transaction.Done.{Done}
 use Rattle.caller_steps.specs.State.{State, commits_of}
 use Rattle.caller_steps.specs.Offers.{is_offered}
 use Rattle.caller_steps.specs.Room.{Limits}
-use Rattle.caller_steps.specs.Step.{Step, StepIf, Runs}
+use Rattle.caller_steps.specs.Step.{Step, StepOf, Runs}
 use Rattle.caller_steps.specs.Fate.{is_media, Stays, EndsWith}
 use Rattle.caller_steps.specs.Prefix.{Grows}
 use Rattle.caller_steps.specs.Run.{Turn, Heard, Goes, GoesAlong, AreOf, turns_of, has_fault, HasNoOthers, LastTurn}
@@ -178,7 +178,8 @@ module _ (tells : Bool) (limits : Limits) where
     turn_commits free = ap (commits_of caller) t.shown ∙ sym (turns_of_others caller t.mid now t.after t.since t.none free).mine
 
 -- What a step does is what is known of a call of a core that tells its records.
-dead_if : (limits : Limits) (dead : Bool) (old : State) (caller : ℕ) (call : Call) (reply : Reply) (new : State) → StepIf limits dead old caller call reply new → old.is_dead ≡ dead → IsTrue old.is_dead → (reply ≡ Dead) × (new ≡ old)
+dead_if : (limits : Limits) (dead : Bool) (old : State) (caller : ℕ) (call : Call) (reply : Reply) (new : State)
+    → StepOf limits dead (old.offers caller) (old.live caller) old caller call reply new → old.is_dead ≡ dead → IsTrue old.is_dead → (reply ≡ Dead) × (new ≡ old)
 dead_if limits true old caller call reply new s is dead = s
 dead_if limits false old caller call reply new s is dead = absurd (true≢false (sym dead ∙ is))
 

@@ -12,7 +12,7 @@ use Rattle.history.specs.declared.transaction.Done.{Done}
 use Rattle.caller_steps.specs.State.{State, Offer, unoffered, offered, unsettled}
 use Rattle.caller_steps.specs.Offers.{is_offered, offerers, done_in, with_done, group_in, group_end, group_done, committed_group}
 use Rattle.caller_steps.specs.Room.{Limits}
-use Rattle.caller_steps.specs.Step.{Step, StepIf}
+use Rattle.caller_steps.specs.Step.{Step, StepOf}
 use Rattle.caller_steps.specs.Fate.{is_committed}
 use Rattle.caller_steps.specs.Sound.{IsCommittedAs, IsOfferOf, IsSound}
 use Rattle.caller_steps.proofs.Offering.{offers_apart, offerers_once, offerer_is, group_history, group_ends}
@@ -61,7 +61,7 @@ module _ (limits : Limits) (old new : State) (caller n : ℕ) where
       subst (λ (x : List Done × ℕ). IsCommittedAs x.0 caller x.1) (λ i. (sym (ap (λ (s : State). s.history) e) i, sym (ap number_in r) i)) there
 
   tells_if : (dead : Bool) → old.is_dead ≡ dead → IsSound old → Step limits old caller (Control Settle) (Committed n) new → IsCommittedAs new.history caller n
-  tells_if true dead sound step = absurd (true≢false (ap is_committed (subst (λ (b : Bool). StepIf limits b old caller (Control Settle) (Committed n) new) dead step.acts).0))
+  tells_if true dead sound step = absurd (true≢false (ap is_committed (subst (λ (b : Bool). StepOf limits b (old.offers caller) (old.live caller) old caller (Control Settle) (Committed n) new) dead step.acts).0))
   tells_if false alive sound step = settle_tells alive sound (step_fate limits old caller new (Control Settle) (Committed n) step)
 
   -- The number that a settle tells is that of a transaction of its caller's in the history.

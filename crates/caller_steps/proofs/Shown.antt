@@ -34,8 +34,6 @@ shown_along limits first now (turn ∷ turns) shown (mid, step, runs) alive =
 -- what one data shows is one
 pub shown_one : (limits : Limits) (one other : State) → IsShown limits one → IsShown limits other → one.index.bytes ≡ other.index.bytes
     → (one.names ≡ other.names) × (records_of one ≡ records_of other) × (one.index ≡ other.index)
-shown_one limits one other a b same = (
-  sym a.names ∙ ap (λ (bytes : List ℕ). (limits.says bytes).names) same ∙ b.names,
-  sym a.table ∙ ap (λ (bytes : List ℕ). (limits.says bytes).table) same ∙ b.table,
-  sym a.index ∙ ap (λ (bytes : List ℕ). (limits.says bytes).index) same ∙ b.index,
-)
+shown_one limits one other a b same =
+    let is = sym a ∙ ap limits.says same ∙ b in
+    (λ i. (is i).0, λ i. (is i).1, λ i. (is i).2)

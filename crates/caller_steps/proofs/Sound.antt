@@ -18,11 +18,11 @@ use Rattle.caller_steps.specs.State.{State, Index, Offer, unoffered, offered, op
 use Rattle.caller_steps.specs.Offers.{offerers, committed_group}
 use Rattle.caller_steps.specs.Locked.{IsFree}
 use Rattle.caller_steps.specs.Room.{Limits}
-use Rattle.caller_steps.specs.Step.{StepIf, Acts, Step, Runs}
+use Rattle.caller_steps.specs.Step.{StepOf, Step, Runs}
 use Rattle.caller_steps.specs.Sound.{IsOfferOf, IsSound}
 use Rattle.caller_steps.proofs.Apart.{apart_more, right-update, apart-update, live-update, offer-update, of_none, offer_longer}
 use Rattle.caller_steps.proofs.Grouped.{group_sound, one_without, doubted_sound}
-use Rattle.caller_steps.proofs.Fates.{Fate, refused, failed, began, granted, committed, doubted, aborted, given, settled, unsure, told, purged, acts_fate}
+use Rattle.caller_steps.proofs.Fates.{Fate, refused, failed, began, granted, committed, doubted, aborted, given, settled, unsure, told, purged, Acts, acts_fate}
 
 -- soundness does not depend on the index
 with_index : (state : State) → IsSound state → (index : Index) → IsSound (record state { index = index })
@@ -147,7 +147,7 @@ module _ (old : State) (caller : ℕ) (sound : IsSound old) where
   fate_sound callers call reply new alive (purged n un l c r index e) = subst IsSound (sym e) (same index old.is_dead (λ is. is))
 
   acts_sound_if : (dead : Bool) → old.is_dead ≡ dead → (limits : Limits) (call : Call) (reply : Reply) (new : State) → Acts limits old caller call reply new → IsSound new
-  acts_sound_if true dead limits call reply new acts = subst IsSound (sym (subst (λ d. StepIf limits d old caller call reply new) dead acts).1) sound
+  acts_sound_if true dead limits call reply new acts = subst IsSound (sym (subst (λ d. StepOf limits d (old.offers caller) (old.live caller) old caller call reply new) dead acts).1) sound
   acts_sound_if false alive limits call reply new acts = fate_sound limits.callers call reply new alive (acts_fate limits old caller new call reply acts)
 
 -- A step keeps the state sound.

@@ -1,5 +1,5 @@
 -- What a purge takes out of the index, by the keys that it tries.
-use Rattle.std.proofs.Common.{◌≡◌, ℕ, inl, inr, true, false, List, [], ◌∷◌, ◌++◌, length, refl, sym, ap, subst}
+use Rattle.std.proofs.Common.{◌≡◌, ◌∙◌, ℕ, suc, inl, inr, true, false, List, [], ◌∷◌, ◌++◌, length, filter, refl, sym, ap, subst}
 use Rattle.history.specs.declared.key.Key.{Key}
 use Rattle.caller_steps.specs.State.{State, Index}
 use Rattle.caller_steps.specs.Room.{Limits}
@@ -18,10 +18,16 @@ module _ (limits : Limits) (old : State) (first : Index) where
   free_tries now ((key, true) ∷ tries) absent (before, tried, becomes) = ((absent.0, becomes.0), free_tries before tries absent.1 tried)
   free_tries now ((key, false) ∷ tries) absent (before, tried, becomes) = free_tries before tries absent.1 tried
 
+-- so many of them
+pub lost_count : (tries : List Try) → length (filter (λ (one : Try). one.1) tries) ≡ length (lost_among tries)
+lost_count [] = refl
+lost_count ((key, true) ∷ tries) = ap (λ (n : ℕ). suc n) (lost_count tries)
+lost_count ((key, false) ∷ tries) = lost_count tries
+
 pub purge_loses : (limits : Limits) (old : State) (n : ℕ) (new : State) → Purges limits old n new → (keys : List Key) × (n ≡ length keys) × AreFree old keys × Lost old.index keys new.index
 purge_loses limits old n new purges = (
   lost_among purges.tried,
-  purges.count,
+  purges.count ∙ lost_count purges.tried,
   free_tries limits old old.index purges.index purges.tried purges.absent purges.trail,
   subst (λ (ix : Index). Lost old.index (lost_among purges.tried) ix) (sym (ap (λ (s : State). s.index) purges.same)) (lost_tries limits old old.index purges.index purges.tried purges.trail),
 )

@@ -1,5 +1,5 @@
 -- A purge: keys without records, whose stripes no live transaction touches, are taken out of the index.
-use Rattle.std.specs.Prelude.{ℕ, ◌≡◌, ◌<◌, ◌^◌, ◌⊎◌, Bool, true, false, if◌then◌else◌, IsTrue, IsFalse, List, [], ◌∷◌, length, slice_get, Some, None, IsSome}
+use Rattle.std.specs.Prelude.{ℕ, ◌≡◌, ◌<◌, ◌^◌, ◌⊎◌, Bool, true, false, if◌then◌else◌, IsTrue, IsFalse, List, [], ◌∷◌, length, filter, slice_get, Some, None, IsSome}
 use Rattle.std.specs.FinMap.{get}
 use Rattle.history.specs.declared.key.Key.{Key}
 use Rattle.history.specs.Locks.{Meets}
@@ -76,7 +76,7 @@ pub record Purges (limits : Limits) (old : State) (n : ℕ) (new : State) : Type
   pub order : AreInOrder old.names tried
   pub absent : Each (IsAbsent old) tried
   pub all : (key : Key) → key.key < 2 ^ 64 → IsAbsent old key → IsTried key tried
-  pub count : n ≡ length (lost_among tried)
+  pub count : n ≡ length (filter (λ (one : Try). one.1) tried)
   pub index : Index
   pub trail : Tries limits old old.index tried index
   pub same : new ≡ record old { index = index }

@@ -1,6 +1,7 @@
 -- How much room an array has for writes, and what calls make of its index.
-use Rattle.std.specs.Prelude.{ℕ, ◌≡◌, ◌≢◌, ◌-◌, ◌<◌, ◌≤◌, ◌⊎◌, Bool, false, nat_eq, List, [], ◌∷◌, length, filter, Option, Some, None, IsSome, unwrap_or}
+use Rattle.std.specs.Prelude.{ℕ, ◌≡◌, ◌≢◌, ◌-◌, ◌<◌, ◌≤◌, ◌⊎◌, Bool, false, nat_eq, List, [], ◌∷◌, length, filter, Option, Some, None, is_none, option_to_list}
 use Rattle.std.specs.FinMap.{get}
+use Rattle.mars_base.specs.Check.{Check, pass, test, both, unless, each}
 use Rattle.mars_base.specs.Room.{HaveRoom, IsFirstFull}
 use Rattle.history.specs.Key.{of_table}
 use Rattle.history.specs.declared.key.Key.{Key}
@@ -18,16 +19,10 @@ pub record Action : Type 0 where
   pub takes : ℕ
   pub needs : ℕ → ℕ
 
--- What data says: the names of the tables, their records, and their index. The slot that is due is the first one in the data's list of free
--- slots, or the next one where none is free.
-pub record Said : Type 0 where
-  pub names : List (List ℕ)
-  pub table : Table
-  pub index : Index
-
 -- how many callers there may be, the slots of an array, its pages for the index, its loggers, the entries that each of them has for a
--- caller, how many commits may wait for their write-back, and the logger of each slot; and, of data and a key, whether the index keeps the key's pair as the last of a page, so that no purge
--- takes it out, and, if the index lacks the key, the actions of its insertion, one after another; and what data says
+-- caller, how many commits may wait for their write-back, and the logger of each slot; of data and a key, whether the index keeps the key's pair as the last of a page, so that no purge
+-- takes it out, and, if the index lacks the key, the actions of its insertion, one after another; and what data says: the names of the tables, their records, and their index. The
+-- slot that is due is the first one in the data's list of free slots, or the next one where none is free.
 pub record Limits : Type 0 where
   pub callers : ℕ
   pub slots : ℕ
@@ -38,96 +33,51 @@ pub record Limits : Type 0 where
   pub logger_of : ℕ → ℕ
   pub keeps : List ℕ → Key → Bool
   pub actions : List ℕ → Key → List Action
-  pub says : List ℕ → Said
+  pub says : List ℕ → List (List ℕ) × Table × Index
 
 -- the data of a state says its names, its records and its index
-pub record IsShown (limits : Limits) (state : State) : Type 0 where
-  pub names : (limits.says state.index.bytes).names ≡ state.names
-  pub table : (limits.says state.index.bytes).table ≡ records_of state
-  pub index : (limits.says state.index.bytes).index ≡ state.index
+abbrev pub IsShown : Limits → State → Type 0
+IsShown limits state = limits.says state.index.bytes ≡ (state.names, records_of state, state.index)
 
 -- the key of a write has its slot on this logger
 abbrev pub is_slot_on : Limits → ℕ → Option ℕ → Bool
 is_slot_on limits g None = false
 is_slot_on limits g (Some slot) = nat_eq (limits.logger_of slot) g
 
-abbrev pub is_write_on : Limits → Index → ℕ → Write → Bool
-is_write_on limits index g write = is_slot_on limits g (index.slot_of write.0)
-
 -- how many entries of a logger a caller's writes take
 abbrev pub held_on : Limits → State → ℕ → ℕ → ℕ
-held_on limits state caller g = length (filter (is_write_on limits state.index g) (log_of (calls_of state caller)).writes)
+held_on limits state caller g = length (filter (λ (write : Write). is_slot_on limits g (state.index.slot_of write.0)) (log_of (calls_of state caller)).writes)
 
--- a write of a key with this slot reuses the entry of a write since the last save, or finds a free entry
-abbrev pub HasEntry : Limits → State → ℕ → Key → ℕ → Type 0
-HasEntry limits old caller key slot =
-    is_rewritten (log_of (calls_of old caller)) key ≡ false → held_on limits old caller (limits.logger_of slot) < limits.entries
+-- Each logger has room for what it needs beside what it holds. The first that has not is told.
+abbrev pub logs_fit : Limits → (held needed : ℕ → ℕ) → Check Reply
+logs_fit limits held needed None = HaveRoom limits.loggers limits.entries held needed
+logs_fit limits held needed (Some (LogFull g h n)) = IsFirstFull limits.loggers limits.entries held needed g h n
+logs_fit limits held needed _ = ⊥
 
--- the slot of a key, or the one that is due if the index lacks the key
-abbrev pub slot_for : Index → Key → ℕ
-slot_for index key = unwrap_or (index.slot_of key) index.due
+-- All actions fit, one after another: `left` pages are enough for what one takes, and then each logger has room for its entries.
+abbrev pub actions_fit : Limits → (ℕ → ℕ) → ℕ → List Action → Check Reply
+actions_fit limits held left [] = pass
+actions_fit limits held left (action ∷ later) = both (test (action.takes ≤ left) (PagesFull (limits.index_pages - 1)))
+    (both (logs_fit limits held action.needs) (actions_fit limits held (left - action.takes) later))
 
--- the caller sees a record of the key
-abbrev pub IsSeen : State → ℕ → Key → Type 0
-IsSeen old caller key = IsSome (get (view_of old caller).table key)
+-- a write of a key with this slot reuses the entry of a write since the last save, or finds a free entry at the slot's logger
+abbrev pub entry_fits : Limits → State → ℕ → Key → ℕ → Check Reply
+entry_fits limits old caller key slot = unless (is_rewritten (log_of (calls_of old caller)) key)
+    (test (held_on limits old caller (limits.logger_of slot) < limits.entries) (LogFull (limits.logger_of slot) (held_on limits old caller (limits.logger_of slot)) 1))
 
--- so many pages are left for the index
-abbrev pub pages_left : Limits → Index → ℕ
-pages_left limits index = limits.index_pages - index.used_pages
+-- A write of a key that has this slot, or none. A new key needs a slot, pages for the splits of the index that are due, entries for each part of its
+-- insertion, and then one in the slot that is due.
+abbrev pub write_fits : Limits → State → ℕ → Key → Option ℕ → Check Reply
+write_fits limits old caller key None = both (test (old.index.used_slots ≢ limits.slots) (SlotsFull limits.slots))
+    (both (actions_fit limits (held_on limits old caller) (limits.index_pages - old.index.used_pages) (limits.actions old.index.bytes key)) (entry_fits limits old caller key old.index.due))
+write_fits limits old caller key (Some slot) = entry_fits limits old caller key slot
 
--- `left` pages are enough for an action, and each logger has room for its entries beside what it holds
-abbrev pub ActionFits : Limits → (ℕ → ℕ) → ℕ → Action → Type 0
-ActionFits limits held left action = (action.takes ≤ left) × HaveRoom limits.loggers limits.entries held action.needs
-
--- all actions fit, one after another
-abbrev pub AllFit : Limits → (ℕ → ℕ) → ℕ → List Action → Type 0
-AllFit limits held left [] = Unit {0}
-AllFit limits held left (action ∷ later) = ActionFits limits held left action × AllFit limits held (left - action.takes) later
-
--- the first that does not fit finds too few pages
-abbrev pub LackPages : Limits → (ℕ → ℕ) → ℕ → List Action → Type 0
-LackPages limits held left [] = ⊥
-LackPages limits held left (action ∷ later) = (left < action.takes) ⊎ (ActionFits limits held left action × LackPages limits held (left - action.takes) later)
-
--- the first that does not fit finds its pages, and at logger g, the first such one, too little room: it holds h entries, and n more are needed
-abbrev pub LackRoom : Limits → (ℕ → ℕ) → ℕ → ℕ → ℕ → ℕ → List Action → Type 0
-LackRoom limits held g h n left [] = ⊥
-LackRoom limits held g h n left (action ∷ later) =
-    ((action.takes ≤ left) × IsFirstFull limits.loggers limits.entries held action.needs g h n) ⊎ (ActionFits limits held left action × LackRoom limits held g h n (left - action.takes) later)
-
--- A write of a key that has this slot, or none, fits: there is an entry for it. A new key first finds a slot, and all of its insertion fits.
-abbrev pub FitsAt : Limits → State → ℕ → Key → Option ℕ → Type 0
-FitsAt limits old caller key None = (old.index.used_slots < limits.slots)
-    × AllFit limits (held_on limits old caller) (pages_left limits old.index) (limits.actions old.index.bytes key) × HasEntry limits old caller key old.index.due
-FitsAt limits old caller key (Some slot) = HasEntry limits old caller key slot
-
--- if the call writes, that fits
-abbrev pub Fits : Limits → State → ℕ → TableCall → Type 0
-Fits limits old caller (Put name key value) = FitsAt limits old caller (of_table name key) (old.index.slot_of (of_table name key))
-Fits limits old caller (Del name key) = IsSeen old caller (of_table name key) → HasEntry limits old caller (of_table name key) (slot_for old.index (of_table name key))
-Fits limits old caller _ = Unit {0}
-
--- the slot's logger is full
-abbrev pub IsSlotFull : Limits → State → ℕ → Key → ℕ → ℕ → ℕ → ℕ → Type 0
-IsSlotFull limits old caller key slot g h n = (HasEntry limits old caller key slot → ⊥) × (g ≡ limits.logger_of slot) × (n ≡ 1) × (h ≡ held_on limits old caller g) × (g < limits.loggers)
-
--- Why a write of a key that has this slot, or none, is refused with this reply: the first that it lacks. A new key needs a slot, pages for
--- the splits of the index that are due, entries for each part of its insertion, and then one in the slot that is due.
-abbrev pub LacksAt : Limits → State → ℕ → Key → Option ℕ → Reply → Type 0
-LacksAt limits old caller key (Some slot) (LogFull g h n) = IsSlotFull limits old caller key slot g h n
-LacksAt limits old caller key None (SlotsFull n) = (old.index.used_slots ≡ limits.slots) × (n ≡ limits.slots)
-LacksAt limits old caller key None (PagesFull n) = (old.index.used_slots < limits.slots) × (n ≡ limits.index_pages - 1)
-    × LackPages limits (held_on limits old caller) (pages_left limits old.index) (limits.actions old.index.bytes key)
-LacksAt limits old caller key None (LogFull g h n) = (old.index.used_slots < limits.slots)
-    × (LackRoom limits (held_on limits old caller) g h n (pages_left limits old.index) (limits.actions old.index.bytes key)
-    ⊎ (AllFit limits (held_on limits old caller) (pages_left limits old.index) (limits.actions old.index.bytes key) × IsSlotFull limits old caller key old.index.due g h n))
-LacksAt limits old caller key _ _ = ⊥
-
--- Why a write is refused with this reply. A key that its caller sees has a slot, so a removal is refused only by that slot's logger.
-abbrev pub Lacks : Limits → State → ℕ → TableCall → Reply → Type 0
-Lacks limits old caller (Put name key value) reply = LacksAt limits old caller (of_table name key) (old.index.slot_of (of_table name key)) reply
-Lacks limits old caller (Del name key) reply = IsSeen old caller (of_table name key) × (slot : ℕ) × (old.index.slot_of (of_table name key) ≡ Some slot) × LacksAt limits old caller (of_table name key) (Some slot) reply
-Lacks limits old caller _ reply = ⊥
+-- What a call that writes needs, and why it is refused: the first that it lacks. To remove a record is a write if its caller sees one, and it has a slot then.
+abbrev pub room_for : Limits → State → ℕ → TableCall → Check Reply
+room_for limits old caller (Put name key value) = write_fits limits old caller (of_table name key) (old.index.slot_of (of_table name key))
+room_for limits old caller (Del name key) = unless (is_none (get (view_of old caller).table (of_table name key)))
+    (each (entry_fits limits old caller (of_table name key)) (option_to_list (old.index.slot_of (of_table name key))))
+room_for limits old caller _ = pass
 
 -- the index gains the key; a slot was left for it, and no key had the one that was due
 pub record GainsWithin (limits : Limits) (key : Key) (old new : Index) : Type 0 where
@@ -145,18 +95,14 @@ pub record TakesWithin (limits : Limits) (old new : Index) : Type 0 where
   pub most : new.next_page ≤ limits.index_pages
   pub takes : TakesPages (keys_of old) (keys_of new)
 
--- What a put makes of an index that lacks the key. If the log is full after the insertion, the key stays. If pages ran out, at most one is
--- left, or the index has as many levels as it may.
-abbrev pub Inserts : Limits → Key → Reply → Index → Index → Type 0
-Inserts limits key Fine old new = TakesWithin limits old new × GainsWithin limits key old new
-Inserts limits key (LogFull g h n) old new = TakesWithin limits old new × (KeepsKeys (keys_of old) (keys_of new) ⊎ GainsWithin limits key old new)
-Inserts limits key (PagesFull n) old new = TakesWithin limits old new × KeepsKeys (keys_of old) (keys_of new)
-    × ((n ≤ new.used_pages) ⊎ (7 ≤ new.levels key.table))
-Inserts limits key _ old new = TakesWithin limits old new × KeepsKeys (keys_of old) (keys_of new)
-
+-- What a put makes of the index, where it has this slot for the key, or lacks the key. If the log is full after the insertion, the key stays. If
+-- pages ran out, at most one is left, or the index has as many levels as it may.
 abbrev pub IndexesAt : Limits → Key → Option ℕ → Reply → Index → Index → Type 0
-IndexesAt limits key None reply old new = Inserts limits key reply old new
 IndexesAt limits key (Some slot) reply old new = new ≡ old
+IndexesAt limits key None Fine old new = TakesWithin limits old new × GainsWithin limits key old new
+IndexesAt limits key None (LogFull g h n) old new = TakesWithin limits old new × (KeepsKeys (keys_of old) (keys_of new) ⊎ GainsWithin limits key old new)
+IndexesAt limits key None (PagesFull n) old new = TakesWithin limits old new × KeepsKeys (keys_of old) (keys_of new) × ((n ≤ new.used_pages) ⊎ (7 ≤ new.levels key.table))
+IndexesAt limits key None _ old new = TakesWithin limits old new × KeepsKeys (keys_of old) (keys_of new)
 
 -- what a call makes of the index
 abbrev pub Indexes : Limits → TableCall → Reply → Index → Index → Type 0

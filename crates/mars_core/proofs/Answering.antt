@@ -30,10 +30,11 @@ use Rattle.record_table.specs.Shown.{state_of, pairs_of, keys_of}
 use Rattle.record_table.specs.Shown as shown
 use Rattle.record_table.specs.declared.fault.TableFault.{TableFault}
 use Rattle.record_table.specs.declared.fault.TableFault.TheVariants.{SlotsFull, PagesFull, SavesFull, LogFull, Media, Dead, Damaged, NoMemory}
+use Rattle.caller_steps.proofs.Fates.{Acts}
 use Rattle.caller_steps.specs.State.{State, unoffered, Index, calls_of, records_of}
 use Rattle.caller_steps.specs.Locked.{IsFree}
 use Rattle.caller_steps.specs.Room.{Limits, Indexes}
-use Rattle.caller_steps.specs.Step.{Asks, Acts, uses_index}
+use Rattle.caller_steps.specs.Step.{Asks, uses_index}
 use Rattle.caller_steps.specs.Fate.{is_refusal, is_media, is_committed}
 use Rattle.caller_steps.specs.Prefix.{HasPrefixOf}
 use Rattle.caller_steps.specs.Core.{IsSafe, Steps}

@@ -22,7 +22,7 @@ use Rattle.caller_steps.specs.State.{State, unoffered, offered, unsettled}
 use Rattle.caller_steps.specs.Offers.{may_do, is_unoffered, offerers, number_among}
 use Rattle.caller_steps.specs.Locked.{IsFree}
 use Rattle.caller_steps.specs.Room.{Limits}
-use Rattle.caller_steps.specs.Step.{StepAt, uses_index}
+use Rattle.caller_steps.specs.Step.{StepOf, uses_index}
 use Rattle.caller_steps.specs.Fate.{is_refusal}
 use Rattle.caller_steps.specs.Cause.{saves_of, misplaced, save_refusal, IsOfKind, MayMeet, TableCause, CommitCause, SettleCause, ReplyCause}
 use Rattle.caller_steps.proofs.Causing.{misplaced_cause, plain_cause}
@@ -85,7 +85,7 @@ fault_cause tells index table p s t call alive saved free (Damaged page) cause d
 fault_cause tells index table p s t call alive saved free NoMemory cause due = tt
 
 -- a call outside of a transaction
-pub absent_cause : (limits : Limits) (s : State) (t : ℕ) (call : Call) → s.is_dead ≡ false → s.live t ≡ None → s.offers t ≡ unoffered → (new : State) → StepAt limits None s t call reply.NoTransaction new → ReplyCause limits s t call reply.NoTransaction
+pub absent_cause : (limits : Limits) (s : State) (t : ℕ) (call : Call) → s.is_dead ≡ false → s.live t ≡ None → s.offers t ≡ unoffered → (new : State) → StepOf limits false unoffered None s t call reply.NoTransaction new → ReplyCause limits s t call reply.NoTransaction
 absent_cause limits s t call alive none un new at = go call at
   where
     none_takes : (is_unoffered (s.offers t) && is_some (s.live t)) ≡ false
@@ -94,7 +94,7 @@ absent_cause limits s t call alive none un new at = go call at
     none_offered : not (is_unoffered (s.offers t)) ≡ false
     none_offered = λ i. not (is_unoffered (un i))
 
-    go : (call : Call) → StepAt limits None s t call reply.NoTransaction new → ReplyCause limits s t call reply.NoTransaction
+    go : (call : Call) → StepOf limits false unoffered None s t call reply.NoTransaction new → ReplyCause limits s t call reply.NoTransaction
     go Begin at = absurd (let e = at.0 in cc)
     go (Control Purge) (inl (n, is, purges)) = absurd (cc)
     go (Control Purge) (inr (is, index, fails)) = absurd (cc)

@@ -16,12 +16,12 @@ use Rattle.history.proofs.Counting.{length-filter-front}
 use Rattle.history.proofs.OneMore.{log_of-push}
 use Rattle.history.proofs.Saves.{save_is_front}
 use Rattle.caller_steps.specs.State.{State, Index, calls_of}
-use Rattle.caller_steps.specs.Room.{Limits, is_slot_on, is_write_on, held_on, HasEntry}
-use Rattle.caller_steps.proofs.Holding.{held_apart, AreNamed, unnamed}
+use Rattle.caller_steps.specs.Room.{Limits, is_slot_on, held_on}
+use Rattle.caller_steps.proofs.Holding.{is_write_on, held_apart, AreNamed, unnamed}
 use Rattle.mars_core.specs.Kept.{HasHeld}
 use Rattle.mars_core.proofs.Indexing.{Slots}
 use Rattle.mars_core.proofs.Mirroring.{calls_here, calls_there}
-use Rattle.mars_core.proofs.Rooming.{written_room}
+use Rattle.mars_core.proofs.Rooming.{HasEntry, written_room}
 
 -- the key then has a slot, and a write of it finds an entry
 abbrev pub HasSlot : Limits → State → ℕ → Index → Key → Type 0

@@ -32,11 +32,12 @@ use Rattle.record_table.specs.Does.{Does, OpensAs}
 use Rattle.record_table.specs.Shown.{state_of}
 use Rattle.record_table.specs.declared.fault.TableFault.{TableFault}
 use Rattle.record_table.specs.declared.fault.TableFault.TheVariants as fault
+use Rattle.caller_steps.proofs.Alone.{alone_commits, alone_doubts}
+use Rattle.caller_steps.proofs.Fates.{Acts}
 use Rattle.caller_steps.specs.State.{State, Index, Offer, unoffered, calls_of, commits_of, records_of, done_by}
 use Rattle.caller_steps.proofs.Able.{takes_within}
 use Rattle.caller_steps.proofs.Offering.{more_theirs}
 use Rattle.caller_steps.specs.Room.{Settles}
-use Rattle.caller_steps.specs.Step.{Acts}
 use Rattle.caller_steps.specs.Prefix.{HasPrefix, HasPrefixOf}
 use Rattle.caller_steps.specs.Core.{IsSafe, Steps}
 use Rattle.caller_steps.proofs.Causing.{plain_cause}
@@ -165,7 +166,8 @@ module _ (tells : Bool) (Opens : Shape → List ℕ → List ℕ → Type 0) (in
 
       step : Acts (limits_of index p.store.shape p.store.depth) s t (Control Commit) (Committed (length s.history + 1)) new
       step = step_of (limits_of index p.store.shape p.store.depth) (Some calls) s new t (Control Commit) (Committed (length s.history + 1)) living_state is un
-          (inr (inl (refl, new.index, settles, λ i. record { names = names i; base = base i; history = longer i; live = live i; offers = offers i; doubt = doubt i; is_dead = dead_same i; index = new.index })))
+          (inr (inl (alone_commits calls s t un is (Committed (length s.history + 1)) new
+          (refl, new.index, settles, λ i. record { names = names i; base = base i; history = longer i; live = live i; offers = offers i; doubt = doubt i; is_dead = dead_same i; index = new.index }))))
 
       tied_new : IsTied index q new
       tied_new =
@@ -222,12 +224,12 @@ module _ (tells : Bool) (Opens : Shape → List ℕ → List ℕ → Type 0) (in
     doubtful = λ i. history i ++ doubt i
 
     step_doubt : IsTrue tells → Acts (limits_of index p.store.shape p.store.depth) s t (Control Commit) reply.Media new
-    step_doubt told = step_of (limits_of index p.store.shape p.store.depth) (Some calls) s new t (Control Commit) reply.Media living_state is un (inr (inr (
+    step_doubt told = step_of (limits_of index p.store.shape p.store.depth) (Some calls) s new t (Control Commit) reply.Media living_state is un (inr (inr (alone_doubts calls s t un is reply.Media new (
       wrote told,
       refl,
       new.index,
       λ i. record { names = names i; base = base i; history = history i; live = live i; offers = offers i; doubt = (doubt ∙ ap (λ (d : Done). d ∷ []) done_is) i; is_dead = died i; index = new.index },
-    )))
+    ))))
 
     time_doubt : IsTrue tells → LeavesOnly (HasPrefixOf (OpensWithTables (Opens q.store.shape) index new.names) new (length s.history)) p.store q.store
     time_doubt told = time_commit done done_is (Err fault.Media) does live told doubtful

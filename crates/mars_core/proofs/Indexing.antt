@@ -1,6 +1,6 @@
 -- What a call does to the index, as callers see it.
 use Rattle.std.proofs.Common.{◌≡◌, ◌≢◌, ◌≤◌, ◌⊎◌, ℕ, inl, inr, List, length, Option, Some, None, unwrap_or, Result, Ok, Err, refl, sym, ap, subst, ◌∙◌, arith}
-use Rattle.std.specs.Prelude.{IsFalse, IsSome}
+use Rattle.std.specs.Prelude.{IsFalse, IsSome, option_map}
 use Rattle.record_slots.specs.Places.{used_slots, next_page}
 use Rattle.array_shape.specs.declared.shape.Shape.{Shape}
 use Rattle.array_shape.specs.Places.{data_len}
@@ -19,12 +19,12 @@ use Rattle.record_table.specs.Does.{IndexedAt, Indexed, is_failed}
 use Rattle.record_table.specs.declared.fault.TableFault.{TableFault}
 use Rattle.record_table.specs.declared.fault.TableFault.TheVariants.{SlotsFull, PagesFull, SavesFull, LogFull, Media, Dead, Damaged, NoMemory}
 use Rattle.caller_steps.specs.State.{Index, keys_of}
-use Rattle.caller_steps.specs.Room.{Limits, GainsWithin, TakesWithin, Inserts, IndexesAt, Indexes}
+use Rattle.caller_steps.specs.Room.{Limits, GainsWithin, TakesWithin, IndexesAt, Indexes}
 use Rattle.caller_steps.proofs.AtKeys.{at_key, at_other_key}
 use Rattle.history.proofs.Keys.{cases_key}
 use Rattle.record_slots.specs.Names.{number_of}
 use Rattle.mars_core.specs.TableCall.{number_for}
-use Rattle.mars_core.specs.Over.{limits_of, level_of, index_with}
+use Rattle.mars_core.specs.Over.{limits_of, index_with}
 use Rattle.record_table.specs.Faults.{reply_to}
 
 -- no more slots are in use, and no more pages given out, than an array of this shape has
@@ -43,6 +43,10 @@ InsertsNone keys call = Unit {0}
 
 some_none : {X : Type 0} (slot : ℕ) → Some slot ≡ None → X
 some_none slot e = absurd (cc)
+
+-- how many levels of inner pages the index of this table has; none if there is no such table
+abbrev level_of : Keys → Option ℕ → ℕ
+level_of keys o = unwrap_or (option_map keys.levels o) 0
 
 module _ (index : below.Index) (shape : Shape) (depth table : ℕ) (names : List (List ℕ)) (a b : List ℕ) (old new : Keys) (within : IsWithin shape new)
     (once : (one other : Key) (slot : ℕ) → new.slot_of one ≡ Some slot → new.slot_of other ≡ Some slot → one ≡ other) where
@@ -115,7 +119,7 @@ module _ (index : below.Index) (shape : Shape) (depth table : ℕ) (names : List
 abbrev pub Slots : Limits → Index → Index → Type 0
 Slots limits old new = (new.slot_of ≡ old.slot_of) ⊎ ((key : Key) × (old.slot_of key ≡ None) × GainsWithin limits key old new)
 
-inserts_slots : (limits : Limits) (key : Key) (answer : Reply) (old new : Index) → old.slot_of key ≡ None → Inserts limits key answer old new → Slots limits old new
+inserts_slots : (limits : Limits) (key : Key) (answer : Reply) (old new : Index) → old.slot_of key ≡ None → IndexesAt limits key None answer old new → Slots limits old new
 inserts_slots limits key Fine old new none (t, k) = inr (key, none, k)
 inserts_slots limits key (reply.LogFull g h n) old new none (t, inl k) = inl k.slot_of
 inserts_slots limits key (reply.LogFull g h n) old new none (t, inr k) = inr (key, none, k)

@@ -1,6 +1,6 @@
 -- A core after a purge.
 use Rattle.std.proofs.Common.{◌≡◌, ℕ, zero, suc, ◌<◌, ◌≤◌, ◌⊎◌, ◌++◌, inl, inr, Bool, true, false, cond, ◌||◌, IsTrue, List, [], ◌∷◌, length, filter, Result, Ok, Err, refl, sym, ◌∙◌, ap, subst, arith}
-use Rattle.std.specs.Prelude.{Option, Some, None, is_some, not, IsSome, IsFalse, slice_get, map, if◌then◌else◌}
+use Rattle.std.specs.Prelude.{Option, Some, None, is_some, is_none, not, unwrap_or, option_map, IsSome, IsFalse, slice_get, map, if◌then◌else◌}
 use Rattle.std.specs.FinMap.{get}
 use Rattle.std.specs.List.{list_any}
 use Rattle.std.specs.Map.{update}
@@ -23,6 +23,7 @@ use Rattle.record_slots.specs.declared.super_page.TableEntry.{TableEntry}
 use Rattle.record_table.specs.Names.{names_of}
 use Rattle.record_table.specs.Faults.{reply_to}
 use Rattle.record_table.proofs.Joint.{tables_apart}
+use Rattle.caller_steps.proofs.Holding.{is_write_on}
 use Rattle.caller_steps.proofs.AtKeys.{at_other_key}
 use Rattle.history.specs.Log.{log_of}
 use Rattle.history.specs.Rows.{NamedRows}
@@ -46,18 +47,17 @@ use Rattle.mars_core.proofs.Saving.{saves_same}
 use Rattle.caller_steps.specs.Prefix.{HasPrefixOf}
 use Rattle.caller_steps.specs.Purging as face
 use Rattle.caller_steps.specs.Purging.{Try, IsTouched, IsTried, Becomes, Lost, PurgeCause}
-use Rattle.caller_steps.proofs.Trying.{each_as}
+use Rattle.caller_steps.proofs.Trying.{lost_count, each_as}
 use Rattle.caller_steps.specs.Offers.{is_unoffered, is_engaged}
 use Rattle.caller_steps.specs.Fate.{is_busy, is_media, Moves}
 use Rattle.caller_steps.specs.Run.{is_purge}
-use Rattle.caller_steps.specs.Step.{Acts}
 use Rattle.caller_steps.proofs.Fates as fates
-use Rattle.caller_steps.proofs.Fates.{fate_moves}
-use Rattle.caller_steps.specs.Room.{Limits, is_slot_on, is_write_on, held_on}
+use Rattle.caller_steps.proofs.Fates.{Acts, fate_moves}
+use Rattle.caller_steps.specs.Room.{Limits, is_slot_on, held_on}
 use Rattle.caller_steps.specs.State.{State, Index, unoffered}
 use Rattle.mars_core.specs.Held.{core_over, state_at}
 use Rattle.mars_core.specs.Kept.{IsTied, IsKept}
-use Rattle.mars_core.specs.Over.{limits_of, index_of, keeps_at, keeps_in, OpensWithTables}
+use Rattle.mars_core.specs.Over.{limits_of, index_of, keeps_in, OpensWithTables}
 use Rattle.mars_core.specs.Purging.{IsOfFirst, IsTouchedIn, Keeps, AreFreeIn, Tried, Trail, IsReady, ClearCause, Clears}
 use Rattle.mars_core.specs.Seats.{Seats, live_in, offers_in, calls_at}
 use Rattle.mars_core.proofs.Answered.{fault_plain}
@@ -110,6 +110,10 @@ numbered index laws bytes sound table name called = first_is (names_of bytes) na
     let one = entry_at (tables_of bytes) k name again in
     let other = entry_at (tables_of bytes) table name called in
     tables_apart bytes (laws.counts bytes sound) k table one.0 other.0 lt one.1 other.1 (one.2 ∙ sym other.2))
+
+-- the index of the table with this number, if there is one, keeps the pair of the key
+abbrev keeps_at : below.Index → List ℕ → ℕ → Option ℕ → Bool
+keeps_at index bytes key o = unwrap_or (option_map (λ table. is_none (removal_in index table bytes key)) o) false
 
 -- a key that an index keeps is one of those that callers know to be kept
 keeps_told : (index : below.Index) (laws : Laws index) (bytes : List ℕ) → index.sound bytes → (key : Key) → Keeps index bytes key → keeps_in index bytes key ≡ true
@@ -303,7 +307,7 @@ module _ (tells : Bool) (Opens : Shape → List ℕ → List ℕ → Type 0) (in
                   cleared.all key (at.0, subst (λ (ns : List (List ℕ)). at.0 < length ns) ready_then.named at.1, ap (λ (ns : List (List ℕ)). slice_get ns at.0) (sym ready_then.named) ∙ at.2, small)
                   (there, ap (λ (x : TableState). get x.table key) (clears.spares.state told refl) ∙ (was_absent told key is).1))
             ];
-            count = cleared.count ∙ ap length cleared.keys_are;
+            count = cleared.count ∙ ap length cleared.keys_are ∙ sym (lost_count cleared.tried);
             index = index_of index q.store.state.bytes;
             trail = tries_so p.store.state.bytes q.store.state.bytes cleared.tried cleared.trail;
             same = still (Ok n) refl clears;

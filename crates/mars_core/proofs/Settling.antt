@@ -32,16 +32,17 @@ use Rattle.record_table.specs.declared.fault.TableFault.TheVariants as fault
 use Rattle.record_slots.specs.Names.{names_in}
 use Rattle.caller_steps.specs.State.{State, Index, Offer, unoffered, offered, unsettled, calls_of, with_live, with_offer}
 use Rattle.caller_steps.specs.Offers.{may_do, is_unoffered, offerers, group_in, group_end, number_among, group_writes, without, committed_group, doubted_group}
-use Rattle.caller_steps.specs.Room.{Limits, Settles, is_write_on, held_on}
-use Rattle.caller_steps.specs.Step.{Acts, StepAt, StepIf, StepBy}
+use Rattle.caller_steps.specs.Room.{Limits, Settles, held_on}
+use Rattle.caller_steps.specs.Step.{StepOf}
 use Rattle.caller_steps.specs.Fate.{is_refusal, is_media, is_committed, Moves}
 use Rattle.caller_steps.specs.Prefix.{HasPrefix, HasPrefixOf}
 use Rattle.caller_steps.specs.Purging.{PurgeCause}
 use Rattle.caller_steps.specs.Core.{IsSafe, Steps}
 use Rattle.caller_steps.specs.Cause.{misplaced, ReplyCause}
+use Rattle.caller_steps.proofs.Holding.{is_write_on}
 use Rattle.caller_steps.proofs.Causing.{misplaced_cause, plain_cause}
 use Rattle.caller_steps.proofs.Able.{takes_within}
-use Rattle.caller_steps.proofs.Fates.{given, settled, unsure, told, fate_moves}
+use Rattle.caller_steps.proofs.Fates.{Acts, given, settled, unsure, told, fate_moves}
 use Rattle.caller_steps.proofs.Sound.{acts_sound, history_whole}
 use Rattle.caller_steps.proofs.Offering.{is_in, offerers_once, group_names, group_base, group_doubt, group_dead, group_history, group_apart, without_names, without_base, without_history}
 use Rattle.caller_steps.proofs.Grouped.{group_whole}
@@ -62,9 +63,9 @@ same_writes b s logs [] = refl
 same_writes b s logs (t ∷ ts) = λ i. (logs t i).writes ++ same_writes b s logs ts i
 
 -- a step of a core that is not dead, by a caller that has offered this
-pub step_by : (limits : Limits) (offer : Offer) (s new : State) (t : ℕ) (call : Call) (answer : Reply) → s.is_dead ≡ false → s.offers t ≡ offer → StepBy limits offer s t call answer new → Acts limits s t call answer new
+pub step_by : (limits : Limits) (offer : Offer) (s new : State) (t : ℕ) (call : Call) (answer : Reply) → s.is_dead ≡ false → s.offers t ≡ offer → StepOf limits false offer (s.live t) s t call answer new → Acts limits s t call answer new
 step_by limits offer s new t call answer alive is by =
-    subst (λ (b : Bool). StepIf limits b s t call answer new) (sym alive) (subst (λ (o : Offer). StepBy limits o s t call answer new) (sym is) by)
+    subst (λ (x : Bool × Offer). StepOf limits x.0 x.1 (s.live t) s t call answer new) (λ i. (sym alive i, sym is i)) by
 
 module _ (tells : Bool) (Opens : Shape → List ℕ → List ℕ → Type 0) (index : below.Index) (one : (shape : Shape) (image a b : List ℕ) → Opens shape image a → Opens shape image b → a ≡ b)
     (p q : PagesView) (old_laws : StoreLaws tells Opens p.store) (new_laws : StoreLaws tells Opens q.store) (s new : State) (shows : ShowsPages index p s) (shows_new : ShowsPages index q new)
@@ -323,7 +324,7 @@ module _ (tells : Bool) (Opens : Shape → List ℕ → List ℕ → Type 0) (in
 -- Calls that are refused because of what their callers have offered.
 module _ (tells : Bool) (Opens : Shape → List ℕ → List ℕ → Type 0) (index : below.Index) (p : PagesView) (s : State) (shows : ShowsPages index p s) (safe : IsTrue tells → IsSafe (core_over Opens index p.store s) p.store.moment (length s.history)) (alive : IsAlive p.store)
     (t : ℕ) where
-  closed_steps : (offer : Offer) (asked : Call) (answer : Reply) → s.offers t ≡ offer → StepBy (limits_of index p.store.shape p.store.depth) offer s t asked answer s → is_refusal answer ≡ true → is_media answer ≡ false → is_committed answer ≡ false → may_do s t asked ≡ false → answer ≡ misplaced asked
+  closed_steps : (offer : Offer) (asked : Call) (answer : Reply) → s.offers t ≡ offer → StepOf (limits_of index p.store.shape p.store.depth) false offer (s.live t) s t asked answer s → is_refusal answer ≡ true → is_media answer ≡ false → is_committed answer ≡ false → may_do s t asked ≡ false → answer ≡ misplaced asked
       → Steps tells t asked (core_over Opens index p.store s) (core_over Opens index p.store s) answer
   closed_steps offer asked answer has by refusal sure plain may kind =
       steps_same tells Opens index p s s t asked answer refl safe refusal sure plain (misplaced_cause (limits_of index p.store.shape p.store.depth) s t asked (shows.dead ∙ alive) may answer kind) (λ told. step_by (limits_of index p.store.shape p.store.depth) offer s s t asked answer (shows.dead ∙ alive) has by)
@@ -341,7 +342,7 @@ module _ (tells : Bool) (Opens : Shape → List ℕ → List ℕ → Type 0) (in
   pub offered_asks : s.offers t ≡ offered → (asked : Call) → (asked ≡ call.Begin → ⊥) → (asked ≡ call.Control control.Settle → ⊥) → (asked ≡ call.Control control.Purge → ⊥) → Steps tells t asked (core_over Opens index p.store s) (core_over Opens index p.store s) reply.NoTransaction
   offered_asks has asked begin settle purge = closed_steps offered asked reply.NoTransaction has (by asked begin settle purge) refl refl refl (closed_may s t offered has refl asked settle) (misplaced_is asked begin purge)
     where
-      by : (asked : Call) → (asked ≡ call.Begin → ⊥) → (asked ≡ call.Control control.Settle → ⊥) → (asked ≡ call.Control control.Purge → ⊥) → StepBy (limits_of index p.store.shape p.store.depth) offered s t asked reply.NoTransaction s
+      by : (asked : Call) → (asked ≡ call.Begin → ⊥) → (asked ≡ call.Control control.Settle → ⊥) → (asked ≡ call.Control control.Purge → ⊥) → StepOf (limits_of index p.store.shape p.store.depth) false offered (s.live t) s t asked reply.NoTransaction s
       by call.Begin begin settle purge = absurd (begin refl)
       by (call.Control control.Settle) begin settle purge = absurd (settle refl)
       by (call.Control control.Purge) begin settle purge = absurd (purge refl)
@@ -360,7 +361,7 @@ module _ (tells : Bool) (Opens : Shape → List ℕ → List ℕ → Type 0) (in
   pub unsettled_asks : (n : ℕ) → s.offers t ≡ unsettled n → (asked : Call) → (asked ≡ call.Begin → ⊥) → (asked ≡ call.Control control.Settle → ⊥) → (asked ≡ call.Control control.Purge → ⊥) → Steps tells t asked (core_over Opens index p.store s) (core_over Opens index p.store s) reply.NoTransaction
   unsettled_asks n has asked begin settle purge = closed_steps (unsettled n) asked reply.NoTransaction has (by asked begin settle purge) refl refl refl (closed_may s t (unsettled n) has refl asked settle) (misplaced_is asked begin purge)
     where
-      by : (asked : Call) → (asked ≡ call.Begin → ⊥) → (asked ≡ call.Control control.Settle → ⊥) → (asked ≡ call.Control control.Purge → ⊥) → StepBy (limits_of index p.store.shape p.store.depth) (unsettled n) s t asked reply.NoTransaction s
+      by : (asked : Call) → (asked ≡ call.Begin → ⊥) → (asked ≡ call.Control control.Settle → ⊥) → (asked ≡ call.Control control.Purge → ⊥) → StepOf (limits_of index p.store.shape p.store.depth) false (unsettled n) (s.live t) s t asked reply.NoTransaction s
       by call.Begin begin settle purge = absurd (begin refl)
       by (call.Control control.Settle) begin settle purge = absurd (settle refl)
       by (call.Control control.Purge) begin settle purge = absurd (purge refl)
@@ -370,6 +371,6 @@ module _ (tells : Bool) (Opens : Shape → List ℕ → List ℕ → Type 0) (in
   pub open_settles : s.offers t ≡ unoffered → Steps tells t (call.Control control.Settle) (core_over Opens index p.store s) (core_over Opens index p.store s) reply.NoTransaction
   open_settles un = closed_steps unoffered (call.Control control.Settle) reply.NoTransaction un (by (s.live t)) refl refl refl (ap (λ (o : Offer). not (is_unoffered o)) un) refl
     where
-      by : (live : Option Granted) → StepAt (limits_of index p.store.shape p.store.depth) live s t (call.Control control.Settle) reply.NoTransaction s
+      by : (live : Option Granted) → StepOf (limits_of index p.store.shape p.store.depth) false unoffered live s t (call.Control control.Settle) reply.NoTransaction s
       by None = (refl, refl)
       by (Some calls) = (refl, refl)

@@ -22,4 +22,4 @@ module _ (tells : Bool) (Opens : List ℕ → List ℕ → Type 0) (index : belo
   }
 
   pub begun_shown : IsShown core.limits core.state
-  begun_shown = subst (λ (limits : Limits). IsShown limits core.state) (sym begins.over.limits) (record { names = begun_has.names; table = begun_has.table; index = sym begun_has.keys })
+  begun_shown = subst (λ (limits : Limits). IsShown limits core.state) (sym begins.over.limits) (λ i. (begun_has.names i, begun_has.table i, sym begun_has.keys i))

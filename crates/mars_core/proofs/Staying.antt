@@ -3,7 +3,7 @@ use Rattle.std.proofs.Common.{◌≡◌, ◌≤◌, ◌<◌, ℕ, inl, inr, Bool
 use Rattle.std.specs.Prelude.{is_some}
 use Rattle.std.specs.Map.{update}
 use Rattle.std.proofs.lemmas.Map.{update_here, update_apart}
-use Rattle.std.proofs.lemmas.Bool.{cases_eq, false≢true, false_from_ne_true, ltb-true, leb-true}
+use Rattle.std.proofs.lemmas.Bool.{cases_eq, false≢true, true≢false, false_from_ne_true, ltb-true, leb-true}
 use Rattle.mars_base.proofs.Going.{stays}
 use Rattle.array_shape.specs.declared.shape.Shape.{Shape}
 use Rattle.eaw_face.specs.Causes.{IsAlive}
@@ -20,13 +20,14 @@ use Rattle.history.specs.declared.call.TableCall.TheVariants.{Get, Put, Del, Sca
 use Rattle.history.specs.declared.call.Reply.{Reply}
 use Rattle.history.specs.declared.call.Reply.TheVariants.{Fine, Busy, NoMemory, SavesFull, NoSave, NoTransaction, NoTable}
 use Rattle.record_table.specs.Shown.{state_of}
+use Rattle.caller_steps.proofs.Fates.{Acts}
 use Rattle.caller_steps.specs.State.{State, unoffered, calls_of, commits_of, records_of, view_of, with_live}
 use Rattle.caller_steps.specs.Offers.{may_do}
 use Rattle.caller_steps.specs.Cause.{saves_of, save_refusal}
 use Rattle.caller_steps.proofs.Able.{takes_within, free_outside}
 use Rattle.caller_steps.proofs.Causing.{save_cause, table_cause, call_cause, plain_cause}
 use Rattle.caller_steps.specs.Locked.{Blocks, IsFree, IsBusyWith}
-use Rattle.caller_steps.specs.Step.{Acts, StepAt}
+use Rattle.caller_steps.specs.Step.{StepOf}
 use Rattle.caller_steps.specs.Fate.{is_refusal, is_media, is_committed}
 use Rattle.caller_steps.specs.Core.{IsSafe, Steps}
 use Rattle.caller_steps.proofs.Sound.{acts_sound}
@@ -114,11 +115,16 @@ module _ (tells : Bool) (Opens : Shape → List ℕ → List ℕ → Type 0) (in
 
     save_step : (c : TableCall) (answer : Reply) → IsSaveRefusal (length (p.counts t)) c answer → Acts (limits_of index p.store.shape p.store.depth) s t (OnTable c) answer s
     save_step Save answer refused = subst (λ (r : Reply). Acts (limits_of index p.store.shape p.store.depth) s t (OnTable Save) r s) (sym refused.1)
-        (step_of (limits_of index p.store.shape p.store.depth) (Some calls) s s t (OnTable Save) SavesFull (shows.dead ∙ alive) is un (inl (omega (arith, refused.0, counts_is index p t, saved_is), (refl, refl))))
+        (step_of (limits_of index p.store.shape p.store.depth) (Some calls) s s t (OnTable Save) SavesFull (shows.dead ∙ alive) is un (inl ((λ few. omega (arith, few, refused.0, counts_is index p t, saved_is), refl), refl)))
     save_step (Back n) answer refused = subst (λ (r : Reply). Acts (limits_of index p.store.shape p.store.depth) s t (OnTable (Back n)) r s) (sym refused.1)
         (step_of (limits_of index p.store.shape p.store.depth) (Some calls) s s t (OnTable (Back n)) (NoSave n) (shows.dead ∙ alive) is un (inl (
-          has_saves (state_of index p) s tied.mirrors t (tied.sound.right t) n ∙ no_saves (((state_of index p).logs t).saved) n (subst (λ (k : ℕ). (0 < n) × (n ≤ k) → ⊥) (sym (counts_is index p t)) refused.0),
-          (refl, refl),
+          (
+            λ there. true≢false
+                (sym there ∙ has_saves (state_of index p) s tied.mirrors t (tied.sound.right t) n
+                ∙ no_saves (((state_of index p).logs t).saved) n (subst (λ (k : ℕ). (0 < n) × (n ≤ k) → ⊥) (sym (counts_is index p t)) refused.0)),
+            refl,
+          ),
+          refl,
         )))
     save_step _ answer refused = absurd refused
 
@@ -151,11 +157,11 @@ module _ (tells : Bool) (Opens : Shape → List ℕ → List ℕ → Type 0) (in
     table_refused none = steps_same tells Opens index p s new t (OnTable call) NoTable same kept.safe refl refl refl (table_cause (limits_of index p.store.shape p.store.depth) s t call (shows.dead ∙ alive) may saved (has_none s.names call none)) (λ told.
         step_of (limits_of index p.store.shape p.store.depth) (Some calls) s s t (OnTable call) NoTable (shows.dead ∙ alive) is un (none_at call none))
       where
-        none_at : (c : TableCall) → number_for s.names c ≡ None → StepAt (limits_of index p.store.shape p.store.depth) (Some calls) s t (OnTable c) NoTable s
-        none_at (Get name key) none = inl (ap is_some none, (refl, refl))
-        none_at (Put name key value) none = inl (ap is_some none, (refl, refl))
-        none_at (Del name key) none = inl (ap is_some none, (refl, refl))
-        none_at (Scan name low high) none = inl (ap is_some none, (refl, refl))
+        none_at : (c : TableCall) → number_for s.names c ≡ None → StepOf (limits_of index p.store.shape p.store.depth) false unoffered (Some calls) s t (OnTable c) NoTable s
+        none_at (Get name key) none = inl ((λ there. true≢false (sym there ∙ ap is_some none), refl), refl)
+        none_at (Put name key value) none = inl ((λ there. true≢false (sym there ∙ ap is_some none), refl), refl)
+        none_at (Del name key) none = inl ((λ there. true≢false (sym there ∙ ap is_some none), refl), refl)
+        none_at (Scan name low high) none = inl ((λ there. true≢false (sym there ∙ ap is_some none), refl), refl)
         none_at Save none = absurd (cc)
         none_at (Back n) none = absurd (cc)
 
@@ -233,7 +239,7 @@ module _ (tells : Bool) (Opens : Shape → List ℕ → List ℕ → Type 0) (in
 
 -- a call outside of a transaction
 pub absent_steps : (tells : Bool) (Opens : Shape → List ℕ → List ℕ → Type 0) (index : below.Index) (p : PagesView) (s : State) → ShowsPages index p s → (count : ℕ) (rows : List NamedRows) → IsKept tells Opens index p count rows s
-    → IsAlive p.store → (t : ℕ) (call : Call) → s.live t ≡ None → s.offers t ≡ unoffered → StepAt (limits_of index p.store.shape p.store.depth) None s t call NoTransaction s → (new : State) → new ≡ s
+    → IsAlive p.store → (t : ℕ) (call : Call) → s.live t ≡ None → s.offers t ≡ unoffered → StepOf (limits_of index p.store.shape p.store.depth) false unoffered None s t call NoTransaction s → (new : State) → new ≡ s
     → Steps tells t call (core_over Opens index p.store s) (core_over Opens index p.store new) NoTransaction
 absent_steps tells Opens index p s shows count rows kept alive t call none un at new same = steps_same tells Opens index p s new t call NoTransaction same kept.safe refl refl refl (absent_cause (limits_of index p.store.shape p.store.depth) s t call (shows.dead ∙ alive) none un s at) (λ told.
     step_of (limits_of index p.store.shape p.store.depth) None s s t call NoTransaction (shows.dead ∙ alive) none un at)

@@ -30,11 +30,12 @@ use Rattle.record_table.specs.State.{seen_by}
 use Rattle.record_table.specs.Does.{OpensAs}
 use Rattle.record_table.specs.Shown.{state_of, pairs_of, keys_of, held_on, is_write_on}
 use Rattle.record_table.specs.Shown as shown
+use Rattle.caller_steps.proofs.Fates.{Acts}
 use Rattle.caller_steps.specs.State as state
 use Rattle.caller_steps.specs.State.{State, Index, unoffered, calls_of, commits_of, records_of, view_of}
 use Rattle.caller_steps.proofs.Able.{takes_within}
-use Rattle.caller_steps.specs.Room.{Limits, IsShown, HasEntry, IndexesAt, Indexes}
-use Rattle.caller_steps.specs.Step.{Asks, StepAt, StepBy, StepIf, Acts, most_saves}
+use Rattle.caller_steps.specs.Room.{Limits, IsShown, IndexesAt, Indexes}
+use Rattle.caller_steps.specs.Step.{Asks, StepOf, most_saves}
 use Rattle.caller_steps.specs.Fate.{Moves, is_refusal, is_media, is_committed, committed_by, live_with}
 use Rattle.caller_steps.specs.Prefix.{HasPrefix, HasPrefixOf}
 use Rattle.caller_steps.specs.Core.{IsSafe, Steps}
@@ -108,10 +109,9 @@ moves_granted callers s new t calls call answer names base history dead offers u
 }
 
 -- a step of a core that is not dead, by a caller with these calls, which has offered nothing
-pub step_of : (limits : Limits) (calls : Option Granted) (s new : State) (t : ℕ) (call : Call) (answer : Reply) → s.is_dead ≡ false → s.live t ≡ calls → s.offers t ≡ unoffered → StepAt limits calls s t call answer new → Acts limits s t call answer new
+pub step_of : (limits : Limits) (calls : Option Granted) (s new : State) (t : ℕ) (call : Call) (answer : Reply) → s.is_dead ≡ false → s.live t ≡ calls → s.offers t ≡ unoffered → StepOf limits false unoffered calls s t call answer new → Acts limits s t call answer new
 step_of limits calls s new t call answer alive is un at =
-    subst (λ (b : Bool). StepIf limits b s t call answer new) (sym alive)
-    (subst (λ (o : state.Offer). StepBy limits o s t call answer new) (sym un) (subst (λ (o : Option Granted). StepAt limits o s t call answer new) (sym is) at))
+    subst (λ (x : Bool × state.Offer × Option Granted). StepOf limits x.0 x.1 x.2 s t call answer new) (λ i. (sym alive i, sym un i, sym is i)) at
 
 -- the caller sees the saves that its call needs
 abbrev pub SavesAt : State → ℕ → TableCall → Type 0
@@ -119,7 +119,7 @@ SavesAt s t Save = length (view_of s t).saves < most_saves
 SavesAt s t (Back n) = IsTrue (has_save (view_of s t).saves n)
 SavesAt s t _ = Unit {0}
 
-pub asks_at : (limits : Limits) (calls : Granted) (s new : State) (t : ℕ) (call : TableCall) (answer : Reply) → has_table s.names call ≡ true → SavesAt s t call → Asks limits calls s t call answer new → StepAt limits (Some calls) s t (OnTable call) answer new
+pub asks_at : (limits : Limits) (calls : Granted) (s new : State) (t : ℕ) (call : TableCall) (answer : Reply) → has_table s.names call ≡ true → SavesAt s t call → Asks limits calls s t call answer new → StepOf limits false unoffered (Some calls) s t (OnTable call) answer new
 asks_at limits calls s new t Save answer there saves asks = inr (saves, asks)
 asks_at limits calls s new t (Back n) answer there saves asks = inr (saves, asks)
 asks_at limits calls s new t _ answer there saves asks = inr (there, asks)
@@ -137,7 +137,7 @@ shows_tied index q new indexed tied =
 
 -- what the data of a state says is what it shows
 shown_by : (index : below.Index) (shape : Shape) (depth : ℕ) (s : State) → ShowsAll index s → IsShown (limits_of index shape depth) s
-shown_by index shape depth s shows = record { names = shows.names; table = shows.table; index = sym shows.keys }
+shown_by index shape depth s shows = λ i. (shows.names i, shows.table i, sym shows.keys i)
 
 -- a call that leaves the state as it was, or one that its data shows
 abbrev LeavesShown : Bool → below.Index → State → State → Type 0

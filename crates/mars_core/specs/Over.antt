@@ -1,5 +1,5 @@
 -- A core over a store: what it shows of it, and how it begins.
-use Rattle.std.specs.Prelude.{ℕ, ◌≡◌, Bool, false, not, IsTrue, List, [], map, filter, length, Option, Some, None, is_some}
+use Rattle.std.specs.Prelude.{ℕ, ◌≡◌, Bool, false, IsTrue, List, [], map, filter, length, None, is_none, unwrap_or, option_map}
 use Rattle.array_shape.specs.declared.shape.Shape.{Shape}
 use Rattle.eaw_face.specs.State.{listed}
 use Rattle.eaw_face.specs.StoreView.{StoreView, LeavesOnly}
@@ -20,37 +20,23 @@ use Rattle.record_table.specs.Upgrading.{upgraded, OpensUpgraded}
 use Rattle.caller_steps.specs.State as face
 use Rattle.caller_steps.specs.Room as room
 use Rattle.caller_steps.specs.State.{unoffered, opened, records_of, view_of}
-use Rattle.caller_steps.specs.Room.{Limits, Said}
+use Rattle.caller_steps.specs.Room.{Limits}
 use Rattle.caller_steps.specs.Core.{CoreView}
 use Rattle.eaw_face.specs.Mirroring.{Mirrors}
 
--- the index of the table with this number, if there is one, keeps the pair of the key, as the last of its page
-abbrev pub keeps_at : Index → List ℕ → ℕ → Option ℕ → Bool
-keeps_at index bytes key None = false
-keeps_at index bytes key (Some table) = not (is_some (removal_in index table bytes key))
-
--- so it is with a key of a table of this data
+-- the index of the table of a key keeps the pair of the key, as the last of its page; none does if this data has no such table
 abbrev pub keeps_in : Index → List ℕ → Key → Bool
-keeps_in index bytes key = keeps_at index bytes key.key (number_of (names_of bytes) key.table)
+keeps_in index bytes key = unwrap_or (option_map (λ table. is_none (removal_in index table bytes key.key)) (number_of (names_of bytes) key.table)) false
 
 -- the actions of an insertion, as callers count them: a part in each of its pages, which are dealt to the loggers by turns
 abbrev pub actions_as : Shape → List below.Action → List room.Action
 actions_as shape actions = map (λ (action : below.Action). record { takes = action.takes; needs = λ g. length (filter (is_page_on shape.loggers g) action.pages) }) actions
 
-abbrev pub actions_at : Index → Shape → List ℕ → ℕ → Option ℕ → List room.Action
-actions_at index shape bytes key None = []
-actions_at index shape bytes key (Some table) = actions_as shape (actions_in index bytes table key)
-
 -- those of a key of a table of this data
 abbrev pub actions_for : Index → Shape → List ℕ → Key → List room.Action
-actions_for index shape bytes key = actions_at index shape bytes key.key (number_of (names_of bytes) key.table)
+actions_for index shape bytes key = unwrap_or (option_map (λ table. actions_as shape (actions_in index bytes table key.key)) (number_of (names_of bytes) key.table)) []
 
--- how many levels of inner pages the index of this table has; none if there is no such table
-abbrev pub level_of : Keys → Option ℕ → ℕ
-level_of keys None = 0
-level_of keys (Some table) = keys.levels table
-
--- the indexes of all tables of these names
+-- the indexes of all tables of these names; a name of no table has no levels of inner pages
 abbrev pub index_with : List (List ℕ) → List ℕ → Keys → face.Index
 index_with names bytes keys = record {
   slot_of = keys.slot_of;
@@ -58,17 +44,13 @@ index_with names bytes keys = record {
   used_slots = keys.used_slots;
   used_pages = keys.used_pages;
   next_page = keys.next_page;
-  levels = λ name. level_of keys (number_of names name);
+  levels = λ name. unwrap_or (option_map keys.levels (number_of names name)) 0;
   bytes = bytes;
 }
 
 -- the indexes of all tables in the data, and the data, as callers see them
 abbrev pub index_of : Index → List ℕ → face.Index
 index_of index bytes = index_with (names_of bytes) bytes (keys_of index bytes)
-
--- what the data says: the names, the records and the indexes of its tables
-abbrev pub said_in : Index → List ℕ → Said
-said_in index bytes = record { names = names_of bytes; table = table_of index bytes; index = index_of index bytes }
 
 -- the limits of an array of this shape, where so many commits may wait for their write-back, under an index
 abbrev pub limits_of : Index → Shape → ℕ → Limits
@@ -82,7 +64,7 @@ limits_of index shape depth = record {
   logger_of = logger_of_slot shape;
   keeps = keeps_in index;
   actions = actions_for index shape;
-  says = said_in index;
+  says = λ bytes. (names_of bytes, table_of index bytes, index_of index bytes);
 }
 
 -- the data of a state shows it: under the index it is sound, and it has the names, the records and the keys

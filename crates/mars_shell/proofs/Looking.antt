@@ -31,7 +31,7 @@ use Rattle.caller_steps.specs.State as state
 use Rattle.caller_steps.specs.State.{State, unoffered, records_of, calls_of, with_live}
 use Rattle.caller_steps.specs.Locked.{IsBusyWith}
 use Rattle.caller_steps.specs.Room.{Limits}
-use Rattle.caller_steps.specs.Step.{StepAt, StepBy, StepIf, Step}
+use Rattle.caller_steps.specs.Step.{StepOf, Step}
 use Rattle.mars_core.specs.Over.{ShowsAll}
 use Rattle.mars_shell.specs.Lines.{goes_on}
 use Rattle.mars_shell.specs.Drill.{last_key}
@@ -97,8 +97,7 @@ module _ (limits : Limits) (old : State) (alive : old.is_dead ≡ false) (none :
 
   -- the caller begins,
   pub begins : (reply : Reply) (mid : State) → Step limits old 0 Begin reply mid → (reply ≡ told.Fine) × (mid ≡ with_live old 0 (Some []))
-  begins reply mid step = subst (λ (o : Option Granted). StepAt limits o old 0 Begin reply mid) (none 0)
-      (subst (λ (o : state.Offer). StepBy limits o old 0 Begin reply mid) (free 0) (subst (λ (b : Bool). StepIf limits b old 0 Begin reply mid) alive step.acts))
+  begins reply mid step = subst (λ (x : Bool × state.Offer × Option Granted). StepOf limits x.0 x.1 x.2 old 0 Begin reply mid) (λ i. (alive i, free 0 i, none 0 i)) step.acts
 
   nobody_else : (holder : ℕ) → holder ≢ 0 → calls_of (with_live old 0 (Some [])) holder ≡ []
   nobody_else holder apart = ap (λ (o : Option Granted). unwrap_or o []) (update_apart old.live 0 (Some []) holder apart ∙ none holder)
@@ -111,13 +110,12 @@ module _ (limits : Limits) (old : State) (alive : old.is_dead ≡ false) (none :
   -- and all records of `main` are listed
   module _ (there : IsTrue (has_table old.names (Scan main_name 0 last_key))) (whole : rows_within main_name 0 last_key (records_of old) ≡ rows_of main_name (records_of old)) (reply : Reply) (new : State) (goes : IsTrue (goes_on reply))
       (step : Step limits (with_live old 0 (Some [])) 0 (OnTable (Scan main_name 0 last_key)) reply new) where
-    scan_acts : StepAt limits (Some []) (with_live old 0 (Some [])) 0 (OnTable (Scan main_name 0 last_key)) reply new
-    scan_acts = subst (λ (o : Option Granted). StepAt limits o (with_live old 0 (Some [])) 0 (OnTable (Scan main_name 0 last_key)) reply new) (update_here old.live 0 (Some []))
-        (subst (λ (o : state.Offer). StepBy limits o (with_live old 0 (Some [])) 0 (OnTable (Scan main_name 0 last_key)) reply new) (free 0)
-        (subst (λ (b : Bool). StepIf limits b (with_live old 0 (Some [])) 0 (OnTable (Scan main_name 0 last_key)) reply new) alive step.acts))
+    scan_acts : StepOf limits false unoffered (Some []) (with_live old 0 (Some [])) 0 (OnTable (Scan main_name 0 last_key)) reply new
+    scan_acts = subst (λ (x : Bool × state.Offer × Option Granted). StepOf limits x.0 x.1 x.2 (with_live old 0 (Some [])) 0 (OnTable (Scan main_name 0 last_key)) reply new)
+        (λ i. (alive i, free 0 i, update_here old.live 0 (Some []) i)) step.acts
 
-    listed : StepAt limits (Some []) (with_live old 0 (Some [])) 0 (OnTable (Scan main_name 0 last_key)) reply new → reply ≡ told.Listed (rows_of main_name (records_of new))
-    listed (inl (lacks, says)) = absurd (false≢true (sym lacks ∙ there))
+    listed : StepOf limits false unoffered (Some []) (with_live old 0 (Some [])) 0 (OnTable (Scan main_name 0 last_key)) reply new → reply ≡ told.Listed (rows_of main_name (records_of new))
+    listed (inl (bad, same)) = absurd (bad.0 there)
     listed (inr (has, inl says)) = absurd (false≢true (ap goes_on (sym says.0) ∙ goes))
     listed (inr (has, inr (inl held))) = absurd (free_of held.0 held.1)
     listed (inr (has, inr (inr (is_free, inl grants)))) =

@@ -16,7 +16,7 @@ use Rattle.caller_steps.specs.State as state
 use Rattle.caller_steps.specs.State.{State, unoffered}
 use Rattle.caller_steps.specs.Room.{Limits}
 use Rattle.caller_steps.specs.Run.{Turn}
-use Rattle.caller_steps.specs.Step.{StepAt, StepBy, StepIf, Step, Runs}
+use Rattle.caller_steps.specs.Step.{StepOf, Step, Runs}
 use Rattle.caller_steps.specs.Fate.{is_refusal, is_media, Stays, EndsWith, Moves}
 use Rattle.caller_steps.proofs.Fates.{step_moves}
 use Rattle.drill_gen.specs.Draws.{draw, drawn_on}
@@ -58,11 +58,11 @@ module _ (limits : Limits) (old : State) (t : ℕ) (call : Call) (reply : Reply)
   moves : Moves limits.callers old t call reply new
   moves = step_moves limits old t call reply new step
 
-  acts : StepAt limits (old.live t) old t call reply new
-  acts = subst (λ (o : state.Offer). StepBy limits o old t call reply new) (free t) (subst (λ (b : Bool). StepIf limits b old t call reply new) alive step.acts)
+  acts : StepOf limits false unoffered (old.live t) old t call reply new
+  acts = subst (λ (x : Bool × state.Offer). StepOf limits x.0 x.1 (old.live t) old t call reply new) (λ i. (alive i, free t i)) step.acts
 
   -- a transaction ends at a commit or an abort
-  ended : (o : Option Granted) → old.live t ≡ o → (what : Call) → IsTrue (ends what) → StepAt limits o old t what reply new → new.live t ≡ None
+  ended : (o : Option Granted) → old.live t ≡ o → (what : Call) → IsTrue (ends what) → StepOf limits false unoffered o old t what reply new → new.live t ≡ None
   ended None none (Control Commit) is says = ap (λ (s : State). s.live t) says.1 ∙ none
   ended None none (Control Abort) is says = ap (λ (s : State). s.live t) says.1 ∙ none
   ended (Some calls) some (Control Commit) is (inl says) = absurd (false≢true (ap goes_on (sym says.0) ∙ goes))

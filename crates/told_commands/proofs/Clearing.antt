@@ -30,7 +30,7 @@ use Rattle.caller_steps.specs.Prefix.{HasPrefixOf}
 use Rattle.caller_steps.specs.Purging.{PurgeCause, Purges}
 use Rattle.caller_steps.specs.Room.{Limits}
 use Rattle.caller_steps.specs.State.{State, Offer, unoffered}
-use Rattle.caller_steps.specs.Step.{StepAt, StepBy, StepIf, Step}
+use Rattle.caller_steps.specs.Step.{StepOf, Step}
 use Rattle.caller_steps.specs.Step as steps_of_callers
 use Rattle.mars_core.specs.Making.{OpensAsNamed}
 use Rattle.mars_core.specs.Over.{IsOver, Begins, limits_of}
@@ -69,8 +69,7 @@ answers old _ alive idle cause = absurd cause
 -- what a step of such a core is
 cleared_step : (limits : Limits) (old new : State) (reply : Reply) → old.is_dead ≡ false → old.live 0 ≡ None → old.offers 0 ≡ unoffered → Step limits old 0 (Control Purge) reply new → steps_of_callers.Clears limits old reply new
 cleared_step limits old new reply alive none free step =
-    subst (λ (o : Option Granted). StepAt limits o old 0 (Control Purge) reply new) none
-    (subst (λ (o : Offer). StepBy limits o old 0 (Control Purge) reply new) free (subst (λ (b : Bool). StepIf limits b old 0 (Control Purge) reply new) alive step.acts))
+    subst (λ (x : Bool × Offer × Option Granted). StepOf limits x.0 x.1 x.2 old 0 (Control Purge) reply new) (λ i. (alive i, free i, none i)) step.acts
 
 -- it changes neither the history nor what is in doubt
 unchanged : (limits : Limits) (old new : State) (reply : Reply) → steps_of_callers.Clears limits old reply new → (new.history ≡ old.history) × (new.doubt ≡ old.doubt)

@@ -13,7 +13,7 @@ use Rattle.history.specs.declared.transaction.Done.{Done}
 use Rattle.caller_steps.specs.State.{State, records_of, done_by}
 use Rattle.caller_steps.specs.Room.{Limits}
 use Rattle.caller_steps.specs.Run.{Turn, Heard}
-use Rattle.caller_steps.specs.Step.{StepIf, Runs}
+use Rattle.caller_steps.specs.Step.{StepOf, Runs}
 use Rattle.caller_steps.specs.Core.{CoreView, Continues}
 use Rattle.transactions.specs.Told.{reply_of}
 use Rattle.transactions.specs.Went.{turns_by, Went, Refuses, IsOfCore}
@@ -31,7 +31,7 @@ use Rattle.transactions.proofs.Trying.{tries_on}
 dead_on : (limits : Limits) (old new : State) (turns : List Turn) → Runs limits old turns new → old.is_dead ≡ true → new.is_dead ≡ true
 dead_on limits old new [] runs dead = ap (λ (s : State). s.is_dead) runs ∙ dead
 dead_on limits old new (turn ∷ turns) runs dead =
-    let still = subst (λ (b : Bool). StepIf limits b old turn.0 turn.1 turn.2 runs.0) dead runs.1.acts in
+    let still = subst (λ (b : Bool). StepOf limits b (old.offers turn.0) (old.live turn.0) old turn.0 turn.1 turn.2 runs.0) dead runs.1.acts in
     dead_on limits runs.0 new turns runs.2 (ap (λ (s : State). s.is_dead) still.1 ∙ dead)
 
 alive_before : (caller : ℕ) (mid new : CoreView) → Went caller mid new → new.state.is_dead ≡ false → mid.state.is_dead ≡ false

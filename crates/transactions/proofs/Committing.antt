@@ -13,7 +13,7 @@ use Rattle.history.specs.declared.transaction.Done.{Done}
 use Rattle.caller_steps.specs.Fate.{is_committed, is_media}
 use Rattle.caller_steps.specs.Sound.{IsSound}
 use Rattle.caller_steps.specs.State.{State, calls_of, done_by}
-use Rattle.caller_steps.specs.Step.{Step, StepIf}
+use Rattle.caller_steps.specs.Step.{Step, StepOf}
 use Rattle.caller_steps.specs.Core.{CoreView}
 use Rattle.caller_steps.proofs.Fates.{Fate, refused, failed, began, granted, committed, doubted, aborted, given, settled, unsure, told, purged, refusal_none, step_fate}
 use Rattle.transactions.specs.Adds.{Commits, MayDoubt, MayEnd, MayGrow}
@@ -35,7 +35,7 @@ module _ (old new : CoreView) (caller : ℕ) (reply : Reply) (step : Step old.li
   alive : (other : Reply) → (Dead ≡ other → ⊥) → reply ≡ other → old.state.is_dead ≡ false
   alive other apart is = by old.state.is_dead refl step.acts
     where
-      by : (dead : Bool) → old.state.is_dead ≡ dead → StepIf old.limits dead old.state caller (Control Commit) reply new.state → old.state.is_dead ≡ false
+      by : (dead : Bool) → old.state.is_dead ≡ dead → StepOf old.limits dead (old.state.offers caller) (old.state.live caller) old.state caller (Control Commit) reply new.state → old.state.is_dead ≡ false
       by true dead says = absurd (apart (sym says.0 ∙ is))
       by false lives says = lives
 
