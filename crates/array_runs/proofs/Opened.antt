@@ -1,5 +1,5 @@
 -- A run over an array that was opened.
-use Rattle.std.proofs.Common.{◌≡◌, ℕ, ◌≤◌, true, false, inl, inr, ⊎_elim, List, [], Bool, refl, sym, ap, subst, arith}
+use Rattle.std.proofs.Common.{◌≡◌, ℕ, ◌≤◌, true, false, inl, inr, ⊎_elim, List, [], Bool, refl, sym, ap, subst, ◌+◌, ◌∙◌, arith}
 use Rattle.std.specs.Prelude.{IsTrue, Err}
 use Rattle.pcm_media.specs.Images.{MayLeave}
 use Rattle.pcm_media.specs.View.{View}
@@ -8,7 +8,8 @@ use Rattle.array_shape.specs.declared.shape.Shape.{Shape}
 use Rattle.array_image.specs.Standing.{IsLawful}
 use Rattle.row_bytes.proofs.OneShape.{one_shape}
 use Rattle.eaw_face.specs.StoreView.{StoreView, LeavesOnly}
-use Rattle.eaw_device.specs.Opens.{header_of, Opens, AllOpen, OpensLike, KeepsData, Attached, IsArray, HoldsArray, IsBehind}
+use Rattle.device_recovery.specs.Recovered.{HasNoVote}
+use Rattle.eaw_device.specs.Opens.{header_of, Opens, AllOpen, OpensLike, KeepsData, opening_calls, OpensWithin, Attached, IsArray, HoldsArray, IsBehind}
 use Rattle.record_table.specs.Upgrading.{upgraded}
 use Rattle.mars_core.specs.declared.fault.CoreFault.{CoreFault}
 use Rattle.mars_core.specs.declared.fault.CoreFault.TheVariants as core
@@ -21,6 +22,14 @@ use Rattle.array_runs.specs.Untaken.{spares_at, Untaken}
 use Rattle.array_runs.specs.Statuses.{served_status}
 use Rattle.array_runs.proofs.Completing.{no_excess}
 use Rattle.array_runs.proofs.Unopened.{first_like}
+
+-- an array was opened within the calls of an opening
+pub opened_within : (tells : Bool) (old : View) (store : StoreView) → Attached tells old store → (new : View) → new.moment ≡ store.moment → OpensWithin tells old new.moment
+opened_within tells old store attached new same = λ told shape says none.
+    let is : store.shape ≡ shape = one_shape (header_of old.content.bytes) store.shape shape (attached.shape_is told) says in
+    let calls : store.moment ≡ old.moment + opening_calls shape
+    = attached.calls told (subst (λ (s : Shape). HasNoVote s old.content.bytes) (sym is) none) ∙ ap (λ (s : Shape). old.moment + opening_calls s) is in
+    omega (arith, same, calls)
 
 module _ (tells : Bool) (told : IsTrue tells) (old : View) (only_now : (image : List ℕ) → IsTrue tells → old.left_since old.moment image → MayLeave old.content image)
     (store : StoreView) (attached : Attached tells old store) (keeps : KeepsData tells old store.moment store.left_since) where
@@ -88,5 +97,5 @@ module _ (tells : Bool) (told : IsTrue tells) (old : View) (only_now : (image : 
         → OverRecords spares callers Works old (served_status (Err fault)) new cut text
     untaken_outcome spares Works callers enough (core.Damaged page) cut text off = idle spares (core.Damaged page) cut text off _
         ((store.shape, array, subst (λ (b : List ℕ). (index_at b).fails b page) (attached.bytes told) (off.cause refl)), no_excess old store.shape callers array enough)
-    untaken_outcome spares Works callers enough core.Media cut text off = inl (idle spares core.Media cut text off _ (inr ((store.shape, array), no_excess old store.shape callers array enough)))
+    untaken_outcome spares Works callers enough core.Media cut text off = inl (idle spares core.Media cut text off _ tt)
     untaken_outcome spares Works callers enough core.NoMemory cut text off = inr (inl (idle spares core.NoMemory cut text off _ ((store.shape, array), no_excess old store.shape callers array enough)))

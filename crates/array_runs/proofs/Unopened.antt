@@ -5,7 +5,7 @@ use Rattle.pcm_media.specs.Images.{MayLeave, Touched}
 use Rattle.pcm_media.specs.View.{View}
 use Rattle.pcm_media.proofs.Left.{touched_by_nothing}
 use Rattle.array_shape.specs.declared.shape.Shape.{Shape}
-use Rattle.eaw_device.specs.Opens.{AllOpen, OpensLike, KeepsData, OpensWithin, AttachCause, AttachLeaves}
+use Rattle.eaw_device.specs.Opens.{AllOpen, OpensLike, KeepsData, AttachCause, AttachLeaves}
 use Rattle.eaw_device.specs.declared.fault.AttachFault.{AttachFault}
 use Rattle.eaw_device.specs.declared.fault.AttachFault.TheVariants as opening
 use Rattle.script_run.specs.declared.ended.Ended.{Ended}
@@ -31,7 +31,7 @@ module _ (tells : Bool) (told : IsTrue tells) (old : View) (only_now : (image : 
   pub unread_of : (status : Status) → IsUnread status → Unopened old status old
   unread_of TooLong kind = idle_same _ _ tt
   unread_of ReadFault kind = idle_same _ _ tt
-  unread_of NoMemory kind = inl (idle_same _ _ (inl refl))
+  unread_of NoMemory kind = inl (idle_same _ _ tt)
   unread_of _ kind = absurd kind
 
   -- a medium whose array was not opened
@@ -44,14 +44,12 @@ module _ (tells : Bool) (told : IsTrue tells) (old : View) (only_now : (image : 
     cause = cause;
   }
 
-  pub unopened_of : (new : View) (fault : AttachFault) → AttachCause tells old new.faults fault → AttachLeaves tells old new fault → KeepsData tells old new.moment new.left_since
-      → OpensWithin tells old new.moment → (fault ≡ opening.NoMemory → new.moment ≡ old.moment + 1) → Unopened old (status_of fault) new
-  unopened_of new opening.NotMars cause leaves keeps within early = idle_kept _ _ new keeps (inl (leaves told)) (λ long mark. cause long told mark)
-  unopened_of new (opening.BadShape bad) cause leaves keeps within early = idle_kept _ _ new keeps (inl (leaves told)) (cause.0, (cause.1 told).0, (cause.1 told).1)
-  unopened_of new (opening.BadRow logger tid) cause leaves keeps within early = idle_kept _ _ new keeps (inl (leaves told)) (cause told)
-  unopened_of new opening.Media cause leaves keeps within early = inl (idle_kept _ _ new keeps (leaves told) (inl (within told)))
-  unopened_of new opening.NoMemory cause leaves keeps within early =
-      inl (idle_kept _ _ new keeps (inl (leaves told)) (inr (early refl, (cause told).0, (cause told).1, (cause told).2)))
+  pub unopened_of : (new : View) (fault : AttachFault) → AttachCause tells old new.faults fault → AttachLeaves tells old new fault → KeepsData tells old new.moment new.left_since → Unopened old (status_of fault) new
+  unopened_of new opening.NotMars cause leaves keeps = idle_kept _ _ new keeps (inl (leaves told)) (λ long mark. cause long told mark)
+  unopened_of new (opening.BadShape bad) cause leaves keeps = idle_kept _ _ new keeps (inl (leaves told)) (cause.0, (cause.1 told).0, (cause.1 told).1)
+  unopened_of new (opening.BadRow logger tid) cause leaves keeps = idle_kept _ _ new keeps (inl (leaves told)) (cause told)
+  unopened_of new opening.Media cause leaves keeps = inl (idle_kept _ _ new keeps (leaves told) tt)
+  unopened_of new opening.NoMemory cause leaves keeps = inl (idle_kept _ _ new keeps (inl (leaves told)) tt)
 
 -- nothing was done, whatever the work is
 pub unopened_as : (Works : Ended → Type 0) (Broken : ℕ → Type 0) (Looks Lacks : Type 0) (old : View) (status : Status) (new : View) → IsUnopened status → Unopened old status new → OutcomeOf true Works Broken Looks Lacks old status new false []
@@ -60,8 +58,7 @@ unopened_as Works Broken Looks Lacks old Usage new kind outcome = absurd kind
 unopened_as Works Broken Looks Lacks old TooLong new kind outcome = outcome
 unopened_as Works Broken Looks Lacks old ReadFault new kind outcome = outcome
 unopened_as Works Broken Looks Lacks old WriteFault new kind outcome = absurd kind
-unopened_as Works Broken Looks Lacks old MediaFault new kind (inl fails) =
-    inl (record { silent = fails.silent; later = fails.later; keeps = fails.keeps; spared = fails.spared; cause = ⊎_elim (λ within. inl within) (λ none. absurd none) fails.cause })
+unopened_as Works Broken Looks Lacks old MediaFault new kind (inl fails) = inl fails
 unopened_as Works Broken Looks Lacks old MediaFault new kind (inr none) = absurd none
 unopened_as Works Broken Looks Lacks old NoMemory new kind (inl short) = inl short
 unopened_as Works Broken Looks Lacks old NoMemory new kind (inr (inl none)) = absurd none.cause

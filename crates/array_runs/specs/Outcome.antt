@@ -1,12 +1,10 @@
 -- What a run leaves on a medium that tells its bytes, and what it writes, by its status.
-use Rattle.std.specs.Prelude.{ℕ, ◌≡◌, ◌+◌, ◌≤◌, ◌⊎◌, List, [], Bool, true, IsFalse, ⊤}
+use Rattle.std.specs.Prelude.{ℕ, ◌≤◌, ◌⊎◌, List, [], Bool, true, IsFalse, ⊤}
 use Rattle.pcm_media.specs.Images.{Content, MayLeave, Touched}
 use Rattle.pcm_media.specs.View.{View}
 use Rattle.array_shape.specs.declared.shape.Shape.{Shape}
-use Rattle.array_shape.specs.Places.{media_len}
-use Rattle.row_bytes.specs.Header.{HasMark, SaysShape, IsBadIn}
-use Rattle.device_recovery.specs.Recovered.{HasNoVote}
-use Rattle.eaw_device.specs.Opens.{header_of, Opens, AllOpen, OpensLike, HasBadRow, HoldsArray, opening_calls}
+use Rattle.row_bytes.specs.Header.{HasMark, IsBadIn}
+use Rattle.eaw_device.specs.Opens.{header_of, Opens, AllOpen, OpensLike, HasBadRow, HoldsArray}
 use Rattle.record_table.specs.Upgrading.{upgraded}
 use Rattle.texts.specs.Written.{IsWritten}
 use Rattle.script_run.specs.declared.ended.Ended.{Ended}
@@ -28,23 +26,14 @@ pub record Idle (spares : Bool) (MayWrite Cause : Type 0) (old new : View) (cut 
   pub spared : Touched [] old.content new.content ⊎ MayWrite
   pub cause : Cause
 
--- memory ran out: no call of the medium was made, or just one, and then the header says the shape of an array of the medium's length
-abbrev pub IsShort : View → View → Type 0
-IsShort old new = (new.moment ≡ old.moment)
-    ⊎ ((new.moment ≡ old.moment + 1) × (shape : Shape) × SaysShape (header_of old.content.bytes) shape × (old.size ≡ media_len shape))
-
--- if no row is voted, the medium failed within the calls of an opening
-abbrev pub IsWithin : View → View → Type 0
-IsWithin old new = (shape : Shape) → SaysShape (header_of old.content.bytes) shape → HasNoVote shape old.content.bytes → new.moment ≤ old.moment + opening_calls shape
-
 -- What was written and done, by the status: the work over an array that was opened, or that there was none to open. The medium may be
--- written only if it holds an array. Looks says that the records of the array are read before the work, so that the medium may fail and
--- memory run out meanwhile, and then data that is not spared may be in version 2. Broken says which page may be named as damaged, and Lacks why the words do not fit the array.
+-- written only if it holds an array. Looks says that the records of the array are read before the work, so that memory may run out
+-- meanwhile, and then data that is not spared may be in version 2. Broken says which page may be named as damaged, and Lacks why the words do not fit the array.
 abbrev pub OutcomeOf : Bool → (Ended → Type 0) → (ℕ → Type 0) → (Looks Lacks : Type 0) → View → Status → View → Bool → List ℕ → Type 0
 OutcomeOf spares Works Broken Looks Lacks old Good new cut text = Works script.All
 OutcomeOf spares Works Broken Looks Lacks old WriteFault new cut text = Works script.WriteFault
-OutcomeOf spares Works Broken Looks Lacks old MediaFault new cut text = Idle spares (HoldsArray old) (IsWithin old new ⊎ Looks) old new cut text ⊎ Works script.MediaFault
-OutcomeOf spares Works Broken Looks Lacks old NoMemory new cut text = Idle true ⊥ (IsShort old new) old new cut text ⊎ (Idle spares (HoldsArray old) Looks old new cut text ⊎ Works script.NoMemory)
+OutcomeOf spares Works Broken Looks Lacks old MediaFault new cut text = Idle spares (HoldsArray old) ⊤ old new cut text ⊎ Works script.MediaFault
+OutcomeOf spares Works Broken Looks Lacks old NoMemory new cut text = Idle true ⊥ ⊤ old new cut text ⊎ (Idle spares (HoldsArray old) Looks old new cut text ⊎ Works script.NoMemory)
 OutcomeOf spares Works Broken Looks Lacks old (Damaged page) new cut text = Idle true (HoldsArray old) (Broken page) old new cut text
 OutcomeOf spares Works Broken Looks Lacks old (BadRow logger tid) new cut text = Idle true ⊥ (HasBadRow old logger tid) old new cut text
 OutcomeOf spares Works Broken Looks Lacks old NotMars new cut text = Idle true ⊥ (512 ≤ old.size → HasMark (header_of old.content.bytes) → ⊥) old new cut text

@@ -1,7 +1,7 @@
 // The input of a run and the array that it works on.
 ghost use Rattle.std.specs.Prelude.{◌≡◌, ◌<◌, ◌≤◌, ℕ, [], true, false, IsTrue, IsFalse, IfOk, IfErr};
 ghost use Rattle.eaw_device.specs.Depths.{IsOfDepth};
-ghost use Rattle.eaw_device.specs.Opens.{Attached, KeepsData};
+ghost use Rattle.eaw_device.specs.Opens.{Attached, KeepsData, OpensWithin};
 ghost use Rattle.array_runs.specs.Input.{InputSays};
 ghost use Rattle.array_runs.specs.Opening.{IsUnread, IsUnopened, Unopened};
 ghost use Rattle.array_runs.specs.Records.{OverRecords};
@@ -36,6 +36,7 @@ pub fn open<S: Source, M: Media, D: Depth>(
     ensures counts { IfErr result (λ ended. Counts ended.0 (S.faults source.old) (S.faults source.new) 0 0 (M.view media).faults (M.view ended.1).faults) }
     ensures kept { IfOk result (λ opened. S.faults source.new ≡ S.faults source.old) }
     ensures unopened { IsTrue M.tells → IfErr result (λ ended. Unopened (M.view media) ended.0 (M.view ended.1)) }
+    ensures within { IfErr result (λ ended. OpensWithin M.tells (M.view media) (M.view ended.1).moment) }
     ensures attached { IfOk result (λ opened. Attached M.tells (M.view media) (⟦<Eaw<M, D> as EawStore>⟧.view opened.1)) }
     ensures keeps { IfOk result (λ opened. KeepsData M.tells (M.view media) (⟦<Eaw<M, D> as EawStore>⟧.view opened.1).moment (⟦<Eaw<M, D> as EawStore>⟧.view opened.1).left_since) }
     ensures limit { IfOk result (λ opened. (⟦<Eaw<M, D> as EawStore>⟧.view opened.1).depth ≡ depth) }
@@ -71,6 +72,7 @@ pub fn open_for<S: Source, M: Media, D: Depth>(
     ensures counts { IfErr result (λ ended. (sink : ℕ) → Counts ended.0 (S.faults source.old) (S.faults source.new) sink sink (M.view media).faults (M.view ended.1).faults) }
     ensures kept { IfOk result (λ opened. S.faults source.new ≡ S.faults source.old) }
     ensures outcome { IsTrue M.tells → IfErr result (λ ended. OverRecords true callers (λ none. ⊥) (M.view media) ended.0 (M.view ended.1) false []) }
+    ensures within { IfErr result (λ ended. OpensWithin M.tells (M.view media) (M.view ended.1).moment) }
     ensures attached { IfOk result (λ opened. Attached M.tells (M.view media) (⟦<Eaw<M, D> as EawStore>⟧.view opened.2)) }
     ensures keeps { IfOk result (λ opened. KeepsData M.tells (M.view media) (⟦<Eaw<M, D> as EawStore>⟧.view opened.2).moment (⟦<Eaw<M, D> as EawStore>⟧.view opened.2).left_since) }
     ensures limit { IfOk result (λ opened. (⟦<Eaw<M, D> as EawStore>⟧.view opened.2).depth ≡ depth) }
@@ -122,6 +124,7 @@ fn open_array<M: Media, D: Depth>(
     ensures late { IfErr result (λ ended. IsEarly ended.0 → ⊥) }
     ensures counts { IfErr result (λ ended. Counts ended.0 0 0 0 0 (M.view media).faults (M.view ended.1).faults) }
     ensures unopened { IsTrue M.tells → IfErr result (λ ended. Unopened (M.view media) ended.0 (M.view ended.1)) }
+    ensures within { IfErr result (λ ended. OpensWithin M.tells (M.view media) (M.view ended.1).moment) }
     ensures attached { IfOk result (λ store. Attached M.tells (M.view media) (⟦<Eaw<M, D> as EawStore>⟧.view store)) }
     ensures keeps { IfOk result (λ store. KeepsData M.tells (M.view media) (⟦<Eaw<M, D> as EawStore>⟧.view store).moment (⟦<Eaw<M, D> as EawStore>⟧.view store).left_since) }
     ensures limit { IfOk result (λ store. (⟦<Eaw<M, D> as EawStore>⟧.view store).depth ≡ depth) }

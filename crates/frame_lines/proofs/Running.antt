@@ -43,7 +43,6 @@ pub record SoFar {S : Type 0} (tells : Bool) (view : S → StoreView) (first now
   pub lines_are : lines ≡ front ++ rest
   pub number : n ≡ length front + 1
   pub said : AllSay (view first.store).shape front frames
-  pub good : All (IsFrameIn (view first.store).shape) frames
   pub sequence : AreInSequence 1 frames
   pub told : text ≡ applied_lines 0 frames
   pub count : now.applied ≡ length frames
@@ -58,7 +57,6 @@ module _ {S : Type 0} (tells : Bool) (view : S → StoreView) (first : FollowerV
     lines_are = refl;
     number = refl;
     said = refl;
-    good = All-nil (IsFrameIn (view first.store).shape);
     sequence = tt;
     told = refl;
     count = none;
@@ -93,7 +91,6 @@ module _ {S : Type 0} (tells : Bool) (view : S → StoreView) (first : FollowerV
     behind = rest;
     lines_are = far.lines_are;
     said = far.said;
-    good = far.good;
     sequence = far.sequence;
     told = (refl, far.told);
     leaves = just Opens far.frames (view now.store) only far.goes_on;
@@ -117,7 +114,6 @@ module _ {S : Type 0} (tells : Bool) (view : S → StoreView) (first : FollowerV
       lines_are = one_more;
       number = let long = length-append far.front (line ∷ []) in omega (arith, far.number, long);
       said = passed_over (view first.store).shape line far.front far.frames not far.said;
-      good = far.good;
       sequence = far.sequence;
       told = far.told;
       count = far.count;
@@ -143,7 +139,6 @@ module _ {S : Type 0} (tells : Bool) (view : S → StoreView) (first : FollowerV
       lines_are = one_more;
       number = let long = length-append far.front (line ∷ []) in omega (arith, far.number, long);
       said = said_too (view first.store).shape line f far.front far.frames (here f says) far.said;
-      good = All-append (IsFrameIn (view first.store).shape) far.frames (f ∷ []) far.good (All-cons (IsFrameIn (view first.store).shape) f [] (here f says).0 (All-nil (IsFrameIn (view first.store).shape)));
       sequence = in_sequence f applied.next;
       told = sym (told_more f);
       count = let long = length-append far.frames (f ∷ []) in omega (arith, applied.applied, far.count, long);
@@ -169,7 +164,6 @@ module _ {S : Type 0} (tells : Bool) (view : S → StoreView) (first : FollowerV
       behind = line ∷ rest;
       lines_are = far.lines_are;
       said = far.said;
-      good = far.good;
       sequence = far.sequence;
       told = told;
       leaves = leaves;
@@ -201,7 +195,6 @@ module _ {S : Type 0} (tells : Bool) (view : S → StoreView) (first : FollowerV
           behind = rest;
           lines_are = next.lines_are;
           said = next.said;
-          good = next.good;
           sequence = next.sequence;
           told = (
             ended.0,
@@ -246,25 +239,25 @@ module _ {S : Type 0} (tells : Bool) (view : S → StoreView) (first : FollowerV
 
     -- what a loss of power leaves of this line
     pub opens_first : (Opens : Shape → List ℕ → List ℕ → Type 0) (image : List ℕ) → IsTrue tells → OpensTaken view Opens shape line now image → OpensFirst Opens (view first.store).shape (view first.store).state.bytes lines image
-    opens_first Opens image told (inl before) = record {
-      frames = far.frames;
-      front = far.front;
-      behind = line ∷ rest;
-      lines_are = far.lines_are;
-      said = far.said;
-      sequence = far.sequence;
-      opens = subst (λ (p : Shape × List ℕ). Opens p.0 image p.1) (λ i. (far.goes_on.data_is.shape i, far.goes_on.data_is.data_is told i)) before;
-    }
-    opens_first Opens image told (inr next) = record {
-      frames = far.frames ++ next.0 ∷ [];
-      front = far.front ++ line ∷ [];
-      behind = rest;
-      lines_are = one_more;
-      said = said_too (view first.store).shape line next.0 far.front far.frames (here next.0 next.1) far.said;
-      sequence = in_sequence next.0 next.2;
-      opens = subst (λ (p : Shape × List ℕ). Opens p.0 image p.1)
-          (λ i. (far.goes_on.data_is.shape i, (ap (λ (b : List ℕ). applied (written_by next.0) b) (far.goes_on.data_is.data_is told) ∙ sym (followed_append far.frames (next.0 ∷ []) (view first.store).state.bytes)) i)) next.3;
-    }
+    opens_first Opens image told (inl before) = (
+      far.frames,
+      far.front,
+      line ∷ rest,
+      far.lines_are,
+      far.said,
+      far.sequence,
+      subst (λ (p : Shape × List ℕ). Opens p.0 image p.1) (λ i. (far.goes_on.data_is.shape i, far.goes_on.data_is.data_is told i)) before,
+    )
+    opens_first Opens image told (inr next) = (
+      far.frames ++ next.0 ∷ [],
+      far.front ++ line ∷ [],
+      rest,
+      one_more,
+      said_too (view first.store).shape line next.0 far.front far.frames (here next.0 next.1) far.said,
+      in_sequence next.0 next.2,
+      subst (λ (p : Shape × List ℕ). Opens p.0 image p.1)
+          (λ i. (far.goes_on.data_is.shape i, (ap (λ (b : List ℕ). applied (written_by next.0) b) (far.goes_on.data_is.data_is told) ∙ sym (followed_append far.frames (next.0 ∷ []) (view first.store).state.bytes)) i)) next.3,
+    )
 
 -- nothing was followed, since there was no memory for a follower
 pub none_followed : (tells : Bool) (Opens : Shape → List ℕ → List ℕ → Type 0) (store : StoreView) (lines : List (List ℕ)) → ((image : List ℕ) → IsTrue tells → store.left_since store.moment image → Opens store.shape image store.state.bytes)
@@ -275,7 +268,6 @@ none_followed tells Opens store lines only = record {
   behind = lines;
   lines_are = refl;
   said = refl;
-  good = All-nil (IsFrameIn store.shape);
   sequence = tt;
   told = (refl, refl);
   leaves = λ told image left. inl (only image told left);

@@ -54,21 +54,15 @@ pub record FollowedLines (shape : Shape) (Leaves : List Frame → List (List ℕ
   pub behind : List (List ℕ)
   pub lines_are : lines ≡ front ++ behind
   pub said : AllSay shape front frames
-  pub good : All (IsFrameIn shape) frames
   pub sequence : AreInSequence 1 frames
   pub told : TellsApplied ended cut text frames
   pub leaves : Leaves frames behind
   pub stops : StopsAt shape (length front) (length frames) behind ended
 
 -- an image opens with this data with some first of the frames applied that the lines say
-pub record OpensFirst (Opens : Shape → List ℕ → List ℕ → Type 0) (shape : Shape) (bytes : List ℕ) (lines : List (List ℕ)) (image : List ℕ) : Type 0 where
-  pub frames : List Frame
-  pub front : List (List ℕ)
-  pub behind : List (List ℕ)
-  pub lines_are : lines ≡ front ++ behind
-  pub said : AllSay shape front frames
-  pub sequence : AreInSequence 1 frames
-  pub opens : Opens shape image (followed frames bytes)
+abbrev pub OpensFirst : (Shape → List ℕ → List ℕ → Type 0) → Shape → List ℕ → List (List ℕ) → List ℕ → Type 0
+OpensFirst Opens shape bytes lines image = (frames : List Frame) × (front : List (List ℕ)) × (behind : List (List ℕ)) × (lines ≡ front ++ behind)
+    × AllSay shape front frames × AreInSequence 1 frames × Opens shape image (followed frames bytes)
 
 -- the counts of the sink and of the medium: the one that ended the run rose, and else they are as they were
 abbrev pub Counts : FollowEnd → ℕ → ℕ → ℕ → ℕ → Type 0

@@ -39,13 +39,9 @@ module _ (Opens : Shape → List ℕ → List ℕ → Type 0) (index : Index) (o
     final = served.final;
     runs = served.runs;
     says = served.says;
-    names = served.names;
-    base = served.base;
-    legal = served.legal;
     since = served.since;
     now = served.now;
     left = served.left;
-    unwritten = served.unwritten;
   }
 
 -- the same under the index that the data names, which is found first

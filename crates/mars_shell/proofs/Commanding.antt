@@ -38,11 +38,8 @@ module _ (tells : Bool) (told : IsTrue tells) (old : View) (only_now : (image : 
   obeys = record {
     shape = store.shape;
     array = array tells told old only_now store attached keeps;
-    answers = ran.answers;
-    rest = ran.rest;
-    text_is = ran.text_is;
     final = ran.final;
-    answered = subst (λ (p : S). Answered script p 1 (lines_of input) ended cut ran.answers ran.rest ran.final) first_is ran.answered;
+    told = record { answers = ran.answers; rest = ran.rest; text_is = ran.text_is; answered = subst (λ (p : S). Answered script p 1 (lines_of input) ended cut ran.answers ran.rest ran.final) first_is ran.answered };
     now = λ image left. ran.comes.now image (subst (λ (t : ℕ). store'.left_since t image) behind.moment (behind.left new.moment image (counts_now new.moment image told (omega arith) left)));
     since = λ all image left. ⊎_elim (λ was. inl (at_entry tells told old only_now store attached keeps store.shape all image was)) (λ made. inr made)
         (ran.comes.since.only old.moment image (keeps told store.shape all).later (behind.left old.moment image left));

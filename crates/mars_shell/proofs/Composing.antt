@@ -44,11 +44,11 @@ use Rattle.mars_shell.specs.Late.{depth_of}
 use Rattle.mars_shell.specs.Next.{AllSound, IsOfRecords, LeavesFresh}
 use Rattle.array_runs.specs.Outcome.{Idle, OutcomeOf}
 use Rattle.array_runs.specs.Records.{HoldsRecords, IsDamaged, Exceeds, OverRecords}
-use Rattle.mars_shell.specs.Run.{TakesTurns, Answers}
+use Rattle.mars_shell.specs.Run.{TakesTurns}
 use Rattle.mars_shell.specs.FramedRun.{RunsAs}
-use Rattle.told_commands.specs.Tables.{Tries, MadeBy}
-use Rattle.told_commands.specs.Purge.{PurgedBy}
-use Rattle.told_commands.specs.Told.{HasNames, WorksOn}
+use Rattle.told_commands.specs.Tables.{Tries, MakesTable}
+use Rattle.told_commands.specs.Purge.{PurgesRecords}
+use Rattle.told_commands.specs.Told.{ByEnd, HasRecords, names_on, WorksOn}
 use Rattle.array_runs.specs.declared.status.Status.{Status}
 use Rattle.array_runs.specs.declared.status.Status.TheVariants.{Good, Usage, TooLong, ReadFault, WriteFault, MediaFault, NoMemory, Damaged, BadRow, NotMars, BadShape, Refused, BadFrame, Gap}
 use Rattle.array_runs.proofs.Short.{data_short}
@@ -126,7 +126,7 @@ module _ (tells : Bool) (told : IsTrue tells) (old new : View) (counts_now : (t 
     followed_open input cut text ended follows image left =
         let same : follows.shape ≡ shape = one_shape (header_of old.content.bytes) follows.shape shape follows.array.header first_opens.header in
         let all_there : AllOpen follows.shape old.content = subst (λ (s : Shape). AllOpen s old.content) (sym same) all in
-        ⊎_elim (λ like. (like.2, subst (λ (s : Shape). Opens s image like.2) same like.4)) (λ first. (_, subst (λ (s : Shape). Opens s image (followed first.frames (settled_data follows.shape old.content.bytes))) same first.opens))
+        ⊎_elim (λ like. (like.2, subst (λ (s : Shape). Opens s image like.2) same like.4)) (λ first. (_, subst (λ (s : Shape). Opens s image (followed first.0 (settled_data follows.shape old.content.bytes))) same first.6))
         (follows.since all_there image (counts_now old.moment image told (follows.later all_there) left))
 
     pub next_followed : (status : Status) (input : List ℕ) (cut : Bool) (text : List ℕ) → OutcomeFor Follow (λ place. Unit {0}) old status new input cut text → AllOpen shape new.content
@@ -158,7 +158,7 @@ module _ (tells : Bool) (told : IsTrue tells) (old new : View) (counts_now : (t 
     turns_sound : (depth : ℕ) (Says : Limits → List Turn → State → Type 0) (ended : Ended) → TakesTurns depth Says old ended new → AllSound shape form new.content
     turns_sound depth Says ended taken image left =
         let same : taken.shape ≡ shape = one_shape (header_of old.content.bytes) taken.shape shape taken.holds.array.header opened.header in
-        let now = (taken.prefix_law.now image left).opens in (
+        let now = (taken.prefix_law.now image left).opens.0 in (
           now.bytes,
           subst (λ (s : Shape). Opens s image now.bytes) same now.opened,
           subst (λ (i : Index). i.sound now.bytes) (ap (λ (s : Shape). index_in s old) same ∙ own_index old shape form sound) now.sound,
@@ -183,7 +183,7 @@ module _ (tells : Bool) (told : IsTrue tells) (old new : View) (counts_now : (t 
         ⊎_elim (λ like. (like.2, subst (λ (s : Shape). Opens s image like.2) same like.4, like_sound like.0 like.2 like.1 (subst (λ (s : Shape). Opens s like.0 like.2) same like.3)))
         (λ named. ⊎_elim (λ o. named_sound at same image _ _ o) (λ o. named_sound at same image _ _ o) named) (tried.since all image (counts_now old.moment image told (tried.later all) left))
 
-    made_by_sound : (name : List ℕ) (cut : Bool) (text : List ℕ) (ended : Ended) → MadeBy name old new cut text ended → AllSound shape form new.content
+    made_by_sound : (name : List ℕ) (cut : Bool) (text : List ℕ) (ended : Ended) → ByEnd (λ shape. Tries name shape old new) (MakesTable name old new cut text) cut text ended → AllSound shape form new.content
     made_by_sound name cut text script.All made = tried_sound name made.shape made.tries
     made_by_sound name cut text script.WriteFault made = tried_sound name made.shape made.tries
     made_by_sound name cut text script.MediaFault made = tried_sound name made.1.0 made.1.1
@@ -191,10 +191,10 @@ module _ (tells : Bool) (told : IsTrue tells) (old new : View) (counts_now : (t 
 
     made_sound : (name : List ℕ) (status : Status) (cut : Bool) (text : List ℕ) → OutcomeFor (Make name) (λ place. Unit {0}) old status new [] cut text → AllSound shape form new.content
     made_sound name status cut text outcome =
-        ⊎_elim (λ over. records_sound true 0 (MadeBy name old new cut text) status cut text (made_by_sound name cut text) over) (λ refused. tried_sound name refused.2.shape refused.2.tries) outcome
+        ⊎_elim (λ over. records_sound true 0 (ByEnd (λ shape. Tries name shape old new) (MakesTable name old new cut text) cut text) status cut text (made_by_sound name cut text) over) (λ refused. tried_sound name refused.2.shape refused.2.tries) outcome
 
     -- and so are those that were to be purged
-    cleared_sound : (at : Shape) → WorksOn at (HasNames at old) old new → AllSound shape form new.content
+    cleared_sound : (at : Shape) → WorksOn at (HasRecords at old (names_on at old)) old new → AllSound shape form new.content
     cleared_sound at clears image left =
         let same : at ≡ shape = one_shape (header_of old.content.bytes) at shape clears.holds.array.header opened.header in
         let all : AllOpen at old.content = subst (λ (s : Shape). AllOpen s old.content) (sym same) (all_open old shape form sound) in
@@ -202,7 +202,7 @@ module _ (tells : Bool) (told : IsTrue tells) (old new : View) (counts_now : (t 
         (λ o. (o.bytes, subst (λ (s : Shape). Opens s image o.bytes) same o.opened, subst (λ (i : Index). i.sound o.bytes) (ap (λ (s : Shape). index_in s old) same ∙ own_index old shape form sound) o.sound))
         (clears.since all image (counts_now old.moment image told (clears.later all) left))
 
-    purged_by_sound : (cut : Bool) (text : List ℕ) (ended : Ended) → PurgedBy old new cut text ended → AllSound shape form new.content
+    purged_by_sound : (cut : Bool) (text : List ℕ) (ended : Ended) → ByEnd (λ shape. WorksOn shape (HasRecords shape old (names_on shape old)) old new) (PurgesRecords old new cut text) cut text ended → AllSound shape form new.content
     purged_by_sound cut text script.All purged = cleared_sound purged.shape purged.works
     purged_by_sound cut text script.WriteFault purged = cleared_sound purged.shape purged.works
     purged_by_sound cut text script.MediaFault purged = cleared_sound purged.1.0 purged.1.1
@@ -216,8 +216,8 @@ module _ (tells : Bool) (told : IsTrue tells) (old new : View) (counts_now : (t 
         (bytes, subst (λ (s : Shape). Opens s image bytes) same (dumps.finishes.now image left), subst (λ (i : Index). i.sound bytes) (ap (λ (s : Shape). index_in s old) same ∙ own_index old shape form sound) dumps.works.holds.sound)
 
     run_sound : (frames : Bool) (depth : ℕ) (input : List ℕ) (cut : Bool) (text : List ℕ) (ended : Ended) → RunsAs frames depth input cut text old ended new → AllSound shape form new.content
-    run_sound true depth input cut text ended framed = turns_sound depth _ ended framed.taken
-    run_sound false depth input cut text ended taken = turns_sound depth (Answers input ended cut text) ended taken
+    run_sound true depth input cut text ended framed = turns_sound depth _ ended framed.2
+    run_sound false depth input cut text ended taken = turns_sound depth _ ended taken
 
     pub next_sound : (Knows : Place → Type 0) (asked : Words) (status : Status) (input : List ℕ) (cut : Bool) (text : List ℕ) → IsOfRecords asked → OutcomeFor asked Knows old status new input cut text → AllSound shape form new.content
     next_sound Knows (Run given) status input cut text of outcome = records_sound false 0 (λ ended. RunsAs given.frames (depth_of given.writing) input cut text old ended new) status cut text (λ ended taken. run_sound given.frames (depth_of given.writing) input cut text ended taken) outcome
@@ -225,7 +225,7 @@ module _ (tells : Bool) (told : IsTrue tells) (old new : View) (counts_now : (t 
     next_sound Knows Dump status input cut text of outcome = records_sound true 0 (DumpsRecords old new cut text) status cut text (dumped_sound cut text) outcome
     next_sound Knows (Drill numbers) status input cut text of outcome = records_sound false 0 (λ ended. TakesTurns (depth_of numbers.writing) (Drills numbers ended cut text) old ended new) status cut text (λ ended taken. turns_sound (depth_of numbers.writing) (Drills numbers ended cut text) ended taken) outcome
     next_sound Knows (Make name) status input cut text of outcome = made_sound name status cut text outcome
-    next_sound Knows Purge status input cut text of outcome = records_sound false 0 (PurgedBy old new cut text) status cut text (purged_by_sound cut text) outcome
+    next_sound Knows Purge status input cut text of outcome = records_sound false 0 (ByEnd (λ shape. WorksOn shape (HasRecords shape old (names_on shape old)) old new) (PurgesRecords old new cut text) cut text) status cut text (purged_by_sound cut text) outcome
     next_sound Knows (Eaw given) status input cut text of outcome = absurd of
     next_sound Knows Follow status input cut text of outcome = absurd of
     next_sound Knows (Format numbers) status input cut text of outcome = absurd of

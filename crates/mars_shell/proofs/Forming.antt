@@ -48,14 +48,10 @@ module _ (tells : Bool) (told : IsTrue tells) (Opens : Shape → List ℕ → Li
           final = served.final;
           runs = of_first (λ l s. Runs l s served.turns served.final) served.runs;
           says = subst (λ (x : Shape × ℕ). Says (limits_of index x.0 x.1) served.turns served.final) (λ i. (says.shape i, says.depth i)) served.says;
-          names = served.names ∙ ap names_of bytes_are;
-          base = served.base ∙ ap (table_of index) bytes_are;
-          legal = served.legal;
           since = going.then (going.weaker (λ image opens. inl opens) (says.time told))
               (subst (λ (x : Shape × List ℕ). LeavesOnly (λ image. Opens x.0 image x.1 ⊎ opens_of Opens x.0 index served.final 0 image) mid new) (λ i. (says.shape i, bytes_are i)) served.since);
           now = λ image left. subst (λ (s : Shape). opens_of Opens s index served.final (length served.final.history) image) says.shape (served.now image left);
           left = served.left;
-          unwritten = λ unfailed reads. served.unwritten unfailed reads ∙ ap upgraded bytes_are;
         }
 
     -- the work was done under the store's own index

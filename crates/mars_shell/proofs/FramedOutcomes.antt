@@ -13,7 +13,7 @@ use Rattle.array_runs.specs.Statuses.{served_status}
 use Rattle.array_runs.specs.declared.status.Status.{Status}
 use Rattle.array_runs.proofs.Opened.{array}
 use Rattle.array_runs.proofs.Statuses.{outcome_as, outcome_spared}
-use Rattle.mars_shell.specs.FramedRun.{SaysFramed, says_framed, TakesFramed}
+use Rattle.mars_shell.specs.FramedRun.{SaysFramed, says_framed, RunsAs}
 use Rattle.mars_shell.specs.Run.{TakesTurns}
 use Rattle.mars_shell.specs.Served.{Serves}
 use Rattle.mars_shell.proofs.Outcomes.{records_outcome}
@@ -25,22 +25,22 @@ pub framed_outcome : (tells : Bool) (told : IsTrue tells) (old : View) (only_now
     (depth : ℕ) (limit : store.depth ≡ depth) (later : StoreView) (new : View) (handed : IsHandedBack tells depth later new) (counts_now : (t : ℕ) (image : List ℕ) → IsTrue tells → t ≤ new.moment → MayLeave new.content image → new.left_since t image)
     (input : List ℕ) (cut : Bool) (text : List ℕ) (result : Result Ended CoreFault)
     → Serves (says_framed (index_at store.state.bytes) store input cut text) Opens (index_at store.state.bytes) store result cut text later
-    → OverRecords false 0 (λ ended. TakesFramed depth input cut text old ended new) old (served_status result) new cut text
+    → OverRecords false 0 (λ ended. RunsAs true depth input cut text old ended new) old (served_status result) new cut text
 framed_outcome tells told old only_now store attached keeps depth limit later new handed counts_now input cut text result served =
     let Does = says_framed (index_at store.state.bytes) store input cut text in
     let outcome = records_outcome tells told old only_now store attached keeps depth limit later new handed counts_now 0 (omega arith) Does result cut text served in
-    outcome_as false (λ ended. TakesTurns depth (Does ended) old ended new) (λ ended. TakesFramed depth input cut text old ended new) (λ page. IsDamaged old page × (Exceeds 0 old → ⊥))
+    outcome_as false (λ ended. TakesTurns depth (Does ended) old ended new) (λ ended. RunsAs true depth input cut text old ended new) (λ page. IsDamaged old page × (Exceeds 0 old → ⊥))
     (HoldsArray old × (Exceeds 0 old → ⊥)) (Exceeds 0 old) old (served_status result) new cut text
-    (λ ended taken. record {
-      shape = store.shape;
-      array = array tells told old only_now store attached keeps;
-      taken = subst (λ (bytes : List ℕ). TakesTurns depth (SaysFramed (index_at bytes) store.shape bytes (begun_on (index_at bytes) bytes) input ended cut text) old ended new) (attached.bytes told) taken;
-    }) outcome
+    (λ ended taken. (
+      store.shape,
+      array tells told old only_now store attached keeps,
+      subst (λ (bytes : List ℕ). TakesTurns depth (SaysFramed (index_at bytes) store.shape bytes (begun_on (index_at bytes) bytes) input ended cut text) old ended new) (attached.bytes told) taken,
+    )) outcome
 
 -- the work was not begun
 pub framed_none : (depth : ℕ) (input : List ℕ) (old : View) (status : Status) (new : View) (cut : Bool) (text : List ℕ) → OverRecords true 0 (λ none. ⊥) old status new cut text
-    → OverRecords false 0 (λ ended. TakesFramed depth input cut text old ended new) old status new cut text
+    → OverRecords false 0 (λ ended. RunsAs true depth input cut text old ended new) old status new cut text
 framed_none depth input old status new cut text outcome =
     let none = outcome_spared false (λ none. ⊥) (λ page. IsDamaged old page × (Exceeds 0 old → ⊥)) (HoldsArray old × (Exceeds 0 old → ⊥)) (Exceeds 0 old) old status new cut text outcome in
-    outcome_as false (λ none. ⊥) (λ ended. TakesFramed depth input cut text old ended new) (λ page. IsDamaged old page × (Exceeds 0 old → ⊥)) (HoldsArray old × (Exceeds 0 old → ⊥)) (Exceeds 0 old)
+    outcome_as false (λ none. ⊥) (λ ended. RunsAs true depth input cut text old ended new) (λ page. IsDamaged old page × (Exceeds 0 old → ⊥)) (HoldsArray old × (Exceeds 0 old → ⊥)) (Exceeds 0 old)
     old status new cut text (λ ended none. absurd none) none

@@ -74,7 +74,6 @@ module _ (tells : Bool) (told : IsTrue tells) (old : View) (only_now : (image : 
       behind = ran.behind;
       lines_are = ran.lines_are;
       said = ran.said;
-      good = ran.good;
       sequence = ran.sequence;
       told = ran.told;
       leaves = leaves_on ended ran.frames ran.behind ran.leaves;

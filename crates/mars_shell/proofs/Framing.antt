@@ -13,8 +13,6 @@ use Rattle.caller_steps.specs.Step.{Runs}
 use Rattle.mars_core.specs.Over.{Begins}
 use Rattle.mars_core.specs.Held.{Held, core_of}
 use Rattle.mars_manager.specs.Sharing.{CanShare}
-use Rattle.history.specs.declared.call.Reply.TheVariants.{Committed}
-use Rattle.script_text.specs.Replies.{reply_line}
 use Rattle.script_run.specs.Lines.{lines_of}
 use Rattle.script_run.specs.Transcript.{Ends, Answered}
 use Rattle.script_run.specs.declared.ended.Ended.{Ended}
@@ -26,10 +24,8 @@ use Rattle.array_runs.specs.Records.{begun_on}
 use Rattle.mars_shell.specs.OnCore.{TurnsOn}
 use Rattle.mars_shell.specs.Standing.{Progress, callers_of, HasShown, line_script, framed_lines, framed_start, turns_in, IsShown, Stands, Comes}
 use Rattle.mars_shell.specs.FramedRun.{says_framed}
-use Rattle.mars_shell.proofs.Acknowledged.{committed_kept}
-use Rattle.mars_shell.proofs.Lining.{gives_clean, stops_clean, answered_turns, safe_now}
+use Rattle.mars_shell.proofs.Lining.{gives_clean, stops_clean, safe_now}
 use Rattle.mars_shell.proofs.FramedTurns.{framed_turns}
-use Rattle.mars_shell.proofs.Unframed.{plain_of}
 use Rattle.mars_shell.proofs.Making.{living}
 use Rattle.mars_shell.proofs.Serving.{begun_is}
 
@@ -113,15 +109,6 @@ module _ (tells : Bool) (Opens : Shape → List ℕ → List ℕ → Type 0) (in
           alive = λ unfailed. living core.limits core.state later.state last.inner.turns turned ready.alive (clean unfailed);
         }
 
-      -- the history has what was acknowledged
-      kept : (last : Framed Progress) → Comes (core_of Opens index mid held) first.inner later last.inner → (answers : List (List ℕ)) (rest : List ℕ) → Answered (framed_lines index) first 1 (lines_of input) ended cut answers rest last
-          → (frames : List Frame) (caller n : ℕ) → caller < 2 ^ 64 → n < 2 ^ 64 → Contains answers (lines_of_frames frames ++ reply_line caller (Committed n)) → n ≤ length later.state.history
-      kept last comes answers rest answered frames caller n few fits has =
-          let most : mid.shape.numbers ≤ 2 ^ 64 = let r = mid.shape.in_range in omega (arith, r.most_numbers) in
-          let plain = plain_of index first 1 (lines_of input) ended cut answers rest last most answered in
-          committed_kept mid.shape.numbers most caller n few fits core.limits core.state later.state (lines_of input) plain.ended plain.cut plain.answers plain.rest last.inner.turns (ready.sound told) (turned last comes)
-          (answered_turns first.inner 1 (lines_of input) plain.ended plain.cut plain.answers plain.rest last.inner plain.answered) (plain.told frames caller n few has)
-
       module _ (new : StoreView) (data_is : later.state.index.bytes ≡ new.state.bytes) where
         -- the frames of the opening bring the data to that of the first state
         brought : mid.sending.is_down ≡ false → (begun_on index old.state.bytes).index.bytes ≡ followed sent old.state.bytes
@@ -134,16 +121,17 @@ module _ (tells : Bool) (Opens : Shape → List ℕ → List ℕ → Type 0) (in
           good = begins.mirrors.adds.good;
           sequence = has_begun.sequence;
           brought = brought up;
-          wrote = inl (record {
-            answers = ran.answers;
-            rest = ran.rest;
-            text_is = text_is ∙ ap (λ (t : List ℕ). lines_of_frames sent ++ t) ran.text_is;
-            last = turns_in ran.final;
-            answered = framed_turns index first.inner.start first 1 (lines_of input) ended cut ran.answers ran.rest ran.final refl ran.answered;
-            turns_are = refl;
-            acknowledged = kept ran.final ran.comes ran.answers ran.rest ran.answered;
-            whole = λ all. data_is ∙ (ran.stands all).1.data_is;
-          });
+          wrote = inl (
+            turns_in ran.final,
+            refl,
+            (λ all. data_is ∙ (ran.stands all).1.data_is),
+            record {
+              answers = ran.answers;
+              rest = ran.rest;
+              text_is = text_is ∙ ap (λ (t : List ℕ). lines_of_frames sent ++ t) ran.text_is;
+              answered = framed_turns index first.inner.start first 1 (lines_of input) ended cut ran.answers ran.rest ran.final refl ran.answered;
+            },
+          );
         })) (λ unfailed. framed_clean index first 1 (lines_of input) ended cut ran.answers ran.rest ran.final unfailed ran.answered refl)
         by_frames (inr (inl (up, is, short, part, comes))) = turns_on first comes (inl (record {
           sent = sent;

@@ -24,7 +24,6 @@ use Rattle.caller_steps.specs.Run.{Turn}
 use Rattle.command_words.specs.declared.words.FormatNumbers.{FormatNumbers}
 use Rattle.command_words.specs.declared.words.Words.{Words}
 use Rattle.command_words.specs.declared.words.Words.TheVariants.{Run, Callers, Eaw, Dump, Drill, Format, Make, Purge, Follow}
-use Rattle.mars_core.specs.Over.{OpensWithTables}
 use Rattle.script_run.specs.declared.ended.Ended.{Ended}
 use Rattle.script_run.specs.declared.ended.Ended.TheVariants as script
 use Rattle.array_runs.specs.Forms.{index_of_form, index_at, index_in}
@@ -35,9 +34,9 @@ use Rattle.array_runs.specs.declared.status.Status.{Status}
 use Rattle.array_runs.specs.declared.status.Status.TheVariants.{Good, WriteFault, Refused}
 use Rattle.array_runs.proofs.Forming.{sound_is_own}
 use Rattle.told_commands.specs.Dump.{DumpsRecords}
-use Rattle.told_commands.specs.Tables.{Tries, HasNewName, MakesTable, MadeBy, names_on}
-use Rattle.told_commands.specs.Purge.{PurgedBy}
-use Rattle.told_commands.specs.Told.{HasNames, WorksOn}
+use Rattle.told_commands.specs.Tables.{Tries, MakesTable}
+use Rattle.told_commands.specs.Purge.{PurgesRecords}
+use Rattle.told_commands.specs.Told.{ByEnd, HasRecords, names_on, WorksOn}
 use Rattle.reader_work.specs.Readership.{passes_for}
 use Rattle.caller_work.specs.declared.gate.Place.{Place}
 use Rattle.mars_shell.specs.Asked.{OutcomeFor}
@@ -48,10 +47,11 @@ use Rattle.mars_shell.specs.Joint.{JointWork}
 use Rattle.mars_shell.specs.Late.{depth_of}
 use Rattle.mars_shell.specs.Next.{AllSound, IsOf, AllAreOf, IsOfPrefix, IsOfRecords, ChangesNone, MayName, records_on}
 use Rattle.mars_shell.specs.PrefixLaw.{PrefixLaw, Recovers}
-use Rattle.mars_shell.specs.Run.{TakesTurns, Answers}
+use Rattle.mars_shell.specs.Run.{TakesTurns}
 use Rattle.array_runs.proofs.Short.{data_short}
 use Rattle.mars_shell.proofs.Composing.{outcome_gives, own_index, all_open}
 use Rattle.mars_shell.proofs.FreshRecords.{fresh_names}
+use Rattle.mars_shell.proofs.Leaving.{names_left}
 
 -- the records of the data that an image settles to, under the index that this data names
 abbrev own_records : List ℕ → Table
@@ -130,16 +130,13 @@ module _ (old : View) (shape : Shape) (form : ℕ) (names : List (List ℕ)) (ta
   own : (called : List (List ℕ)) (records : Table) (image : List ℕ) → OpensNamed (Opens shape) (index_in shape old) image called records → IsOf shape form called records image
   own called records image opens = subst (λ (i : Index). OpensNamed (Opens shape) i image called records) (own_index old shape form all_sound) opens
 
-  own_tables : (called : List (List ℕ)) (records : Table) (image : List ℕ) → OpensWithTables (Opens shape) (index_in shape old) called image records → IsOf shape form called records image
-  own_tables called records image o = own called records image (record { bytes = o.bytes; opened = o.opened; sound = o.sound; named = o.named; shows = o.shows })
-
   own_prefix : (final : State) (least : ℕ) (image : List ℕ) → Recovers shape (index_in shape old) final least image → IsOfPrefix shape form final least image
   own_prefix final least image recovers = record {
     count = recovers.count;
     at_least = recovers.at_least;
     at_most = recovers.at_most;
     whole = recovers.whole;
-    opens = own_tables final.names _ image recovers.opens;
+    opens = own final.names _ image recovers.opens.0;
   }
 
   module _ (new : View) (final : State) (called : final.names ≡ names_on shape old) (base : final.base ≡ records_on shape old) (law : PrefixLaw shape old final new) where
@@ -162,18 +159,18 @@ module _ (old : View) (shape : Shape) (form : ℕ) (names : List (List ℕ)) (ta
   this_shape at says = one_shape (header_of old.content.bytes) at shape says here.opened.header
 
   -- an image with the records that there were, and the names
-  with_own : (image : List ℕ) → HasNames shape old image → IsOf shape form names table image
+  with_own : (image : List ℕ) → HasRecords shape old (names_on shape old) image → IsOf shape form names table image
   with_own image has = subst (λ (x : List (List ℕ) × Table). IsOf shape form x.0 x.1 image) (λ i. (reads.0 i, reads.1 i)) (own (names_on shape old) (records_on shape old) image has)
 
   -- and one more
-  with_more : (name image : List ℕ) → HasNewName name shape old image → IsOf shape form (names ++ name ∷ []) table image
+  with_more : (name image : List ℕ) → HasRecords shape old (names_on shape old ++ name ∷ []) image → IsOf shape form (names ++ name ∷ []) table image
   with_more name image has = subst (λ (x : List (List ℕ) × Table). IsOf shape form (x.0 ++ name ∷ []) x.1 image) (λ i. (reads.0 i, reads.1 i)) (own (names_on shape old ++ name ∷ []) (records_on shape old) image has)
 
   -- a table that was told is there from then on
   module _ (new : View) (name : List ℕ) where
     told_one : (cut : Bool) (text : List ℕ) (ended : Ended) → MakesTable name old new cut text ended → AllAreOf shape form (names ++ name ∷ []) table new.content
     told_one cut text ended makes image left =
-        with_more name image (subst (λ (s : Shape). HasNewName name s old image) (this_shape makes.shape makes.tries.holds.array.header) (makes.finishes.now image left))
+        with_more name image (subst (λ (s : Shape). HasRecords s old (names_on s old ++ name ∷ []) image) (this_shape makes.shape makes.tries.holds.array.header) (makes.finishes.now image left))
 
     pub named : (status : Status) (input : List ℕ) (cut : Bool) (text : List ℕ) → (status ≡ Good) ⊎ (status ≡ WriteFault) → OutcomeFor (Make name) (λ place. Unit {0}) old status new input cut text
         → AllAreOf shape form (names ++ name ∷ []) table new.content
@@ -220,20 +217,20 @@ module _ (old : View) (shape : Shape) (form : ℕ) (names : List (List ℕ)) (ta
       dumped cut text ended dumps = worked (HasTables Dump) (λ of. (names, refl, of)) (λ s. ⊥) (λ none. absurd none) dumps.shape (λ i. ⊥) (λ none. none) dumps.works
 
       tried : (name : List ℕ) (at : Shape) → Tries name at old new → HasTables (Make name)
-      tried name at tries = worked (HasTables (Make name)) (λ of. (names, inl refl, of)) (λ (s : Shape). HasNames s old image ⊎ HasNewName name s old image)
+      tried name at tries = worked (HasTables (Make name)) (λ of. (names, inl refl, of)) (λ (s : Shape). HasRecords s old (names_on s old) image ⊎ HasRecords s old (names_on s old ++ name ∷ []) image)
           (λ either. ⊎_elim (λ has. (names, inl refl, with_own image has)) (λ has. (names ++ name ∷ [], inr refl, with_more name image has)) either) at
-          (λ (i : List ℕ). HasNames at old i ⊎ HasNewName name at old i) (λ either. either) tries
+          (λ (i : List ℕ). HasRecords at old (names_on at old) i ⊎ HasRecords at old (names_on at old ++ name ∷ []) i) (λ either. either) tries
 
-      made_by : (name : List ℕ) (cut : Bool) (text : List ℕ) (ended : Ended) → MadeBy name old new cut text ended → HasTables (Make name)
+      made_by : (name : List ℕ) (cut : Bool) (text : List ℕ) (ended : Ended) → ByEnd (λ shape. Tries name shape old new) (MakesTable name old new cut text) cut text ended → HasTables (Make name)
       made_by name cut text script.All makes = tried name makes.shape makes.tries
       made_by name cut text script.WriteFault makes = tried name makes.shape makes.tries
       made_by name cut text script.MediaFault makes = tried name makes.1.0 makes.1.1
       made_by name cut text script.NoMemory makes = absurd makes
 
-      cleared : (at : Shape) → WorksOn at (HasNames at old) old new → HasTables Purge
-      cleared at clears = worked (HasTables Purge) (λ of. (names, refl, of)) (λ (s : Shape). HasNames s old image) (λ has. (names, refl, with_own image has)) at (HasNames at old) (λ has. has) clears
+      cleared : (at : Shape) → WorksOn at (HasRecords at old (names_on at old)) old new → HasTables Purge
+      cleared at clears = worked (HasTables Purge) (λ of. (names, refl, of)) (λ (s : Shape). HasRecords s old (names_on s old) image) (λ has. (names, refl, with_own image has)) at (HasRecords at old (names_on at old)) (λ has. has) clears
 
-      purged_by : (cut : Bool) (text : List ℕ) (ended : Ended) → PurgedBy old new cut text ended → HasTables Purge
+      purged_by : (cut : Bool) (text : List ℕ) (ended : Ended) → ByEnd (λ shape. WorksOn shape (HasRecords shape old (names_on shape old)) old new) (PurgesRecords old new cut text) cut text ended → HasTables Purge
       purged_by cut text script.All purged = cleared purged.shape purged.works
       purged_by cut text script.WriteFault purged = cleared purged.shape purged.works
       purged_by cut text script.MediaFault purged = cleared purged.1.0 purged.1.1
@@ -250,9 +247,9 @@ module _ (old : View) (shape : Shape) (form : ℕ) (names : List (List ℕ)) (ta
           → (called : List (List ℕ)) × MayName asked names called × IsOf shape form called table image
       unchanged Knows Dump status input cut text none outcome = over (HasTables Dump) (λ of. (names, refl, of)) true 0 (DumpsRecords old new cut text) status cut text (dumped cut text) outcome
       unchanged Knows (Make name) status input cut text none outcome = ⊎_elim
-          (λ over-it. over (HasTables (Make name)) (λ of. (names, inl refl, of)) true 0 (MadeBy name old new cut text) status cut text (made_by name cut text) over-it)
+          (λ over-it. over (HasTables (Make name)) (λ of. (names, inl refl, of)) true 0 (ByEnd (λ shape. Tries name shape old new) (MakesTable name old new cut text) cut text) status cut text (made_by name cut text) over-it)
           (λ refused. tried name refused.2.shape refused.2.tries) outcome
-      unchanged Knows Purge status input cut text none outcome = over (HasTables Purge) (λ of. (names, refl, of)) false 0 (PurgedBy old new cut text) status cut text (purged_by cut text) outcome
+      unchanged Knows Purge status input cut text none outcome = over (HasTables Purge) (λ of. (names, refl, of)) false 0 (ByEnd (λ shape. WorksOn shape (HasRecords shape old (names_on shape old)) old new) (PurgesRecords old new cut text) cut text) status cut text (purged_by cut text) outcome
       unchanged Knows (Run given) status input cut text none outcome = absurd none
       unchanged Knows (Callers numbers) status input cut text none outcome = absurd none
       unchanged Knows (Drill numbers) status input cut text none outcome = absurd none
@@ -273,11 +270,11 @@ module _ (old : View) (shape : Shape) (form : ℕ) (names : List (List ℕ)) (ta
           = in_shape (λ (s : Shape). OpensLike s old.content image ⊎ Recovers s (index_in s old) taken.final 0 image) taken.shape taken.holds.array.header (λ all. taken.prefix_law.since all image left) in
           let same = this_shape taken.shape taken.holds.array.header in
           ⊎_elim (λ opens. as_before (like image opens))
-          (λ recovers. (taken.final.names, taken.names ∙ ap (λ (s : Shape). names_on s old) same ∙ reads.0, _, own_tables taken.final.names _ image recovers.opens)) seen
+          (λ recovers. (taken.final.names, names_left (index_in taken.shape old) taken.shape depth (settled_data taken.shape old.content.bytes) taken.turns taken.final taken.runs ∙ ap (λ (s : Shape). names_on s old) same ∙ reads.0, _, own taken.final.names _ image recovers.opens.0)) seen
 
       run_by : (frames : Bool) (depth : ℕ) (input : List ℕ) (cut : Bool) (text : List ℕ) (ended : Ended) → RunsAs frames depth input cut text old ended new → HasSome
-      run_by true depth input cut text ended framed = turned depth _ ended framed.taken
-      run_by false depth input cut text ended taken = turned depth (Answers input ended cut text) ended taken
+      run_by true depth input cut text ended framed = turned depth _ ended framed.2
+      run_by false depth input cut text ended taken = turned depth _ ended taken
 
       pub some : (Knows : Place → Type 0) (asked : Words) (status : Status) (input : List ℕ) (cut : Bool) (text : List ℕ) → IsOfRecords asked → OutcomeFor asked Knows old status new input cut text
           → (called : List (List ℕ)) × MayName asked names called × (records : Table) × IsOf shape form called records image

@@ -9,6 +9,7 @@ pub mod Below
 pub mod FramedOutcomes
 pub mod Acknowledged
 pub mod Unframed
+pub mod Leaving
 pub mod Forming
 pub mod Serving
 pub mod Lining

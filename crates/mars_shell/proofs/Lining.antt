@@ -12,9 +12,8 @@ use Rattle.script_run.specs.declared.ended.Ended.{Ended}
 use Rattle.script_run.specs.declared.ended.Ended.TheVariants.{All as Done, WriteFault, MediaFault, NoMemory}
 use Rattle.mars_shell.specs.Lines.{LineGives, LineStops, call_script}
 use Rattle.mars_shell.specs.OnCore.{TurnsOn}
-use Rattle.mars_shell.specs.Run.{Answers}
+use Rattle.mars_shell.specs.Run.{AnswersLines}
 use Rattle.mars_shell.specs.Standing.{Start, Progress, callers_of, line_script, Stands, Comes}
-use Rattle.mars_shell.proofs.Acknowledged.{committed_kept}
 use Rattle.mars_shell.proofs.Making.{no_fault, clean_more, living}
 
 -- ---- turns without a fault of the medium
@@ -81,21 +80,14 @@ module _ (tells : Bool) (callers : ℕ) (core : CoreView) (ready : CanShare tell
   stands = record { limits_are = refl; state_is = refl; runs = refl; sound = ready.sound told; safe = safe_now }
 
   pub by_turns : (later : CoreView) → core.limits.callers ≤ 255 → (input : List ℕ) (ended : Ended) (cut : Bool) (text : List ℕ) → Ran line_script (Stands later) (Comes core begun later) begun (lines_of input) ended cut text
-      → TurnsOn (Answers input ended cut text) core ended later
+      → TurnsOn (λ limits turns final. AnswersLines (call_script limits.callers) [] [] input ended cut text turns) core ended later
   by_turns later few input ended cut text ran =
       let answered = answered_turns begun 1 (lines_of input) ended cut ran.answers ran.rest ran.final ran.answered in
       let runs : Runs core.limits core.state ran.final.turns later.state = subst (λ (turns : List Turn). Runs core.limits core.state turns later.state) (sym ran.comes.turns_are) ran.comes.runs in
-      let most : core.limits.callers ≤ 2 ^ 64 = omega (arith, few) in
       record {
         turns = ran.final.turns;
         runs = runs;
-        does = record {
-          answers = ran.answers;
-          rest = ran.rest;
-          text_is = ran.text_is;
-          answered = answered;
-          acknowledged = λ caller n few fits has. committed_kept core.limits.callers most caller n few fits core.limits core.state later.state (lines_of input) ended cut ran.answers ran.rest ran.final.turns (ready.sound told) runs answered has;
-        };
+        does = record { answers = ran.answers; rest = ran.rest; text_is = ran.text_is; answered = answered };
         continues = ran.comes.continues;
         alive = λ unfailed. living core.limits core.state later.state ran.final.turns runs ready.alive
             (answered_clean core.limits.callers [] 1 (lines_of input) ended cut ran.answers ran.rest ran.final.turns unfailed answered refl);

@@ -38,7 +38,15 @@ module _ (tells : Bool) (told : IsTrue tells) (old : View) (only_now : (image : 
 
       module _ (Says : Limits → List Turn → State → Type 0) (ended : Ended) (served : Served Says Opens (index_at store.state.bytes) store ended later) where
         recovers : (least : ℕ) (image : List ℕ) → opens_of Opens store.shape (index_at store.state.bytes) served.final least image → Recovers store.shape (index_in store.shape old) served.final least image
-        recovers least image has = subst (λ (b : List ℕ). Recovers store.shape (index_at b) served.final least image) (attached.bytes told) has
+        recovers least image has =
+            let opens = has.opens in
+            subst (λ (b : List ℕ). Recovers store.shape (index_at b) served.final least image) (attached.bytes told) (record {
+              count = has.count;
+              at_least = has.at_least;
+              at_most = has.at_most;
+              whole = has.whole;
+              opens = (record { bytes = opens.bytes; opened = opens.opened; sound = opens.sound; named = opens.named; shows = opens.shows }, opens.version);
+            })
 
         -- within the opening, or behind it
         as_opened : AllOpen store.shape old.content → (image : List ℕ) → Opens store.shape image store.state.bytes ⊎ opens_of Opens store.shape (index_at store.state.bytes) served.final 0 image
@@ -66,9 +74,6 @@ module _ (tells : Bool) (told : IsTrue tells) (old : View) (only_now : (image : 
           final = served.final;
           runs = subst (λ (x : List ℕ × ℕ). Runs (limits_of (index_at x.0) store.shape x.1) (begun_on (index_at x.0) x.0) served.turns served.final) (λ i. (attached.bytes told i, limit i)) served.runs;
           says = subst (λ (x : List ℕ × ℕ). Says (limits_of (index_at x.0) store.shape x.1) served.turns served.final) (λ i. (attached.bytes told i, limit i)) served.says;
-          names = served.names ∙ ap names_of (attached.bytes told);
-          base = served.base ∙ ap (λ (b : List ℕ). table_of (index_at b) b) (attached.bytes told);
-          legal = served.legal;
           prefix_law = record {
             now = λ image left. recovers (length served.final.history) image (served.now image (left_now image left));
             since = λ all image left. ⊎_elim (λ was. inl (at_entry tells told old only_now store attached keeps store.shape all image was)) (λ anew. as_opened all image anew)
@@ -76,6 +81,5 @@ module _ (tells : Bool) (told : IsTrue tells) (old : View) (only_now : (image : 
           };
           quiet = λ unfailed at_once. subst (λ (s : Shape). HasNoVote s new.content.bytes) served.shape (handed.behind.quiet told (served.left unfailed).0 (ap (nat_lt 0) at_once));
           waiting = λ unfailed. subst (λ (s : Shape). length (deferred_orders s new.content.bytes) ≤ depth) served.shape (handed.waiting told (served.left unfailed).0);
-          left = λ unfailed. let its = served.left unfailed in own_all its.0 its.1;
-          unwritten = λ unfailed reads. bytes_now (served.left unfailed).0 ∙ served.unwritten unfailed reads ∙ ap upgraded (attached.bytes told);
+          left = λ unfailed. let its = served.left unfailed in (its.1, own_all its.0 its.2);
         }

@@ -13,14 +13,12 @@ use Rattle.record_table.specs.Shown.{table_of}
 use Rattle.record_table.specs.Upgrading.{upgraded, OpensUpgraded}
 use Rattle.history.specs.Legal.{records}
 use Rattle.caller_steps.specs.State.{State}
-use Rattle.caller_steps.specs.State as caller
 use Rattle.caller_steps.specs.Room.{Limits}
 use Rattle.caller_steps.specs.Run.{Turn}
 use Rattle.caller_steps.specs.Step.{Runs}
 use Rattle.caller_steps.specs.Sound.{IsSound}
 use Rattle.caller_steps.specs.Prefix.{HasPrefixOf}
 use Rattle.caller_steps.specs.Core.{CoreView, Continues}
-use Rattle.caller_steps.proofs.Reading.{reads_leave}
 use Rattle.caller_steps.proofs.Sound.{opened_sound}
 use Rattle.mars_core.specs.Over.{limits_of, index_of, IsOver, Begins, OpensWithTables}
 use Rattle.mars_core.specs.declared.fault.CoreFault.TheVariants.{NoMemory}
@@ -77,12 +75,6 @@ module _ (tells : Bool) (Opens : Shape → List ℕ → List ℕ → Type 0) (in
   module _ (told : IsTrue tells) (new : StoreView) (later : CoreView) (over : IsOver tells (Opens new.shape) index new later) (on : Continues core later) where
     shape : new.shape ≡ old.shape
     shape = same_limits index new.shape mid.shape new.depth mid.depth (sym over.limits ∙ on.limits ∙ begins.over.limits) ∙ begins.shape
-
-    base_is : later.state.base ≡ table_of index old.state.bytes
-    base_is = on.base ∙ ap (λ (s : State). s.base) (begun_is told)
-
-    names_are : later.state.names ≡ names_of old.state.bytes
-    names_are = on.names ∙ ap (λ (s : State). s.names) (begun_is told)
 
     -- in terms of the store
     opens_now : (more least : ℕ) (image : List ℕ) → least ≤ more → HasPrefixOf later.opens later.state more image → opens_of Opens old.shape index later.state least image
@@ -141,17 +133,12 @@ module _ (tells : Bool) (Opens : Shape → List ℕ → List ℕ → Type 0) (in
       final = later.state;
       runs = of_first (λ l s. Runs l s turns.turns later.state) turns.runs;
       says = subst (λ (l : Limits). Says l turns.turns later.state) limits_are turns.does;
-      names = names_are;
-      base = base_is;
-      legal = on.sound.doubtful;
       since = going.then (going.weaker base_opens (begins.time told)) (going.weaker (λ image has. inr has) turns_time);
       now = λ image left. opens_now (length later.state.history) (length later.state.history) image (omega arith)
           (on.now image ((over.left later.moment image).0 (subst (λ (t : ℕ). new.left_since t image) (sym over.moment) left)));
       left = λ unfailed.
           let living = sym over.dead ∙ turns.alive unfailed in
-          (living, record { sound = over.sound told living; names = over.names told living; table = over.table told living; keys = over.keys told });
-      unwritten = λ unfailed reads. ap (λ (x : caller.Index). x.bytes) (sym (over.keys told)
-          ∙ reads_leave (limits_of index old.shape old.depth) (begun_on index old.state.bytes) later.state turns.turns (of_first (λ l s. Runs l s turns.turns later.state) turns.runs) (λ caller. refl) reads (turns.alive unfailed));
+          (living, turns.alive unfailed, record { sound = over.sound told living; names = over.names told living; table = over.table told living; keys = over.keys told });
     }
 
   -- callers took turns

@@ -22,8 +22,9 @@ use Rattle.told_commands.specs.Dump.{DumpsRecords}
 use Rattle.array_runs.specs.Records.{HoldsRecords, OverRecords}
 use Rattle.mars_shell.specs.Run.{TakesTurns}
 use Rattle.mars_shell.specs.FramedRun.{RunsAs}
-use Rattle.told_commands.specs.Tables.{MadeBy, Refuses}
-use Rattle.told_commands.specs.Purge.{PurgedBy}
+use Rattle.told_commands.specs.Tables.{Tries, MakesTable, Refuses}
+use Rattle.told_commands.specs.Purge.{PurgesRecords}
+use Rattle.told_commands.specs.Told.{ByEnd, HasRecords, names_on, WorksOn}
 use Rattle.array_runs.specs.declared.status.Refusal.{Refusal}
 use Rattle.array_runs.specs.declared.status.Status.{Status}
 use Rattle.array_runs.specs.declared.status.Status.TheVariants.{Good, Usage, MediaFault, NoMemory, Refused, BadFrame, Gap}
@@ -55,9 +56,9 @@ OutcomeFor Follow Knows old status new input cut text = OutcomeOf true (λ ended
 OutcomeFor Dump Knows old status new input cut text = OverRecords true 0 (DumpsRecords old new cut text) old status new cut text
 OutcomeFor (Drill numbers) Knows old status new input cut text = OverRecords false 0 (λ ended. TakesTurns (depth_of numbers.writing) (Drills numbers ended cut text) old ended new) old status new cut text
 OutcomeFor (Format numbers) Knows old status new input cut text = FormatOutcome numbers old status new cut text
-OutcomeFor (Make name) Knows old status new input cut text = OverRecords true 0 (MadeBy name old new cut text) old status new cut text
+OutcomeFor (Make name) Knows old status new input cut text = OverRecords true 0 (ByEnd (λ shape. Tries name shape old new) (MakesTable name old new cut text) cut text) old status new cut text
     ⊎ ((refusal : Refusal) × (status ≡ Refused refusal) × Refuses name refusal old new cut text)
-OutcomeFor Purge Knows old status new input cut text = OverRecords false 0 (PurgedBy old new cut text) old status new cut text
+OutcomeFor Purge Knows old status new input cut text = OverRecords false 0 (ByEnd (λ shape. WorksOn shape (HasRecords shape old (names_on shape old)) old new) (PurgesRecords old new cut text) cut text) old status new cut text
 
 -- an input whose bytes are known and within the limit
 abbrev pub IsShortInput : Bool → List ℕ → Type 0

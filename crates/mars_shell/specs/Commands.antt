@@ -1,7 +1,6 @@
 -- What a run of raw commands does on a medium that tells its bytes.
 use Rattle.array_image.specs.Decided.{settled_data}
-use Rattle.std.specs.Prelude.{ℕ, ◌≡◌, ◌⊎◌, List, ◌++◌, Bool, true, false, None, Contains, ⊤}
-use Rattle.std.specs.List.{concat}
+use Rattle.std.specs.Prelude.{ℕ, ◌≡◌, ◌⊎◌, List, [], Bool, true, false, None, Contains, ⊤}
 use Rattle.pcm_media.specs.Images.{MayLeave}
 use Rattle.pcm_media.specs.View.{View}
 use Rattle.array_shape.specs.declared.shape.Shape.{Shape}
@@ -12,11 +11,10 @@ use Rattle.eaw_script.specs.Lines.{raw_script}
 use Rattle.eaw_script.specs.Progress.{Progress, MayStand, begun}
 use Rattle.eaw_script.specs.Mirrored.{framed_script, framed_begun}
 use Rattle.script_run.specs.Script.{Script}
-use Rattle.script_run.specs.Lines.{lines_of}
-use Rattle.script_run.specs.Transcript.{Answered}
 use Rattle.script_run.specs.declared.ended.Ended.{Ended}
 use Rattle.script_run.specs.declared.ended.Ended.TheVariants.{All, NoMemory}
 use Rattle.array_runs.specs.Outcome.{Idle}
+use Rattle.mars_shell.specs.Run.{AnswersLines}
 
 -- The lines of the input were answered by a script whose states have this progress, starting from the data of the array with no number live.
 -- What a loss of power may leave at the end opens with data that the script may have reached. What it might have left since the start opens
@@ -24,11 +22,8 @@ use Rattle.array_runs.specs.Outcome.{Idle}
 pub record ObeysBy {S : Type 0} (script : Script S) (first : Shape → State → S) (progress : S → Progress) (old : View) (input : List ℕ) (ended : Ended) (new : View) (cut : Bool) (text : List ℕ) : Type 0 where
   pub shape : Shape
   pub array : IsArray shape old
-  pub answers : List (List ℕ)
-  pub rest : List ℕ
-  pub text_is : text ≡ concat answers ++ rest
   pub final : S
-  pub answered : Answered script (first shape (record { bytes = settled_data shape old.content.bytes; logs = λ t. None })) 1 (lines_of input) ended cut answers rest final
+  pub told : AnswersLines script (first shape (record { bytes = settled_data shape old.content.bytes; logs = λ t. None })) [] input ended cut text final
   pub now : (image : List ℕ) → MayLeave new.content image → (bytes : List ℕ) × Opens shape image bytes × MayStand (progress final) bytes
   pub since : AllOpen shape old.content → (image : List ℕ) → new.left_since old.moment image
       → OpensLike shape old.content image ⊎ ((bytes : List ℕ) × Opens shape image bytes × (MayStand (progress final) bytes ⊎ Contains (progress final).past bytes))

@@ -57,17 +57,13 @@ FormatSays asked size (BadShape which given) Untold Untouched = Untouched × (Is
     ⊎ ((which ≡ MediaLength) × (given ≡ size) × (shape : Shape) × HasAsked asked shape × (size ≡ media_len shape → ⊥)))
 FormatSays asked size _ Untold Untouched = ⊥
 
--- an image that could be left at first, or no array, or the fresh array
-abbrev pub IsOldOrFresh : Shape → Content → List ℕ → Type 0
-IsOldOrFresh shape content image = IsOldOrNew shape fresh_page content image
-
 -- The shape has the numbers asked for. The cells are as they were. Each image that a loss of power might have left since the entry could be
 -- left at first, or is no array, or is the fresh array.
 pub record IsBegun (asked : FormatNumbers) (old new : View) : Type 0 where
   pub shape : Shape
   pub numbers : HasAsked asked shape
   pub cells : SameCells shape old.content.bytes new.content.bytes
-  pub since : (image : List ℕ) → new.left_since old.moment image → IsOldOrFresh shape old.content image
+  pub since : (image : List ℕ) → new.left_since old.moment image → IsOldOrNew shape fresh_page old.content image
 
 -- The medium holds a fresh array, whose data is a sound tree without records, and what a loss of power leaves opens with its data. The line
 -- of the bytes of the medium and of the data is written, or a front of it if it was cut short.

@@ -19,3 +19,4 @@ pub mod Contract
 pub mod Next
 pub mod Room
 pub mod Coming
+pub mod Leaving

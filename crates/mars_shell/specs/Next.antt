@@ -5,7 +5,7 @@ use Rattle.array_image.specs.Decided.{settled_data}
 use Rattle.record_table.specs.Does.{OpensNamed}
 use Rattle.record_table.specs.Shown.{table_of}
 use Rattle.caller_steps.specs.State.{State}
-use Rattle.caller_steps.specs.Prefix.{HasPrefixOf}
+use Rattle.caller_steps.specs.Prefix.{HasPrefix}
 use Rattle.pcm_media.specs.Images.{Content, MayLeave}
 use Rattle.pcm_media.specs.View.{View}
 use Rattle.array_shape.specs.declared.shape.Shape.{Shape}
@@ -34,7 +34,7 @@ records_on shape media = table_of (index_in shape media) (settled_data shape med
 
 -- it is, with the tables of a state and the records of the first transactions of its history, at least so many
 abbrev pub IsOfPrefix : Shape → ℕ → State → ℕ → List ℕ → Type 0
-IsOfPrefix shape form final least image = HasPrefixOf (λ left table. IsOf shape form final.names table left) final least image
+IsOfPrefix shape form final least image = HasPrefix (λ left table. IsOf shape form final.names table left) final.base (final.history ++ final.doubt) least image
 
 -- the words ask for a command that reads the records, or works on them
 abbrev pub IsOfRecords : Words → Type 0

@@ -1,17 +1,13 @@
 -- What is done over a store whose records are read first.
-use Rattle.std.specs.Prelude.{ℕ, ◌≡◌, ◌≢◌, ◌⊎◌, List, ◌++◌, length, Bool, false, IsFalse, Result, Ok, Err}
+use Rattle.std.specs.Prelude.{ℕ, ◌≡◌, ◌≢◌, ◌⊎◌, List, length, Bool, false, Result, Ok, Err}
 use Rattle.mars_base.specs.Causes.{Rose}
 use Rattle.array_shape.specs.declared.shape.Shape.{Shape}
 use Rattle.eaw_face.specs.Causes.{IsAlive}
 use Rattle.eaw_face.specs.StoreView.{StoreView, LeavesOnly}
 use Rattle.page_store.specs.Index.{Index}
-use Rattle.record_table.specs.Names.{names_of}
-use Rattle.record_table.specs.Shown.{table_of}
-use Rattle.record_table.specs.Upgrading.{upgraded}
-use Rattle.history.specs.Legal.{IsLegal}
 use Rattle.caller_steps.specs.State.{State}
 use Rattle.caller_steps.specs.Room.{Limits}
-use Rattle.caller_steps.specs.Run.{Turn, has_write}
+use Rattle.caller_steps.specs.Run.{Turn}
 use Rattle.caller_steps.specs.Step.{Runs}
 use Rattle.caller_steps.specs.Prefix.{HasPrefixOf}
 use Rattle.mars_core.specs.Over.{limits_of, OpensWithTables}
@@ -36,13 +32,9 @@ pub record Served (Says : Limits → List Turn → State → Type 0) (Opens : Sh
   pub final : State
   pub runs : Runs (limits_of index old.shape old.depth) (begun_on index old.state.bytes) turns final
   pub says : Says (limits_of index old.shape old.depth) turns final
-  pub names : final.names ≡ names_of old.state.bytes
-  pub base : final.base ≡ table_of index old.state.bytes
-  pub legal : IsLegal final.base (final.history ++ final.doubt)
   pub since : LeavesOnly (λ image. Opens old.shape image old.state.bytes ⊎ opens_of Opens old.shape index final 0 image) old new
   pub now : (image : List ℕ) → new.left_since new.moment image → opens_of Opens old.shape index final (length final.history) image
-  pub left : ended ≢ MediaFault → IsAlive new × HasAll index new.state.bytes final
-  pub unwritten : ended ≢ MediaFault → IsFalse (has_write turns) → new.state.bytes ≡ upgraded old.state.bytes
+  pub left : ended ≢ MediaFault → IsAlive new × (final.is_dead ≡ false) × HasAll index new.state.bytes final
 
 -- that, or the records were not taken
 abbrev pub Serves : (Ended → Limits → List Turn → State → Type 0) → (Shape → List ℕ → List ℕ → Type 0) → Index → StoreView → Result Ended CoreFault → Bool → List ℕ → StoreView → Type 0

@@ -16,7 +16,7 @@ ghost use Rattle.mars_shell.specs.Asked.{OutcomeFor};
 ghost use Rattle.mars_shell.specs.Formats.{FormatOutcome, HasAsked};
 ghost use Rattle.mars_shell.specs.Next.{IsOf, AllAreOf, IsOfPrefix, IsOfRecords, ChangesNone, MayName, records_on};
 ghost use Rattle.mars_shell.specs.PrefixLaw.{PrefixLaw};
-ghost use Rattle.told_commands.specs.Tables.{names_on};
+ghost use Rattle.told_commands.specs.Told.{names_on};
 
 use btree_pages::BTreePages;
 use caller_work::Gate;

@@ -50,8 +50,9 @@ pub(crate) fn run_lines<S: Source, K: Sink, M: Media + Drop + Send, D: Depth + S
 pub struct ByTurns;
 
 impl CoreWork for ByTurns {
-    ghost use Rattle.std.specs.Prelude.{true, false};
-    ghost use Rattle.mars_shell.specs.Run.{Answers};
+    ghost use Rattle.std.specs.Prelude.{[], true, false};
+    ghost use Rattle.mars_shell.specs.Lines.{call_script};
+    ghost use Rattle.mars_shell.specs.Run.{AnswersLines};
 
     ghost reads = { true };
 
@@ -59,7 +60,7 @@ impl CoreWork for ByTurns {
 
     ghost at_once = { false };
 
-    ghost does = { λ work. Answers };
+    ghost does = { λ work input ended cut text limits turns final. AnswersLines (call_script limits.callers) [] [] input ended cut text turns };
 
     fn reads(&self) -> bool {
         true

@@ -30,7 +30,7 @@ use Rattle.texts.specs.Written.{IsWritten}
 use Rattle.array_runs.specs.Forms.{index_of_form, index_at}
 use Rattle.array_runs.specs.Records.{HoldsRecords}
 use Rattle.array_runs.proofs.Forming.{sound_is_own}
-use Rattle.told_commands.specs.Tables.{names_on}
+use Rattle.told_commands.specs.Told.{names_on}
 use Rattle.dump_text.specs.Again.{AreOfArray, IsReadAs, dumped as dump_of}
 use Rattle.dump_text.specs.Causes.{DumpSays}
 use Rattle.dump_text.specs.Dump.{AreTables, IsDumpOf, tables_met}

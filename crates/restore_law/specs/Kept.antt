@@ -11,7 +11,7 @@ use Rattle.record_table.specs.Shown.{table_of}
 use Rattle.script_run.specs.declared.ended.Ended.TheVariants.{All}
 use Rattle.array_runs.specs.Forms.{index_in}
 use Rattle.told_commands.specs.Dump.{DumpsRecords}
-use Rattle.told_commands.specs.Tables.{names_on}
+use Rattle.told_commands.specs.Told.{names_on}
 use Rattle.restore_law.specs.Told.{AreTold}
 
 -- From one view to the other the array on a medium was dumped, and this text was told, whole: what a run of `dump` says that ended well.

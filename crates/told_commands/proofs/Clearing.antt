@@ -42,8 +42,8 @@ use Rattle.script_run.specs.declared.ended.Ended.{Ended}
 use Rattle.script_run.specs.declared.ended.Ended.TheVariants as script
 use Rattle.array_runs.specs.Forms.{index_of_form, index_at, SaysForm}
 use Rattle.array_runs.specs.Records.{HoldsRecords, IsDamaged, Exceeds, OverRecords, HasAll, begun_on}
-use Rattle.told_commands.specs.Purge.{ClearsTo, ClearsStore, ClearedCounts, IsAnswer, StopCause, cleared, PurgesRecords, PurgedBy, purged_end, LeavesPurged}
-use Rattle.told_commands.specs.Told.{HasNames, WorksOn, Tells, FaultCounts, Ran}
+use Rattle.told_commands.specs.Purge.{ClearsTo, ClearsStore, ClearedCounts, IsAnswer, StopCause, cleared, PurgesRecords, purged_end, LeavesPurged}
+use Rattle.told_commands.specs.Told.{ByEnd, HasRecords, names_on, WorksOn, Tells, FaultCounts, Ran}
 use Rattle.array_runs.specs.Statuses.{Counts, IsEarly, served_status}
 use Rattle.array_runs.specs.declared.status.Status.{Status}
 use Rattle.array_runs.specs.declared.status.Status.TheVariants.{Good, WriteFault, NoMemory}
@@ -246,11 +246,11 @@ clears_over tells Opens form old mid new says r clears = record {
 
 -- what comes of a purge
 abbrev pub PurgeOutcome : View → Status → View → Bool → List ℕ → Type 0
-PurgeOutcome old status new cut text = OverRecords false 0 (PurgedBy old new cut text) old status new cut text
+PurgeOutcome old status new cut text = OverRecords false 0 (ByEnd (λ shape. WorksOn shape (HasRecords shape old (names_on shape old)) old new) (PurgesRecords old new cut text) cut text) old status new cut text
 
 -- nothing was done
 pub as_purged : (old : View) (status : Status) (new : View) → OverRecords false 0 (λ ended. ⊥) old status new false [] → PurgeOutcome old status new false []
-as_purged old status new outcome = outcome_as false (λ ended. ⊥) (PurgedBy old new false []) (λ page. IsDamaged old page × (Exceeds 0 old → ⊥)) (HoldsArray old × (Exceeds 0 old → ⊥)) (Exceeds 0 old) old status new false []
+as_purged old status new outcome = outcome_as false (λ ended. ⊥) (ByEnd (λ shape. WorksOn shape (HasRecords shape old (names_on shape old)) old new) (PurgesRecords old new false []) false []) (λ page. IsDamaged old page × (Exceeds 0 old → ⊥)) (HoldsArray old × (Exceeds 0 old → ⊥)) (Exceeds 0 old) old status new false []
     (λ ended none. absurd none) outcome
 
 module _ (tells : Bool) (told : IsTrue tells) (old : View) (only_now : (image : List ℕ) → IsTrue tells → old.left_since old.moment image → MayLeave old.content image)
@@ -264,10 +264,10 @@ module _ (tells : Bool) (told : IsTrue tells) (old : View) (only_now : (image : 
   left_now image left = subst (λ (t : ℕ). later.left_since t image) behind.moment (behind.left new.moment image (counts_now new.moment image told (omega arith) left))
 
   module _ (result : Result ℕ CoreFault) (clears : ClearsStore tells (Opens store.shape) (index_at store.state.bytes) store later result) where
-    has : (image : List ℕ) → OpensAsNamed (Opens store.shape) (index_at store.state.bytes) store.state.bytes image → HasNames store.shape old image
+    has : (image : List ℕ) → OpensAsNamed (Opens store.shape) (index_at store.state.bytes) store.state.bytes image → HasRecords store.shape old (names_on store.shape old) image
     has image opens = own (λ b. OpensAsNamed (Opens store.shape) (index_at b) b image) opens
 
-    clear : WorksOn store.shape (HasNames store.shape old) old new
+    clear : WorksOn store.shape (HasRecords store.shape old (names_on store.shape old)) old new
     clear = record {
       holds = holds tells told old only_now store attached keeps (clears.sound told);
       later = λ all. omega (arith, (keeps told store.shape all).later, (clears.time told).later, behind.moment);
@@ -333,4 +333,4 @@ comes_of tells told old store mid later new ran form says end left status cut te
 module _ (old new : View) (cut : Bool) (text : List ℕ) (s s' k k' m m' : ℕ) (shape : Shape) (holds : HoldsRecords shape old) (no_source : Rose s s' → ⊥) (no_sink : Rose k k' → ⊥) (no_media : Rose m m' → ⊥) where
   pub complete_purge : (status : Status) → (IsEarly status → ⊥) → Counts status s s' k k' m m' → PurgeOutcome old status new cut text → (status ≡ Good) ⊎ (status ≡ NoMemory)
   complete_purge status late counts outcome =
-      complete_records false 0 (PurgedBy old new cut text) old status new cut text [] [] s s' k k' m m' (omega arith) shape holds (omega arith) no_source no_sink no_media counts (nothing_read status late) outcome
+      complete_records false 0 (ByEnd (λ shape. WorksOn shape (HasRecords shape old (names_on shape old)) old new) (PurgesRecords old new cut text) cut text) old status new cut text [] [] s s' k k' m m' (omega arith) shape holds (omega arith) no_source no_sink no_media counts (nothing_read status late) outcome

@@ -1,5 +1,5 @@
 -- A table that is made in an array that was opened.
-use Rattle.std.proofs.Common.{◌≡◌, ◌⊎◌, ◌<◌, ◌≤◌, inl, inr, ⊎_elim, ℕ, Bool, true, false, List, [], length, Result, Ok, Err, OnOk, OnErr, refl, sym, ap, subst, ◌∙◌, arith}
+use Rattle.std.proofs.Common.{◌≡◌, ◌⊎◌, ◌<◌, ◌≤◌, inl, inr, ⊎_elim, ℕ, Bool, true, false, List, [], ◌∷◌, ◌++◌, length, Result, Ok, Err, OnOk, OnErr, refl, sym, ap, subst, ◌∙◌, arith}
 use Rattle.std.specs.Prelude.{IsTrue, if◌then◌else◌, Some, slice_get}
 use Rattle.std.proofs.lemmas.Bool.{false≢true}
 use Rattle.mars_base.specs.Causes.{Rose}
@@ -29,8 +29,8 @@ use Rattle.script_run.specs.declared.ended.Ended.TheVariants as script
 use Rattle.array_runs.specs.Forms.{index_of_form, index_at, SaysForm}
 use Rattle.array_runs.specs.Records.{HoldsRecords, IsDamaged, Exceeds, OverRecords}
 use Rattle.array_runs.specs.Statuses.{Counts, IsEarly}
-use Rattle.told_commands.specs.Tables.{made_status, table_line, HasNewName, Tries, MakesTable, MadeBy, RefusalCause, Refuses, made_end, LeavesTable}
-use Rattle.told_commands.specs.Told.{HasNames, Tells, FaultCounts, IsStop, Ran}
+use Rattle.told_commands.specs.Tables.{made_status, table_line, Tries, MakesTable, RefusalCause, Refuses, made_end, LeavesTable}
+use Rattle.told_commands.specs.Told.{ByEnd, HasRecords, names_on, Tells, FaultCounts, IsStop, Ran}
 use Rattle.array_runs.specs.declared.status.Refusal.{Refusal}
 use Rattle.array_runs.specs.declared.status.Refusal.TheVariants.{Exists, TablesFull, PagesFull}
 use Rattle.array_runs.specs.declared.status.Status.{Status}
@@ -43,11 +43,11 @@ use Rattle.array_runs.proofs.Statuses.{outcome_as}
 -- what comes of the making of a table
 abbrev pub MakeOutcome : List ℕ → View → Status → View → Bool → List ℕ → Type 0
 MakeOutcome name old status new cut text =
-    OverRecords true 0 (MadeBy name old new cut text) old status new cut text ⊎ ((refusal : Refusal) × (status ≡ Refused refusal) × Refuses name refusal old new cut text)
+    OverRecords true 0 (ByEnd (λ shape. Tries name shape old new) (MakesTable name old new cut text) cut text) old status new cut text ⊎ ((refusal : Refusal) × (status ≡ Refused refusal) × Refuses name refusal old new cut text)
 
 -- nothing was done, whatever the name is
 pub as_made : (name : List ℕ) (old : View) (status : Status) (new : View) → OverRecords true 0 (λ ended. ⊥) old status new false [] → MakeOutcome name old status new false []
-as_made name old status new outcome = inl (outcome_as true (λ ended. ⊥) (MadeBy name old new false []) (λ page. IsDamaged old page × (Exceeds 0 old → ⊥)) (HoldsArray old × (Exceeds 0 old → ⊥)) (Exceeds 0 old) old status new false []
+as_made name old status new outcome = inl (outcome_as true (λ ended. ⊥) (ByEnd (λ shape. Tries name shape old new) (MakesTable name old new false []) false []) (λ page. IsDamaged old page × (Exceeds 0 old → ⊥)) (HoldsArray old × (Exceeds 0 old → ⊥)) (Exceeds 0 old) old status new false []
     (λ ended none. absurd none) outcome)
 
 module _ (tells : Bool) (told : IsTrue tells) (old : View) (only_now : (image : List ℕ) → IsTrue tells → old.left_since old.moment image → MayLeave old.content image)
@@ -61,10 +61,10 @@ module _ (tells : Bool) (told : IsTrue tells) (old : View) (only_now : (image : 
   left_now image left = subst (λ (t : ℕ). later.left_since t image) behind.moment (behind.left new.moment image (counts_now new.moment image told (omega arith) left))
 
   module _ (result : Result ℕ MakeFault) (made : making.MakesTable tells (Opens store.shape) (index_at store.state.bytes) name store later result) where
-    had : (image : List ℕ) → OpensAsNamed (Opens store.shape) (index_at store.state.bytes) store.state.bytes image → HasNames store.shape old image
+    had : (image : List ℕ) → OpensAsNamed (Opens store.shape) (index_at store.state.bytes) store.state.bytes image → HasRecords store.shape old (names_on store.shape old) image
     had image opens = own (λ b. OpensAsNamed (Opens store.shape) (index_at b) b image) opens
 
-    has : (image : List ℕ) → OpensWithName (Opens store.shape) (index_at store.state.bytes) name store.state.bytes image → HasNewName name store.shape old image
+    has : (image : List ℕ) → OpensWithName (Opens store.shape) (index_at store.state.bytes) name store.state.bytes image → HasRecords store.shape old (names_on store.shape old ++ name ∷ []) image
     has image opens = own (λ b. OpensWithName (Opens store.shape) (index_at b) name b image) opens
 
     tries : Tries name store.shape old new
@@ -189,5 +189,5 @@ module _ (name : List ℕ) (old new : View) (cut : Bool) (text : List ℕ) (s s'
   pub complete_make : (status : Status) → (IsEarly status → ⊥) → Counts status s s' k k' m m' → MakeOutcome name old status new cut text → (status ≡ Good) ⊎ ((status ≡ NoMemory) ⊎ ((refusal : Refusal) × (status ≡ Refused refusal)))
   complete_make status late counts outcome = ⊎_elim
       (λ over. ⊎_elim (λ good. inl good) (λ short. inr (inl short))
-      (complete_records true 0 (MadeBy name old new cut text) old status new cut text [] [] s s' k k' m m' (omega arith) shape holds (omega arith) no_source no_sink no_media counts (nothing_read status late) over))
+      (complete_records true 0 (ByEnd (λ shape. Tries name shape old new) (MakesTable name old new cut text) cut text) old status new cut text [] [] s s' k k' m m' (omega arith) shape holds (omega arith) no_source no_sink no_media counts (nothing_read status late) over))
       (λ refused. inr (inr (refused.0, refused.1))) outcome

@@ -18,12 +18,11 @@ use Rattle.mars_core.specs.declared.fault.CoreFault.TheVariants as core
 use Rattle.history_text.specs.Text.{number_line}
 use Rattle.texts.specs.Written.{IsWritten}
 use Rattle.script_run.specs.declared.ended.Ended.{Ended}
-use Rattle.script_run.specs.declared.ended.Ended.TheVariants.{MediaFault, NoMemory}
 use Rattle.array_runs.specs.Forms.{index_in}
 use Rattle.array_runs.specs.Records.{HasAll, begun_on}
 use Rattle.array_runs.specs.Statuses.{served_status}
 use Rattle.array_runs.specs.declared.status.Status.{Status}
-use Rattle.told_commands.specs.Told.{HasNames, WorksOn, Finishes}
+use Rattle.told_commands.specs.Told.{HasRecords, names_on, WorksOn, Finishes}
 
 -- Of n keys without a record the index, in version 2, has lost each, and each key without a record that it still has is the last of its page.
 -- This is said of the data of a store.
@@ -73,18 +72,12 @@ pub record ClearsStore (tells : Bool) (Opens : List ℕ → List ℕ → Type 0)
 -- them. How many keys they are is told.
 pub record PurgesRecords (old new : View) (cut : Bool) (text : List ℕ) (ended : Ended) : Type 0 where
   pub shape : Shape
-  pub works : WorksOn shape (HasNames shape old) old new
+  pub works : WorksOn shape (HasRecords shape old (names_on shape old)) old new
   pub count : ℕ
   pub final : State
   pub purged : Purges (limits_of (index_in shape old) shape 0) (begun_on (index_in shape old) (settled_data shape old.content.bytes)) count final
   pub left : HasAll (index_in shape new) (settled_data shape new.content.bytes) final
-  pub finishes : Finishes shape (HasNames shape old) (number_line (codes "purged") count) new cut text ended
-
--- By how it ended. If the medium failed, nothing is told.
-abbrev pub PurgedBy : View → View → Bool → List ℕ → Ended → Type 0
-PurgedBy old new cut text MediaFault = IsWritten cut text [] × ((shape : Shape) × WorksOn shape (HasNames shape old) old new)
-PurgedBy old new cut text NoMemory = ⊥
-PurgedBy old new cut text ended = PurgesRecords old new cut text ended
+  pub finishes : Finishes shape (HasRecords shape old (names_on shape old)) (number_line (codes "purged") count) new cut text ended
 
 -- what is told of a purge: the line of how many keys, or the status with which it ended
 abbrev pub purged_end : Result ℕ CoreFault → Result (List ℕ) Status

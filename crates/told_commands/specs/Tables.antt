@@ -15,34 +15,24 @@ use Rattle.record_table.specs.Upgrading.{upgraded}
 use Rattle.record_table.specs.declared.making.MakeFault.{MakeFault}
 use Rattle.record_table.specs.declared.making.MakeFault.TheVariants as make
 use Rattle.mars_core.specs.Making as making
-use Rattle.mars_core.specs.Making.{OpensWithName}
 use Rattle.texts.specs.Written.{IsWritten}
 use Rattle.script_run.specs.declared.ended.Ended.{Ended}
-use Rattle.script_run.specs.declared.ended.Ended.TheVariants.{MediaFault, NoMemory}
 use Rattle.array_runs.specs.Forms.{index_in}
 use Rattle.array_runs.specs.declared.status.Refusal.{Refusal}
 use Rattle.array_runs.specs.declared.status.Refusal.TheVariants.{Exists, TablesFull, PagesFull}
 use Rattle.array_runs.specs.declared.status.Status.{Status}
 use Rattle.array_runs.specs.declared.status.Status.TheVariants.{Refused, Damaged}
 use Rattle.array_runs.specs.declared.status.Status.TheVariants.{MediaFault as MediaStatus}
-use Rattle.told_commands.specs.Told.{HasNames, WorksOn, Finishes}
+use Rattle.told_commands.specs.Told.{HasRecords, names_on, WorksOn, Finishes}
 
 -- the line that tells a new table: its number and its name
 abbrev pub table_line : ℕ → List ℕ → List ℕ
 table_line number name = codes "table " ++ (decimal number ++ 32 ∷ (name ++ 10 ∷ []))
 
--- the names of the tables in the array that a medium holds, by their numbers
-abbrev pub names_on : Shape → View → List (List ℕ)
-names_on shape media = names_of (settled_data shape media.content.bytes)
-
--- an image opens with the records that were there, and with one more name, which is the last
-abbrev pub HasNewName : List ℕ → Shape → View → List ℕ → Type 0
-HasNewName name shape old image = OpensWithName (Opens shape) (index_in shape old) name (settled_data shape old.content.bytes) image
-
 -- A table of this name was to be made. An image that might have been left meanwhile opens with the records that were there, under the names that
 -- were there or under those and the new one.
 abbrev pub Tries : List ℕ → Shape → View → View → Type 0
-Tries name shape old new = WorksOn shape (λ image. HasNames shape old image ⊎ HasNewName name shape old image) old new
+Tries name shape old new = WorksOn shape (λ image. HasRecords shape old (names_on shape old) image ⊎ HasRecords shape old (names_on shape old ++ name ∷ []) image) old new
 
 -- The table was made: no table had the name, there were fewer than eight, and a page was left. It has the number behind those that there
 -- were, which is told. Whatever a loss of power may leave at the end has the new name.
@@ -52,13 +42,7 @@ pub record MakesTable (name : List ℕ) (old new : View) (cut : Bool) (text : Li
   pub is_new : IsNew name (names_on shape old)
   pub few : length (names_on shape old) < 8
   pub page : next_page (settled_data shape old.content.bytes) < index_pages_of shape
-  pub finishes : Finishes shape (HasNewName name shape old) (table_line (length (names_on shape old)) name) new cut text ended
-
--- By how it ended. If the medium failed, nothing is told.
-abbrev pub MadeBy : List ℕ → View → View → Bool → List ℕ → Ended → Type 0
-MadeBy name old new cut text MediaFault = IsWritten cut text [] × ((shape : Shape) × Tries name shape old new)
-MadeBy name old new cut text NoMemory = ⊥
-MadeBy name old new cut text ended = MakesTable name old new cut text ended
+  pub finishes : Finishes shape (HasRecords shape old (names_on shape old ++ name ∷ [])) (table_line (length (names_on shape old)) name) new cut text ended
 
 -- why there is no new table: the name is asked first, then a number, then a page
 abbrev pub RefusalCause : List ℕ → Shape → View → Refusal → Type 0
@@ -74,7 +58,7 @@ pub record Refuses (name : List ℕ) (refusal : Refusal) (old new : View) (cut :
   pub tries : Tries name shape old new
   pub cause : RefusalCause name shape old refusal
   pub left : settled_data shape new.content.bytes ≡ upgraded (settled_data shape old.content.bytes)
-  pub now : (image : List ℕ) → MayLeave new.content image → HasNames shape old image
+  pub now : (image : List ℕ) → MayLeave new.content image → HasRecords shape old (names_on shape old) image
   pub quiet : HasNoVote shape new.content.bytes
   pub silent : IsWritten cut text []
 

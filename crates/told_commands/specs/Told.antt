@@ -9,7 +9,9 @@ use Rattle.device_recovery.specs.Recovered.{HasNoVote}
 use Rattle.eaw_face.specs.StoreView.{StoreView}
 use Rattle.eaw_device.specs.Opens.{Opens, AllOpen, OpensLike, KeepsData, Attached, IsBehind}
 use Rattle.page_store.specs.Index.{Index}
-use Rattle.mars_core.specs.Making.{OpensAsNamed}
+use Rattle.record_table.specs.Does.{OpensNamed}
+use Rattle.record_table.specs.Names.{names_of}
+use Rattle.record_table.specs.Shown.{table_of}
 use Rattle.mars_core.specs.declared.fault.CoreFault.{CoreFault}
 use Rattle.texts.specs.Written.{IsWritten}
 use Rattle.script_run.specs.declared.ended.Ended.{Ended}
@@ -52,9 +54,13 @@ pub record WorksOn (shape : Shape) (Is : List ℕ → Type 0) (old new : View) :
   pub later : AllOpen shape old.content → old.moment ≤ new.moment
   pub since : AllOpen shape old.content → (image : List ℕ) → new.left_since old.moment image → OpensLike shape old.content image ⊎ Is image
 
--- an image opens with the records and the names that were there
-abbrev pub HasNames : Shape → View → List ℕ → Type 0
-HasNames shape old image = OpensAsNamed (Opens shape) (index_in shape old) (settled_data shape old.content.bytes) image
+-- the names of the tables in the array that a medium holds, by their numbers
+abbrev pub names_on : Shape → View → List (List ℕ)
+names_on shape media = names_of (settled_data shape media.content.bytes)
+
+-- an image opens with the records that were there, under these names
+abbrev pub HasRecords : Shape → View → List (List ℕ) → List ℕ → Type 0
+HasRecords shape old names image = OpensNamed (Opens shape) (index_in shape old) image names (table_of (index_in shape old) (settled_data shape old.content.bytes))
 
 -- The work came to its end: whatever a loss of power may leave is such, no row is voted, and this is told, or a front of it if the sink cut it
 -- short.
@@ -63,6 +69,12 @@ pub record Finishes (shape : Shape) (Is : List ℕ → Type 0) (whole : List ℕ
   pub quiet : HasNoVote shape new.content.bytes
   pub end : ended ≡ (if cut then script.WriteFault else script.All)
   pub told : IsWritten cut text whole
+
+-- By how it ended: the work was done, or the medium failed when it had begun, and then nothing is told.
+abbrev pub ByEnd : (Shape → Type 0) → (Ended → Type 0) → Bool → List ℕ → Ended → Type 0
+ByEnd Begun Done cut text script.MediaFault = IsWritten cut text [] × ((shape : Shape) × Begun shape)
+ByEnd Begun Done cut text script.NoMemory = ⊥
+ByEnd Begun Done cut text ended = Done ended
 
 -- what is written at the end, and the status: the text, whole or cut, or nothing
 abbrev pub Tells : Result (List ℕ) Status → Status → Bool → List ℕ → Type 0

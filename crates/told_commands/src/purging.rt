@@ -25,13 +25,14 @@ pub struct Purge;
 impl ToldWork for Purge {
     ghost use Rattle.std.specs.Prelude.{false};
     ghost use Rattle.array_runs.specs.Records.{OverRecords};
-    ghost use Rattle.told_commands.specs.Purge.{LeavesPurged, PurgedBy};
+    ghost use Rattle.told_commands.specs.Purge.{LeavesPurged, PurgesRecords};
+    ghost use Rattle.told_commands.specs.Told.{ByEnd, HasRecords, names_on, WorksOn};
 
     ghost spares = { false };
 
     ghost leaves = { λ work. LeavesPurged };
 
-    ghost comes = { λ work old status new cut text. OverRecords false 0 (PurgedBy old new cut text) old status new cut text };
+    ghost comes = { λ work old status new cut text. OverRecords false 0 (ByEnd (λ shape. WorksOn shape (HasRecords shape old (names_on shape old)) old new) (PurgesRecords old new cut text) cut text) old status new cut text };
 
     fn work_on<S: EawStore, I: KeyIndex>(
         &self,

@@ -22,15 +22,16 @@ pub struct NewTable {
 impl ToldWork for NewTable {
     ghost use Rattle.std.specs.Prelude.{◌≡◌, ◌⊎◌, true};
     ghost use Rattle.array_runs.specs.Records.{OverRecords};
+    ghost use Rattle.told_commands.specs.Told.{ByEnd};
     ghost use Rattle.array_runs.specs.declared.status.Refusal.{Refusal};
     ghost use Rattle.array_runs.specs.declared.status.Status.TheVariants.{Refused};
-    ghost use Rattle.told_commands.specs.Tables.{LeavesTable, MadeBy, Refuses};
+    ghost use Rattle.told_commands.specs.Tables.{LeavesTable, MakesTable, Refuses, Tries};
 
     ghost spares = { true };
 
     ghost leaves = { λ work. LeavesTable work.name };
 
-    ghost comes = { λ work old status new cut text. OverRecords true 0 (MadeBy work.name old new cut text) old status new cut text
+    ghost comes = { λ work old status new cut text. OverRecords true 0 (ByEnd (λ shape. Tries work.name shape old new) (MakesTable work.name old new cut text) cut text) old status new cut text
         ⊎ ((refusal : Refusal) × (status ≡ Refused refusal) × Refuses work.name refusal old new cut text) };
 
     fn work_on<S: EawStore, I: KeyIndex>(

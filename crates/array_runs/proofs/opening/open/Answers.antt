@@ -1,4 +1,4 @@
-use Rattle.std.proofs.Common.{refl, sym, subst}
+use Rattle.std.proofs.Common.{refl, sym, subst, arith}
 use Rattle.array_runs.proofs.Unopened.{unread_of}
 use Rattle.array_runs.specs.Statuses.{IsEarly}
 use Rattle.array_runs.proofs.Endings.{counts_unread, counts_unlooked, unread_unopened, input_read}
@@ -32,3 +32,9 @@ returns-in-Err-open_array-clause-input g c = λ asked told.
 
 pub returns-in-Err-clause-input : goal.returns-in-Err-clause-input
 returns-in-Err-clause-input g c = λ asked. c.in-Err.ensures.input
+
+pub returns-in-Err-clause-within : goal.returns-in-Err-clause-within
+returns-in-Err-clause-within g c = λ told shape says none. omega arith
+
+pub returns-in-Err-open_array-clause-within : goal.returns-in-Err-open_array-clause-within
+returns-in-Err-open_array-clause-within g c = c.in-Err-open_array.ensures.within

@@ -10,4 +10,7 @@ returns-in-Err-clause-unopened g c = λ told.
     let new = g.M.Media.view c.in-Err.media in
     let failed = c.in-Err.ensures in
     subst (λ (s : Status). Unopened old s new) (sym c.status_of.ensures)
-    (unopened_of g.M.Media.tells told old (g.met.M.Media.only_now c.args.media) new c.in-Err.fault failed.cause failed.unwritten failed.keeps_on_err failed.within failed.early)
+    (unopened_of g.M.Media.tells told old (g.met.M.Media.only_now c.args.media) new c.in-Err.fault failed.cause failed.unwritten failed.keeps_on_err)
+
+pub returns-in-Err-clause-within : goal.returns-in-Err-clause-within
+returns-in-Err-clause-within g c = c.in-Err.ensures.within

@@ -5,12 +5,12 @@ use Rattle.array_runs.specs.Opening.{IsUnopened}
 use Rattle.array_runs.specs.Records.{IsDamaged, Exceeds}
 use Rattle.array_runs.specs.Statuses.{IsEarly, IsRefusal}
 use Rattle.array_runs.proofs.Endings.{counts_unwritten}
-use Rattle.array_runs.proofs.Opened.{array, left_alone}
+use Rattle.array_runs.proofs.Opened.{array, left_alone, opened_within}
 use Rattle.array_runs.proofs.Unopened.{idle_same, unopened_as}
 use Rattle.array_runs.proofs.opening.open_for.Goals as goal
 
 pub returns-in-Err-clause-outcome : goal.returns-in-Err-clause-outcome
-returns-in-Err-clause-outcome g c = λ told. inl (idle_same g.M.Media.tells told (g.M.Media.view c.args.media) (g.met.M.Media.only_now c.args.media) _ _ (inl refl))
+returns-in-Err-clause-outcome g c = λ told. inl (idle_same g.M.Media.tells told (g.M.Media.view c.args.media) (g.met.M.Media.only_now c.args.media) _ _ tt)
 
 pub returns-in-Err-clause-usage : goal.returns-in-Err-clause-usage
 returns-in-Err-clause-usage g c = λ is. absurd (subst IsRefusal (sym is) tt)
@@ -73,3 +73,15 @@ returns-then-callers-shape-clause-counts g c = λ sink. (c.in_ok-input.ensures.k
 
 pub returns-clause-enough : goal.returns-clause-enough
 returns-clause-enough g c = omega (arith, c.if-callers-shape.false, ap (λ s. s.numbers) c.shape.ensures)
+
+pub returns-in-Err-clause-within : goal.returns-in-Err-clause-within
+returns-in-Err-clause-within g c = λ told shape says none. omega arith
+
+pub returns-in_err-input-clause-within : goal.returns-in_err-input-clause-within
+returns-in_err-input-clause-within g c =
+    let exit = err_from_is_err_and c.from_residual.result c.from_residual.ensures.1 in
+    rw (exit.1, exit.2) c.in_err-input.ensures.within
+
+pub returns-then-callers-shape-clause-within : goal.returns-then-callers-shape-clause-within
+returns-then-callers-shape-clause-within g c =
+    opened_within g.M.Media.tells (g.M.Media.view c.args.media) _ c.in_ok-input.ensures.attached (g.M.Media.view c.into_media.result) c.into_media.ensures.behind.moment
