@@ -1,12 +1,14 @@
 -- A medium that was just made.
-use Rattle.std.proofs.Common.{◌≡◌, ℕ, zero, suc, ◌-◌, ◌/◌, ◌<◌, ◌≤◌, Bool, false, inl, inr, List, [], ◌∷◌, length, get_or, take, refl, sym, ◌∙◌, ap, subst, arith, length-append}
-use Rattle.std.specs.Prelude.{◌↔◌}
+use Rattle.std.proofs.Common.{◌≡◌, ℕ, zero, suc, ◌-◌, ◌/◌, ◌<◌, ◌≤◌, Bool, false, inl, inr, List, [], ◌∷◌, length, get_or, replicate, refl, sym, ◌∙◌, ap, subst, arith, length-append}
+use Rattle.std.specs.Prelude.{◌↔◌, IsTrue}
 use Rattle.std.proofs.lemmas.Bool.{cases_lt}
-use Rattle.std.proofs.lemmas.List.{get_or-take, get_or_append_left, get_or-append_right, get_or_past, length-take-le}
+use Rattle.std.proofs.lemmas.List.{get_or_append_left, get_or-append_right, length-replicate}
+use Rattle.pcm_media.specs.Images.{Content, MayLeave}
 use Rattle.pcm_media.specs.View.{View}
-use Rattle.resident_media.specs.Noted.{up_to}
+use Rattle.resident_media.specs.Past.{Past, HasSeen, LeftSince}
+use Rattle.resident_media.specs.Noted.{up_to, at_first}
 use Rattle.resident_media.specs.Blocks.{Kept, fresh}
-use Rattle.resident_media.specs.Resident.{Lies, below, over}
+use Rattle.resident_media.specs.Resident.{Lies, over}
 use Rattle.resident_media.proofs.Places.{none_known}
 use Rattle.resident_media.proofs.Spots.{not_both}
 
@@ -27,30 +29,42 @@ get_or-up_to (suc n) t d lt = elim (cases_lt t n) [
       get_or-append_right (up_to n) (n ∷ []) n t d (length-up_to n) high ∙ first ∙ sym is
 ]
 
-pub lies_anew : (tells : Bool) (inner : View) (kept : Kept) (len blocks capacity moment : ℕ) (stood : List ℕ) → kept ≡ fresh len blocks → moment ≡ inner.moment → stood ≡ up_to moment → len ≤ inner.size
-    → len ≤ capacity → Lies tells inner kept capacity moment stood
-lies_anew tells inner kept len blocks capacity moment stood anew now is fits reserved = record {
-  count = ap (λ (l : List ℕ). length l) is ∙ length-up_to moment;
-  past = λ t lt.
-      let low : t < moment = omega (arith, length-up_to moment, ap (λ (l : List ℕ). length l) is) in
-      omega (arith, ap (λ (l : List ℕ). get_or l t 0) is, get_or-up_to moment t 0 low);
-  later = omega arith;
-  fits = omega (arith, fits, ap (λ (k : Kept). k.len) anew);
-  reserved = omega (arith, reserved, ap (λ (k : Kept). k.len) anew);
-  holds = λ told i lt seen. absurd (not_both (sym (none_known blocks (i / 16384)) ∙ sym (ap (λ (k : Kept). get_or k.known (i / 16384) false) anew) ∙ seen));
-}
+-- the same was seen at each moment
+seen_same : (n : ℕ) (content : Content) (t : ℕ) (image : List ℕ) → HasSeen (replicate n content) t image → MayLeave content image
+seen_same zero content t image has = absurd has
+seen_same (suc n) content zero image (inl one) = one
+seen_same (suc n) content zero image (inr has) = seen_same n content zero image has
+seen_same (suc n) content (suc t) image has = seen_same n content t image has
 
-pub below_anew : (m t : ℕ) → t ≤ m → below (up_to m) m m t ≡ t
-below_anew m t le = elim (cases_lt t m) [
-  | inl lt ↦ let one : get_or (take m (up_to m)) t m ≡ t = get_or-take m (up_to m) t m lt ∙ get_or-up_to m t m lt in omega (arith, one)
-  | inr ge ↦
-      let one : get_or (take m (up_to m)) t m ≡ m = get_or_past (take m (up_to m)) t m (omega (arith, length-take-le m (up_to m) (omega (arith, length-up_to m)))) in
-      omega (arith, one)
-]
+module _ (tells : Bool) (inner : View) (moment : ℕ) (past : Past) (now : moment ≡ inner.moment) (is : past ≡ at_first inner) where
+  pub lies_anew : (kept : Kept) (len blocks capacity : ℕ) → kept ≡ fresh len blocks → len ≤ inner.size → len ≤ capacity → Lies tells inner kept capacity moment past
+  lies_anew kept len blocks capacity anew fits reserved = subst (λ (p : Past). Lies tells inner kept capacity moment p) (sym is) (record {
+    count = length-up_to inner.moment ∙ sym now;
+    before = length-replicate inner.moment inner.content ∙ sym now;
+    below = λ t lt. let low : t < inner.moment = omega (arith, length-up_to inner.moment, lt) in omega (arith, low, get_or-up_to inner.moment t 0 low);
+    later = omega (arith, now);
+    wide = λ told i out. out;
+    fits = omega (arith, fits, ap (λ (k : Kept). k.len) anew);
+    reserved = omega (arith, reserved, ap (λ (k : Kept). k.len) anew);
+    holds = λ told i lt seen. absurd (not_both (sym (none_known blocks (i / 16384)) ∙ sym (ap (λ (k : Kept). get_or k.known (i / 16384) false) anew) ∙ seen));
+  })
 
-pub left_anew : (inner : View) (moment faults : ℕ) (stood : List ℕ) → moment ≡ inner.moment → stood ≡ up_to moment
-    → (t : ℕ) (image : List ℕ) → t ≤ inner.moment → (over inner stood moment faults).left_since t image ↔ inner.left_since t image
-left_anew inner moment faults stood now is t image le =
-    let there : below stood moment inner.moment t ≡ t =
-    ap (λ (l : List ℕ). below l moment inner.moment t) is ∙ ap (λ (k : ℕ). below (up_to moment) moment k t) (sym now) ∙ below_anew moment t (omega arith) in
-    (subst (λ (s : ℕ). inner.left_since s image) there, subst (λ (s : ℕ). inner.left_since s image) (sym there))
+  module _ (counts : (t : ℕ) (image : List ℕ) → IsTrue tells → t ≤ inner.moment → MayLeave inner.content image → inner.left_since t image)
+      (only_now : (image : List ℕ) → IsTrue tells → inner.left_since inner.moment image → MayLeave inner.content image) where
+    left_first : IsTrue tells → (t : ℕ) (image : List ℕ) → t ≤ inner.moment → LeftSince inner (at_first inner) moment t image ↔ inner.left_since t image
+    left_first told t image le = (
+      λ left. elim left [
+        | inl earlier ↦ elim earlier.1 [
+          | inl below ↦ subst (λ (s : ℕ). inner.left_since s image) (get_or-up_to inner.moment t 0 (omega (arith, earlier.0, now))) below
+          | inr seen ↦ counts t image told le (seen_same inner.moment inner.content t image seen)
+        ]
+        | inr may ↦ counts t image told le may
+      ],
+      λ left. elim (cases_lt t inner.moment) [
+        | inl lt ↦ inl (omega (arith, lt, now), inl (subst (λ (s : ℕ). inner.left_since s image) (sym (get_or-up_to inner.moment t 0 lt)) left))
+        | inr ge ↦ inr (only_now image told (subst (λ (s : ℕ). inner.left_since s image) (omega (arith, le, ge)) left))
+      ],
+    )
+
+    pub left_anew : (faults : ℕ) → IsTrue tells → (t : ℕ) (image : List ℕ) → t ≤ inner.moment → (over inner past moment faults).left_since t image ↔ inner.left_since t image
+    left_anew faults told t image le = subst (λ (p : Past). LeftSince inner p moment t image ↔ inner.left_since t image) (sym is) (left_first told t image le)

@@ -3,11 +3,12 @@ use Rattle.std.proofs.Common.{◌≡◌, ℕ, ◌+◌, ◌-◌, ◌*◌, ◌/◌
 use Rattle.std.proofs.lemmas.Bool.{cases_lt}
 use Rattle.std.proofs.lemmas.List.{ext_get_or, get_or-take}
 use Rattle.mars_base.specs.Bytes.{put, range}
-use Rattle.mars_base.proofs.Puts.{get_or-put_inside}
+use Rattle.mars_base.proofs.Puts.{length-put, get_or-put_inside}
 use Rattle.pcm_media.specs.Images.{Content, Touched}
 use Rattle.pcm_media.proofs.Left.{get_or-put_outside}
 use Rattle.pcm_media.proofs.Ranges.{length-range, get_or-range}
 use Rattle.resident_media.specs.Blocks.{Kept, Holds, IsSeen, IsPut, IsMarked, AreKnown, Covers, byte_at, end_block}
+use Rattle.resident_media.specs.Resident.{AreThere}
 use Rattle.resident_media.proofs.Spots.{not_both}
 
 module _ (at count : ℕ) (part : List ℕ) (kept next : Kept) (long : length part ≡ count) (len : next.len ≡ kept.len) (covers : Covers at (length part) kept.len kept.known next.known)
@@ -99,3 +100,18 @@ served kept content buf at n fits within long seen is holds =
     let one : length (range content at n) ≡ n = length-range content at n within in
     ext_get_or 0 buf (range content at n) (omega (arith, one, long))
     (λ i lt. is i (omega (arith, lt, long)) ∙ holds (at + i) (omega (arith, lt, long, fits)) (seen ((at + i) / 16384) (omega arith) (omega (arith, lt, long))) ∙ sym (get_or-range content at n i (omega (arith, lt, long))))
+
+-- bytes that stand there in known blocks are those of the content
+pub put_there : (kept : Kept) (content : List ℕ) (at : ℕ) (bytes : List ℕ) → at + length bytes ≤ kept.len → at + length bytes ≤ length content → AreKnown kept.known (at / 16384) (end_block at (length bytes))
+    → AreThere kept at bytes → Holds kept content → put content at bytes ≡ content
+put_there kept content at bytes fits within seen there holds =
+    let stand : (i : ℕ) → at ≤ i → i < at + length bytes → get_or (put content at bytes) i 0 ≡ get_or content i 0 = λ i le lt.
+    let here : at + (i - at) ≡ i = omega (arith, le) in
+    get_or-put_inside content at bytes within i le lt ∙ sym (there (i - at) (omega (arith, le, lt))) ∙ ap (byte_at kept) here ∙ holds i (omega (arith, lt, fits)) (seen (i / 16384) (omega (arith, le)) (omega (arith, lt))) in
+    ext_get_or 0 (put content at bytes) content (length-put content at bytes within) (λ i low. elim (cases_lt i at) [
+      | inl front ↦ get_or-put_outside content at bytes within i (λ le lt. omega (arith, front, le))
+      | inr le ↦ elim (cases_lt i (at + length bytes)) [
+        | inl inside ↦ stand i le inside
+        | inr rear ↦ get_or-put_outside content at bytes within i (λ le' lt. omega (arith, rear, lt))
+      ]
+    ])

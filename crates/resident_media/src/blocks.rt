@@ -3,11 +3,11 @@ ghost use Rattle.std.specs.Prelude.{◌≡◌, ◌+◌, ◌*◌, ◌/◌, ◌%�
 ghost use Rattle.std.specs.Vec.{vec_capacity};
 ghost use Rattle.mars_base.specs.Bytes.{put, range};
 ghost use Rattle.resident_media.specs.Blocks.{AreKnown, Covers, Holds, IsMarked, IsPut, Learns, StaysOutside, end_block, fresh, spot};
-ghost use Rattle.resident_media.specs.Resident.{Called, Served};
+ghost use Rattle.resident_media.specs.Resident.{AreThere, Called, Served};
 ghost use Rattle.resident_media.specs.Placing.{Appends};
 
 use crate::flags::{BLOCK, behind_unknown, first_unknown, forget};
-use crate::room::{copy_one, copy_out, spot};
+use crate::room::{copy_one, copy_out, is_there, spot};
 use mars_base::{Failed, NoMemory};
 use pcm_media::Media;
 use std::alloc::Global;
@@ -187,6 +187,23 @@ impl Blocks {
             return;
         }
         self.put_all(at, &bytes[..count]);
+    }
+
+    /// Whether these bytes are kept from `at` on, in known blocks.
+    pub fn shows(&self, at: u64, bytes: &[u8]) -> bool
+        ensures { IsTrue result ↔ (at + length bytes.now ≤ self.now.len) × AreKnown self.now.known (at / 16384) (end_block at (length bytes.now)) × AreThere self.now at bytes.now }
+    {
+        if !self.has(at, bytes.len()) {
+            return false;
+        }
+        // The blocks are as many as these bytes need.
+        let _ = &self.len;
+        let at = at as usize;
+        let end = (at + bytes.len()).div_ceil(BLOCK);
+        if first_unknown(&self.known, at / BLOCK, end) < end {
+            return false;
+        }
+        is_there(&self.room, &self.places, at, bytes)
     }
 
     /// Makes the blocks unknown that lie in these `count` bytes, in whole or in part.

@@ -1,14 +1,15 @@
 // A medium over a medium, which serves reads from memory.
-ghost use Rattle.std.specs.Prelude.{◌≡◌, ◌+◌, ◌*◌, ◌-◌, ◌/◌, ◌^◌, ◌<◌, ◌≤◌, ◌⊎◌, nat_le, ◌&&◌, [], ◌∷◌, length, ℕ, IsTrue, IsOk, IfOk, IfErr, OnOk};
+ghost use Rattle.std.specs.Prelude.{◌≡◌, ◌+◌, ◌-◌, ◌/◌, ◌^◌, ◌<◌, ◌≤◌, ◌⊎◌, nat_le, ◌&&◌, [], ◌∷◌, length, ℕ, IsTrue, IsOk, IfOk, IfErr, OnOk};
 ghost use Rattle.mars_base.specs.Moments.{Ticks};
 ghost use Rattle.mars_base.specs.Bytes.{range};
 ghost use Rattle.pcm_media.specs.Images.{written, settled};
 ghost use Rattle.pcm_media.specs.View.{Writes};
 ghost use Rattle.resident_media.specs.Blocks.{Learns, StaysOutside, end_block};
-ghost use Rattle.resident_media.specs.Once.{Does, handed, written_at};
-ghost use Rattle.resident_media.specs.Resident.{shown, is_steady, IsTicked, IsAnew, Knows, Called, Served};
+ghost use Rattle.resident_media.specs.Once.{Does, handed, spared, written_at};
+ghost use Rattle.resident_media.specs.Resident.{shown, is_steady, AreThere, IsTicked, IsAnew, Knows, Called, Served};
 
 use crate::blocks::Blocks;
+use crate::past::{Past, at_first, with_barrier, with_moment, with_spared, with_write};
 use ghost_notes::Notes;
 use mars_base::Failed;
 use pcm_media::Media;
@@ -16,9 +17,10 @@ use std::alloc::{AllocFailed, Global};
 use std::marker::Model;
 
 /// A medium over a medium that nobody else writes, of whose first bytes it keeps those in memory that were read, by blocks of 16,384. A read within
-/// known blocks makes no call below, and any other makes one, for all unknown blocks that it touches. A write is handed on, and then put into
-/// what is kept: the blocks that it covers whole are known then. Where it fails, the blocks that it touches are unknown again. Room is reserved
-/// for all, and none of it is touched before a block needs it: so a short run does not pay for a large medium.
+/// known blocks makes no call below, and any other makes one, for all unknown blocks that it touches. A write of bytes that stand in known blocks
+/// already makes none: it is spared. Any other is handed on, and then put into what is kept: the blocks that it covers whole are known then. Where
+/// it fails, the blocks that it touches are unknown again. Room is reserved for all, and none of it is touched before a block needs it: so a short
+/// run does not pay for a large medium.
 #[derive(Drop)]
 pub struct ResidentMedia<M: Media> {
     inner: M,
@@ -27,25 +29,26 @@ pub struct ResidentMedia<M: Media> {
     scratch: Vec<u8>,
     moment: u64,
     faults: u64,
-    // Which moment of the medium below stood at each moment, from 0 on.
-    notes: Notes<u64>,
+    // What was noted of its calls: the newest is read.
+    notes: Notes<Past>,
 }
 
 impl<M: Media> Model for ResidentMedia<M> {
     ghost use Rattle.std.specs.Vec.{vec_capacity};
+    ghost use Rattle.resident_media.specs.Past.{newest};
     ghost use Rattle.resident_media.specs.Resident.{Resident, Lies};
 
     ghost Value = { Resident M };
 
-    ghost view = { λ m. record { inner = m.inner; kept = m.blocks; moment = m.moment; faults = m.faults; stood = m.notes.said } };
+    ghost view = { λ m. record { inner = m.inner; kept = m.blocks; moment = m.moment; faults = m.faults; past = newest m.notes.said } };
 
-    ghost invariant = { λ m. Lies M.tells (M.view m.inner) m.blocks (vec_capacity m.scratch) m.moment m.notes.said };
+    ghost invariant = { λ m. Lies M.tells (M.view m.inner) m.blocks (vec_capacity m.scratch) m.moment (newest m.notes.said) };
 }
 
 impl<M: Media> ResidentMedia<M> {
     /// Over this medium, with room for its first `limit` bytes, which is reserved now. If there is none, the medium is given back.
     pub fn over(alloc: Global, inner: M, limit: u64) -> Result<ResidentMedia<M>, AllocFailed<M>>
-        ensures anew { IfOk result (λ media. IsAnew M.view inner limit media) }
+        ensures anew { IfOk result (λ media. IsAnew M.tells M.view inner limit media) }
         ensures given_back { IfErr result (λ failed. failed.value ≡ inner) }
     {
         let len = inner.len().min(limit) as usize;
@@ -56,13 +59,14 @@ impl<M: Media> ResidentMedia<M> {
             return Err(AllocFailed { value: inner });
         };
         let moment = inner.moment();
+        let notes = at_first(&inner);
         Ok(ResidentMedia {
             inner,
             blocks,
             scratch,
             moment,
             faults: 0,
-            notes: Notes::of(&moment),
+            notes,
         })
     }
 
@@ -83,13 +87,13 @@ impl<M: Media> ResidentMedia<M> {
 
     // Raises the moment, or fails at its last value.
     fn tick(&mut self) -> Result<(), Failed>
-        ensures { IsTicked M.view self.old self.new result }
+        ensures { IsTicked M.tells M.view self.old self.new result }
     {
         if self.moment == u64::MAX {
             self.faults = self.faults.saturating_add(1);
             return Err(Failed);
         }
-        self.notes = self.notes.then(&self.inner.moment());
+        self.notes = with_moment(&self.notes, &self.inner);
         self.moment += 1;
         Ok(())
     }
@@ -97,7 +101,8 @@ impl<M: Media> ResidentMedia<M> {
 
 impl<M: Media> Media for ResidentMedia<M> {
     ghost use Rattle.std.specs.Prelude.{◌<◌, ◌⊎◌};
-    ghost use Rattle.resident_media.specs.Resident.{shown, is_steady, counts, only_over};
+    ghost use Rattle.std.proofs.Common.{inr};
+    ghost use Rattle.resident_media.specs.Resident.{shown, is_steady, only_over};
 
     ghost tells = { M.tells };
 
@@ -110,9 +115,9 @@ impl<M: Media> Media for ResidentMedia<M> {
 
     ghost long = { λ m told. M.long m.inner told };
 
-    ghost counts_now = { λ m t image told le left. counts (M.view m.inner) M.tells m.stood m.moment m.faults t image (λ s le' left'. M.counts_now m.inner s image told le' left') left };
+    ghost counts_now = { λ m t image told le left. inr left };
 
-    ghost only_now = { λ m image told left. only_over (M.view m.inner) m.stood m.moment m.faults image (M.only_now m.inner image told) left };
+    ghost only_now = { λ m image told left. only_over (M.view m.inner) m.past m.moment m.faults image left };
 
     fn len(&self) -> u64 {
         self.inner.len()
@@ -148,17 +153,23 @@ impl<M: Media> Media for ResidentMedia<M> {
     fn write(&mut self, at: u64, bytes: &[u8]) -> Result<(), Failed>
         requires { at + length bytes.now ≤ (M.view self.old.inner).size }
         ensures written { IsTrue M.tells →
-            OnOk result ((M.view self.new.inner).content ≡ written at bytes.now (M.view self.old.inner).content) }
+            OnOk result ((shown M.view self.new).content ≡ written at bytes.now (shown M.view self.old).content) }
         ensures does { Writes M.tells ((at, length bytes.now) ∷ []) (shown M.view self.old) (shown M.view self.new) result }
         ensures ticks { Ticks self.old.moment self.new.moment result }
         ensures steady { (calls more : ℕ) → IsTrue (is_steady M.view M.steady self.old (calls + 1) (length bytes.now + more))
             → IsOk result × IsTrue (is_steady M.view M.steady self.new calls more) }
 
-        ensures handed { OnOk result (Does M.view (written_at at (length bytes.now)) self.old self.new) }
+        ensures spared { Knows self.old at (length bytes.now) → AreThere self.old.kept at bytes.now → self.old.moment < 2 ^ 64 - 1 → IsOk result × (self.new.inner ≡ self.old.inner) }
+        ensures handed { OnOk result (Does M.view (written_at at (length bytes.now)) self.old self.new ⊎ Does M.view (spared at bytes.now) self.old self.new) }
         ensures others { StaysOutside (at / 16384) (end_block at (length bytes.now)) self.old.kept.known self.new.kept.known }
         ensures len { self.new.kept.len ≡ self.old.kept.len }
     {
         self.tick()?;
+        if self.blocks.shows(at, bytes) {
+            self.notes = with_spared(&self.notes, at, bytes);
+            return Ok(());
+        }
+        self.notes = with_write(&self.notes, at, bytes);
         match self.inner.write(at, bytes) {
             Ok(()) => {
                 self.blocks.put(at, bytes);
@@ -173,7 +184,7 @@ impl<M: Media> Media for ResidentMedia<M> {
 
     fn barrier(&mut self) -> Result<(), Failed>
         ensures settled { IsTrue M.tells →
-            OnOk result ((M.view self.new.inner).content ≡ settled (M.view self.old.inner).content) }
+            OnOk result ((shown M.view self.new).content ≡ settled (shown M.view self.old).content) }
         ensures does { Writes M.tells [] (shown M.view self.old) (shown M.view self.new) result }
         ensures ticks { Ticks self.old.moment self.new.moment result }
         ensures steady { (calls more : ℕ) → IsTrue (is_steady M.view M.steady self.old (calls + 1) more)
@@ -183,7 +194,9 @@ impl<M: Media> Media for ResidentMedia<M> {
         ensures handed { OnOk result (Does M.view handed self.old self.new) }
     {
         self.tick()?;
-        self.inner.barrier()
+        self.inner.barrier()?;
+        self.notes = with_barrier(&self.notes);
+        Ok(())
     }
 
     fn fails_when_spent(&self)

@@ -1,5 +1,5 @@
 // Bytes of blocks, which stand in a room in the order in which the blocks were first kept.
-ghost use Rattle.std.specs.Prelude.{◌≡◌, ◌+◌, ◌-◌, ◌*◌, ◌/◌, ◌%◌, ◌<◌, ◌≤◌, ◌^◌, ℕ, length, slice_index, get_or};
+ghost use Rattle.std.specs.Prelude.{◌≡◌, ◌+◌, ◌-◌, ◌*◌, ◌/◌, ◌%◌, ◌<◌, ◌≤◌, ◌^◌, ◌↔◌, ℕ, length, slice_index, get_or, IsTrue};
 ghost use Rattle.resident_media.specs.Blocks.{spot};
 
 use crate::flags::BLOCK;
@@ -41,4 +41,24 @@ pub fn copy_one(room: &[u8], places: &[usize], at: usize, buf: &mut [u8])
 {
     let from = spot(places, at);
     buf.copy_from_slice(&room[from..from + buf.len()]);
+}
+
+/// Whether these bytes stand in the room. Their blocks have places.
+pub fn is_there(room: &[u8], places: &[usize], at: usize, bytes: &[u8]) -> bool
+    requires within { at + length bytes.now ≤ length places.now * 16384 }
+    requires small { at + length bytes.now < 2 ^ 64 }
+    requires placed { (i : ℕ) → at ≤ i → i < at + length bytes.now → 0 < get_or places.now (i / 16384) 0 }
+    requires room { (b : ℕ) → get_or places.now b 0 * 16384 ≤ length room.now }
+    ensures { IsTrue result ↔ ((i : ℕ) → i < length bytes.now → slice_index room.now (spot places.now (at + i)) ≡ slice_index bytes.now i) }
+{
+    let mut done = 0;
+    while done < bytes.len() {
+        let from = spot(places, at + done);
+        let part = (BLOCK - (at + done) % BLOCK).min(bytes.len() - done);
+        if room[from..from + part] != bytes[done..done + part] {
+            return false;
+        }
+        done += part;
+    }
+    true
 }
