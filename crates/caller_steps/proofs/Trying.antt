@@ -1,9 +1,16 @@
 -- What a purge takes out of the index, by the keys that it tries.
-use Rattle.std.proofs.Common.{◌≡◌, ◌∙◌, ℕ, suc, inl, inr, true, false, List, [], ◌∷◌, ◌++◌, length, filter, refl, sym, ap, subst}
+use Rattle.std.proofs.Common.{◌≡◌, ◌⊎◌, ◌∙◌, ℕ, suc, inl, inr, true, false, List, [], ◌∷◌, ◌++◌, length, filter, refl, sym, ap, subst}
 use Rattle.history.specs.declared.key.Key.{Key}
+use Rattle.history.specs.declared.call.Reply.{Reply}
+use Rattle.history.specs.declared.call.Reply.TheVariants.{Purged}
 use Rattle.caller_steps.specs.State.{State, Index}
+use Rattle.caller_steps.specs.Step.{Fails}
 use Rattle.caller_steps.specs.Room.{Limits}
 use Rattle.caller_steps.specs.Purging.{Try, IsAbsent, Lost, AreFree, lost_among, IsTried, Each, ComesBefore, AreInOrder, Tries, Purges}
+
+-- keys without records are taken out of the index, or the medium fails meanwhile
+abbrev pub Clears : Limits → State → Reply → State → Type 0
+Clears limits old reply new = ((n : ℕ) × (reply ≡ Purged n) × Purges limits old n new) ⊎ Fails old reply new
 
 module _ (limits : Limits) (old : State) (first : Index) where
   -- the index loses those that were lost

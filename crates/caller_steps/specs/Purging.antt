@@ -39,12 +39,12 @@ lost_among [] = []
 lost_among (one ∷ tries) = if one.1 then one.0 ∷ lost_among tries else lost_among tries
 
 -- the key is one of those tried
-abbrev pub IsTried : Key → List Try → Type 0
+abbrev pub IsTried : Key → List (Key × Bool) → Type 0
 IsTried key [] = ⊥
 IsTried key (one ∷ tries) = (one.0 ≡ key) ⊎ IsTried key tries
 
 -- so it is with each key that was tried
-abbrev pub Each : (Key → Type 0) → List Try → Type 0
+abbrev pub Each : (Key → Type 0) → List (Key × Bool) → Type 0
 Each P [] = Unit {0}
 Each P (one ∷ tries) = P one.0 × Each P tries
 
@@ -54,7 +54,7 @@ ComesBefore names one other = ((i : ℕ) × (j : ℕ) × (i < j) × (slice_get n
     ⊎ ((one.table ≡ other.table) × (one.key < other.key))
 
 -- keys tried in this order, so each once; the last one first
-abbrev pub AreInOrder : List (List ℕ) → List Try → Type 0
+abbrev pub AreInOrder : List (List ℕ) → List (Key × Bool) → Type 0
 AreInOrder names [] = Unit {0}
 AreInOrder names (one ∷ tries) = Each (λ key. ComesBefore names key one.0) tries × AreInOrder names tries
 
@@ -65,18 +65,18 @@ Becomes limits old key true before now = (IsTouched old key → ⊥) × IsFalse 
 Becomes limits old key false before now = (IsTouched old key ⊎ IsTrue (limits.keeps before.bytes key)) × (now ≡ before)
 
 -- what comes of keys that are tried one after another, the last one first
-abbrev pub Tries : Limits → State → Index → List Try → Index → Type 0
+abbrev pub Tries : Limits → State → Index → List (Key × Bool) → Index → Type 0
 Tries limits old first [] now = now ≡ first
 Tries limits old first (one ∷ tries) now = (before : Index) × Tries limits old first tries before × Becomes limits old one.0 one.1 before now
 
 -- Each key of the index that has no record is tried once, by rising table and key. Of n keys the index has lost each, and nothing else has changed:
 -- no record, and no live transaction. Each key that has no record and is still in the index is touched, or the index keeps it as the last of a page.
 pub record Purges (limits : Limits) (old : State) (n : ℕ) (new : State) : Type 0 where
-  pub tried : List Try
+  pub tried : List (Key × Bool)
   pub order : AreInOrder old.names tried
   pub absent : Each (IsAbsent old) tried
   pub all : (key : Key) → key.key < 2 ^ 64 → IsAbsent old key → IsTried key tried
-  pub count : n ≡ length (filter (λ (one : Try). one.1) tried)
+  pub count : n ≡ length (filter (λ (one : Key × Bool). one.1) tried)
   pub index : Index
   pub trail : Tries limits old old.index tried index
   pub same : new ≡ record old { index = index }

@@ -12,7 +12,7 @@ use Rattle.history.specs.declared.call.Reply.{Reply}
 use Rattle.history.specs.declared.call.Reply.TheVariants.{Fine, Committed, Purged, NoTransaction, NoTable, Already, NoSave, SavesFull, Busy, Media, Dead, NoMemory}
 use Rattle.caller_steps.specs.State as state
 use Rattle.caller_steps.specs.State.{State, Index, unoffered, offered, unsettled, view_of, with_live, with_offer}
-use Rattle.caller_steps.specs.Offers.{offerers, with_group, group_in, group_end, number_among, group_writes, without}
+use Rattle.caller_steps.specs.Offers.{offerers, with_group, group_in, number_among, group_writes, without}
 use Rattle.caller_steps.specs.Locked.{IsFree, IsBusyWith}
 use Rattle.caller_steps.specs.Room.{Limits, IsShown, room_for, Indexes, Settles}
 use Rattle.caller_steps.specs.Purging.{Purges}
@@ -50,20 +50,16 @@ abbrev pub Asks : Limits → Granted → State → ℕ → TableCall → Reply �
 Asks limits calls old caller call reply new = Says NoMemory old reply new ⊎ (((holder : ℕ) × IsBusyWith old caller call holder × Says (Busy holder) old reply new)
     ⊎ (IsFree old caller call × (Grants limits calls old caller call reply new ⊎ (Refuses limits old caller call reply new ⊎ (IsTrue (uses_index call) × Fails old reply new)))))
 
--- The transactions of these callers are committed as one group, by rising caller; the data takes the writes of all of them, and the caller's own
--- has then ended.
+-- The transactions of these callers are committed as one group behind the history, by rising caller; the data takes the writes of all of them, and
+-- the caller's own has then ended.
 abbrev pub Commits : List ℕ → State → ℕ → Reply → State → Type 0
 Commits group old caller reply new = (reply ≡ Committed (number_among (length old.history + 1) group caller)) × (index : Index) × Settles (group_writes old group) old.index index
-    × (new ≡ record (with_offer (with_group old (group_end old group) group) caller unoffered) { index = index })
+    × (new ≡ record (with_offer (with_group old (length old.history + length group) group) caller unoffered) { index = index })
 
--- The medium failed in a commit of a group that has written something, so all of it has ended and is in doubt.
+-- the medium failed in a commit of a group that has written something, so all of it has ended and is in doubt
 abbrev pub Doubts : List ℕ → State → Reply → State → Type 0
 Doubts group old reply new = (0 < length (group_writes old group)) × (reply ≡ Media) × (index : Index)
-    × (new ≡ record (without old group) { doubt = group_in old (group_end old group) group; index = index; is_dead = true })
-
--- keys without records are taken out of the index, or the medium fails meanwhile
-abbrev pub Clears : Limits → State → Reply → State → Type 0
-Clears limits old reply new = ((n : ℕ) × (reply ≡ Purged n) × Purges limits old n new) ⊎ Fails old reply new
+    × (new ≡ record (without old group) { doubt = group_in old (length old.history + length group) group; index = index; is_dead = true })
 
 -- what a call within a transaction needs before memory and locks are asked for: a save or a way back that its transaction lets be, or its table
 abbrev pub may_ask : State → ℕ → TableCall → Check Reply
@@ -78,7 +74,7 @@ may_ask old caller call = test (IsTrue (has_table old.names call)) NoTable
 abbrev pub StepOf : Limits → Bool → state.Offer → Option Granted → State → ℕ → Call → Reply → State → Type 0
 StepOf limits true offer live old caller call reply new = Says Dead old reply new
 StepOf limits false unoffered None old caller Begin reply new = (reply ≡ Fine) × (new ≡ with_live old caller (Some []))
-StepOf limits false unoffered None old caller (Control Purge) reply new = Clears limits old reply new
+StepOf limits false unoffered None old caller (Control Purge) reply new = ((n : ℕ) × (reply ≡ Purged n) × Purges limits old n new) ⊎ Fails old reply new
 StepOf limits false unoffered (Some calls) old caller (Table call) reply new = (may_ask old caller call (Some reply) × (new ≡ old))
     ⊎ (may_ask old caller call None × Asks limits calls old caller call reply new)
 StepOf limits false unoffered (Some calls) old caller (Control Commit) reply new = Says NoMemory old reply new

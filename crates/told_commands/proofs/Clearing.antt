@@ -31,7 +31,7 @@ use Rattle.caller_steps.specs.Purging.{PurgeCause, Purges}
 use Rattle.caller_steps.specs.Room.{Limits}
 use Rattle.caller_steps.specs.State.{State, Offer, unoffered}
 use Rattle.caller_steps.specs.Step.{StepOf, Step}
-use Rattle.caller_steps.specs.Step as steps_of_callers
+use Rattle.caller_steps.proofs.Trying as steps_of_callers
 use Rattle.mars_core.specs.Making.{OpensAsNamed}
 use Rattle.mars_core.specs.Over.{IsOver, Begins, limits_of}
 use Rattle.mars_core.specs.declared.fault.CoreFault.{CoreFault}
