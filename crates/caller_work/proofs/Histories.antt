@@ -599,8 +599,7 @@ module _ (caller : ℕ) (said : Heard) where
         go offered is = ([], inl (no_calls doubt (doubted ∙ ap (doubt_in own) is ∙ sure)), sym (append-nil own.mine))
         go (unsettled n) is =
             let done : Done = record { caller = caller; calls = unwrap_or own.live []; at = n; last = n } in
-            let nothing : doubt ≡ [] = no_calls doubt (doubted ∙ ap (doubt_in own) is ∙ sure) in
-            (
+            let nothing : doubt ≡ [] = no_calls doubt (doubted ∙ ap (doubt_in own) is ∙ sure) in (
               done ∷ [],
               inr (done, ap (λ (l : List Done). done ∷ l) nothing, record { commits = ap commits left.offers; calls = its }, (λ ends. absurd (let no : end.Offer ≡ end.Commit = sym left.offers ∙ ends in cc))),
               refl,
