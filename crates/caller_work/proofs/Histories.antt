@@ -1,12 +1,12 @@
 -- A caller's transactions in a history, from the turns that its plans ask for.
-use Rattle.std.proofs.Common.{◌≡◌, ◌≢◌, ◌⊎◌, inl, inr, ℕ, zero, suc, Bool, true, false, List, [], ◌∷◌, ◌++◌, append_assoc, length, map, Option, Some, None, unwrap_or, Result, Ok, Err, drop, refl, sym, ap, ◌∙◌, subst}
-use Rattle.std.specs.Prelude.{IsFalse, not, if◌then◌else◌, MatchBool}
+use Rattle.std.proofs.Common.{◌≡◌, ◌⊎◌, inl, inr, ℕ, zero, suc, ◌+◌, Bool, true, false, List, [], ◌∷◌, ◌++◌, append_assoc, length, length-append, ⊎_elim, map, Option, Some, None, unwrap_or, Result, Ok, Err, drop, refl, sym, ap, ◌∙◌, subst, arith}
+use Rattle.std.specs.Prelude.{IsFalse, not, if◌then◌else◌, MatchBool, Contains}
 use Rattle.std.specs.List.{fold}
-use mathlib.Core.Logic.{dite}
-use native.Mathlib.Decide.{ℕ_discrete}
+use Rattle.std.specs.Option.{option_to_list}
 use Rattle.std.proofs.lemmas.Bool.{true≢false, cases_Bool}
 use Rattle.std.proofs.lemmas.List.{append-nil, map-append}
 use Rattle.std.proofs.lemmas.List.Sums.{fold-append}
+use Rattle.std.proofs.lemmas.List.Elements.{Contains-append_left, Contains-append_right, Contains-append_cases, Contains-push_cases}
 use Rattle.history.specs.Table.{Granted}
 use Rattle.history.specs.declared.call.Call.{Call}
 use Rattle.history.specs.declared.call.Call.TheVariants.{Begin, Table, Control}
@@ -19,15 +19,14 @@ use Rattle.caller_steps.specs.State as state
 use Rattle.caller_steps.specs.State.{State, unoffered, offered, unsettled, commits_of}
 use Rattle.caller_steps.specs.Offers.{is_offered, is_unoffered}
 use Rattle.caller_steps.specs.Room.{Limits}
-use Rattle.caller_steps.specs.Step.{Step, Runs}
+use Rattle.caller_steps.specs.Step.{Runs}
 use Rattle.caller_steps.specs.Fate.{is_refusal, is_media, is_busy, is_committed, live_with, offer_with}
-use Rattle.caller_steps.specs.Run.{Turn, Heard, Goes, turns_of}
-use Rattle.caller_steps.specs.Own.{is_commit, Own, nothing_own, own_after, number_of, as_told, told_of, mine_in, KnowsLive}
-use Rattle.caller_steps.proofs.Able.{able_closed}
-use Rattle.caller_steps.proofs.Fates.{Fate as Moved, step_fate, refusal_none, answer_plain}
-use Rattle.caller_steps.proofs.Fates.Fate.{refused, failed, began, granted, committed, doubted, aborted, given, settled, unsure, told as numbered, purged}
-use Rattle.caller_steps.proofs.Running.{line_here, line_apart, goes_of_step, turns_of_runs}
-use Rattle.caller_steps.proofs.Owning.{live_goes, live_other, turns_mine, fresh_live, fresh_mine}
+use Rattle.caller_steps.specs.Run.{Turn, Heard, turns_of}
+use Rattle.caller_steps.specs.Own.{is_commit, Own, nothing_own, own_after, number_of, as_told, told_of, calls_among, mine_in, doubt_in, KnowsLive}
+use Rattle.caller_steps.proofs.Running.{turns_of_runs}
+use Rattle.caller_steps.proofs.Owning.{turns_mine, turns_doubt, fresh_live, fresh_mine, fresh_doubt}
+use Rattle.mars_manager.specs.Locks.{steps_of}
+use Rattle.mars_manager.proofs.Asking.{one_here, none_here}
 use Rattle.caller_plans.specs.declared.plan.Plan.{Plan}
 use Rattle.caller_plans.specs.declared.plan.PlanEnd.{PlanEnd}
 use Rattle.caller_plans.specs.declared.plan.PlanEnd.TheVariants as end
@@ -36,12 +35,9 @@ use Rattle.caller_plans.specs.declared.fate.Fate.TheVariants.{Committed, Aborted
 use Rattle.caller_work.specs.declared.tries.Tries.{Tries}
 use Rattle.caller_work.specs.declared.tries.Tries.TheVariants.{NoLimit}
 use Rattle.caller_work.specs.Tries.{is_last, end_outcome, refusal_outcome, IsOne, Ends, GivesUp, Takes, IsTry, AreHeldUp, IsMade, Works, IsWork, IsWorkOf}
-use Rattle.mars_manager.specs.Locks.{steps_of}
-use Rattle.caller_work.specs.Fated.{commits, IsDoneAs, AreFated}
-
-pick_false : {X : Type 0} (b : Bool) (x y : X) → b ≡ false → (if b then x else y) ≡ y
-pick_false true x y e = absurd (true≢false e)
-pick_false false x y e = refl
+use Rattle.caller_work.specs.Fated.{commits, is_final, IsRefusedAs, IsDoneAs, AreFated}
+use Rattle.caller_work.specs.Asked.{AreOnTables}
+use Rattle.caller_work.proofs.Lawful.{pick_false, IsKind, IsSaid, AreLawful, AreSaid, both_parts, lawful_run, steps_said}
 
 -- what a reply leaves of something: a fault of the medium, a refusal, and else
 refused_if : {X : Type 0} (media commit refusal : Bool) (lost was done : X) → commit ≡ false → refusal ≡ true → (if media then (if commit then lost else was) else (if refusal then was else done)) ≡ was
@@ -61,37 +57,18 @@ all_if true false refusal lost was done x l w d = w
 all_if false commit true lost was done x l w d = w
 all_if false commit false lost was done x l w d = d
 
+kept_if : {X : Type 0} (media commit : Bool) (lost was : X) → commit ≡ false → (if media then (if commit then lost else was) else was) ≡ was
+kept_if true true lost was c = absurd (true≢false c)
+kept_if true false lost was c = refl
+kept_if false commit lost was c = refl
+
 granted_sure : (reply : Reply) → is_refusal reply ≡ false → is_media reply ≡ false
 granted_sure says.Media e = absurd (true≢false e)
 granted_sure reply e = refl
 
--- What a reply shows of its caller's transactions: only a commit or a settle is answered with a number of the history, and one that was offered
--- takes no call but its settle.
-record IsLawful (own : Own) (entry : Call × Reply) : Type 0 where
-  commits : is_committed entry.1 ≡ true → (entry.0 ≡ Control Commit) ⊎ (entry.0 ≡ Control Settle)
-  closed : own.waits ≡ true → is_refusal entry.1 ≡ false → entry.0 ≡ Control Settle
-
--- a step that answers so is a commit or a settle
-step_commits : (limits : Limits) (old new : State) (caller : ℕ) (call : Call) (reply : Reply) → Step limits old caller call reply new → is_committed reply ≡ true → (call ≡ Control Commit) ⊎ (call ≡ Control Settle)
-step_commits limits old new caller call reply step sure = go (step_fate limits old caller new call reply step)
-  where
-    go : Moved limits.callers old caller call reply new → (call ≡ Control Commit) ⊎ (call ≡ Control Settle)
-    go (refused not media index e) = absurd (true≢false (sym sure ∙ refusal_none reply not))
-    go (failed apart is index e) = absurd (true≢false (sym sure ∙ ap is_committed is))
-    go (began un none c is e) = absurd (true≢false (sym sure ∙ ap is_committed is))
-    go (granted asked calls un is live unheld answers index e) = absurd (true≢false (sym sure ∙ (answer_plain _ asked reply answers).uncommitted))
-    go (committed calls un c is live index e) = inl c
-    go (doubted calls un c is live index e) = inl c
-    go (aborted calls un c is live e) = absurd (true≢false (sym sure ∙ ap is_committed is))
-    go (given calls un c is live e) = absurd (true≢false (sym sure ∙ ap is_committed is))
-    go (settled inside has c is index e) = inr c
-    go (unsure inside has c is index e) = inr c
-    go (numbered n has c is e) = inr c
-    go (purged n un live c is index e) = absurd (true≢false (sym sure ∙ ap is_committed is))
-
-closed_by : (offer : state.Offer) → (offer ≡ unoffered → ⊥) → is_unoffered offer ≡ false
-closed_by unoffered ne = absurd (ne refl)
-closed_by _ ne = refl
+last_apart : (reply : Reply) → is_last reply ≡ true → is_busy reply ≡ true → ⊥
+last_apart (says.Busy holder) last busy = true≢false (sym last)
+last_apart reply last busy = true≢false (sym busy)
 
 -- a call that is no commit is not answered as one
 uncommitted : (call : Call) (reply : Reply) → (call ≡ Control Commit → ⊥) → (call ≡ Control Settle → ⊥) → (is_committed reply ≡ true → (call ≡ Control Commit) ⊎ (call ≡ Control Settle)) → is_committed reply ≡ false
@@ -108,60 +85,80 @@ uncommitted call reply other another sure = go (is_committed reply) refl
 abbrev first_of : TableCall × Reply → TableCall
 first_of entry = entry.0
 
--- a try came to a fate
-abbrev is_made : Result Fate Reply → Bool
-is_made (Ok fate) = true
-is_made (Err reply) = false
+-- the worker goes on: its try came to a fate, or a locked key stopped it
+abbrev goes_on : Result Fate Reply → Bool
+goes_on (Ok fate) = true
+goes_on (Err reply) = is_busy reply
 
-module _ (caller : ℕ) where
+-- and so it is of all its plans
+abbrev is_open : Option Reply → Bool
+is_open None = true
+is_open (Some reply) = is_busy reply
+
+-- nothing waits and nothing is in doubt,
+record IsIdle (own : Own) : Type 0 where
+  waits : own.waits ≡ false
+  doubt : own.doubt ≡ None
+
+-- and there is no transaction
+record IsFree (own : Own) : Type 0 where
+  live : own.live ≡ None
+  idle : IsIdle own
+
+-- what waits for its settle is this plan, which was offered with all its calls
+record IsWaiting (plan : Plan) (own : Own) : Type 0 where
+  waits : own.waits ≡ true
+  doubt : own.doubt ≡ None
+  offers : plan.end ≡ end.Offer
+  all : Granted
+  live : own.live ≡ Some all
+  calls : map first_of all ≡ plan.calls
+
+-- what is in doubt is this plan
+record IsDoubted (plan : Plan) (own : Own) : Type 0 where
+  waits : own.waits ≡ false
+  all : Granted
+  doubt : own.doubt ≡ Some all
+  ends : commits plan.end ≡ true
+  calls : map first_of all ≡ plan.calls
+
+-- what a try of a plan may leave
+abbrev Leaves : Plan → Own → Type 0
+Leaves plan own = IsIdle own ⊎ (IsWaiting plan own ⊎ IsDoubted plan own)
+
+-- the same for the first of the plans that are left
+abbrev LeavesFor : List Plan → Own → Type 0
+LeavesFor [] own = IsIdle own
+LeavesFor (plan ∷ plans) own = Leaves plan own
+
+for_idle : (plans : List Plan) (own : Own) → IsIdle own → LeavesFor plans own
+for_idle [] own idle = idle
+for_idle (plan ∷ plans) own idle = inl idle
+
+module _ (caller : ℕ) (said : Heard) where
   abbrev after : Own → Heard → Own
   after own told = fold (own_after caller) own told
 
   after_both : (own : Own) (xs ys : Heard) → after own (xs ++ ys) ≡ after (after own xs) ys
   after_both own xs ys = fold-append (own_after caller) own xs ys
 
-  -- so it is of each of these turns
-  abbrev AreLawful : Own → Heard → Type 0
-  AreLawful own [] = Unit {0}
-  AreLawful own (entry ∷ told) = IsLawful own entry × AreLawful (own_after caller own entry) told
+  -- all of this but each `Busy` is among what came of turns
+  abbrev Within : Heard → Type 0
+  Within told = (entry : Call × Reply) → is_busy entry.1 ≡ false → Contains told entry → Contains said entry
 
-  both_parts : (own : Own) (xs ys : Heard) → AreLawful own (xs ++ ys) → AreLawful own xs × AreLawful (after own xs) ys
-  both_parts own [] ys all = (tt, all)
-  both_parts own (entry ∷ xs) ys (one, all) = let both = both_parts (own_after caller own entry) xs ys all in ((one, both.0), both.1)
-
-  -- Each turn of a run is lawful.
-  lawful_step : (limits : Limits) (old new : State) (own : Own) (call : Call) (reply : Reply) → Step limits old caller call reply new → KnowsLive caller own old → IsLawful own (call, reply)
-  lawful_step limits old new own call reply step knows = record {
-    commits = step_commits limits old new caller call reply step;
-    closed = λ waits done. go old.is_dead refl waits done;
-  }
-    where
-      goes : Goes true limits old caller call reply new
-      goes = goes_of_step limits old caller call reply new step
-
-      go : (dead : Bool) → old.is_dead ≡ dead → own.waits ≡ true → is_refusal reply ≡ false → call ≡ Control Settle
-      go true dead waits done = absurd (true≢false (sym (ap is_refusal (goes.dead dead).0) ∙ done))
-      go false alive waits done = able_closed old caller call (closed_by (old.offers caller) (knows.some waits alive)) (goes.moves.able done)
-
-  lawful_run : (limits : Limits) (turns : List Turn) (first now : State) (own : Own) → Runs limits first turns now → KnowsLive caller own first → AreLawful own (turns_of caller turns)
-  lawful_run limits [] first now own run knows = tt
-  lawful_run limits (turn ∷ turns) first now own (mid, step, run) knows = dite (ℕ_discrete turn.0 caller)
-      (λ (same : turn.0 ≡ caller).
-      let its = subst (λ (n : ℕ). Step limits first n turn.1 turn.2 mid) same step in
-      let next = live_goes limits first caller mid own turn.1 turn.2 true (goes_of_step limits first caller turn.1 turn.2 mid its) (inl refl) knows in
-      subst (λ (l : Heard). AreLawful own l) (sym (subst (λ (n : ℕ). turns_of n (turn ∷ turns) ≡ (turn.1, turn.2) ∷ turns_of n turns) same (line_here turn.0 turn.1 turn.2 turns)))
-      (lawful_step limits first mid own turn.1 turn.2 its knows, lawful_run limits turns mid now (own_after caller own (turn.1, turn.2)) run next))
-      (λ (ne : turn.0 ≢ caller).
-      subst (λ (l : Heard). AreLawful own l) (sym (line_apart caller turn turns ne))
-      (lawful_run limits turns mid now own run (live_other limits first caller mid own turn (λ e. ne (sym e)) true (goes_of_step limits first turn.0 turn.1 turn.2 mid step) knows)))
-
-  -- one call that is not answered as a commit
-  mine_same : (own : Own) (call : Call) (reply : Reply) → is_committed reply ≡ false → (own_after caller own (call, reply)).mine ≡ own.mine
-  mine_same own call reply e = pick_false (is_committed reply) (own.mine ++ record { caller = caller; calls = unwrap_or own.live []; at = number_of reply; last = number_of reply } ∷ []) own.mine e
+  within_parts : (told front back : Heard) → told ≡ front ++ back → Within told → Within front × Within back
+  within_parts told front back is within = (
+    (λ entry free there. within entry free (subst (λ (l : Heard). Contains l entry) (sym is) (Contains-append_left front back entry there))),
+    (λ entry free there. within entry free (subst (λ (l : Heard). Contains l entry) (sym is) (Contains-append_right front back entry there))),
+  )
 
   module _ (own : Own) (call : Call) (reply : Reply) where
     abbrev next : Own
     next = own_after caller own (call, reply)
+
+    -- one call that is not answered as a commit
+    mine_same : is_committed reply ≡ false → next.mine ≡ own.mine
+    mine_same e = pick_false (is_committed reply) (own.mine ++ record { caller = caller; calls = unwrap_or own.live []; at = number_of reply; last = number_of reply } ∷ []) own.mine e
 
     -- a call that was done
     done_live : is_refusal reply ≡ false → next.live ≡ live_with (unwrap_or own.live []) call reply
@@ -170,265 +167,311 @@ module _ (caller : ℕ) where
     done_waits : is_refusal reply ≡ false → next.waits ≡ is_offered (offer_with call)
     done_waits done = done_if (is_media reply) (is_commit call) (is_refusal reply) false own.waits (is_offered (offer_with call)) (granted_sure reply done) done
 
-    -- one that was refused, and is no commit
-    refused_live : is_refusal reply ≡ true → is_commit call ≡ false → next.live ≡ own.live
-    refused_live refusal apart = refused_if (is_media reply) (is_commit call) (is_refusal reply) None own.live (live_with (unwrap_or own.live []) call reply) apart refusal
+    -- without a fault nothing more is in doubt, and only a commit can leave something in doubt
+    sure_doubt : is_media reply ≡ false → next.doubt ≡ own.doubt
+    sure_doubt sure = pick_false (is_media reply) (if is_commit call then Some (unwrap_or own.live []) else own.doubt) own.doubt sure
 
-    refused_waits : is_refusal reply ≡ true → is_commit call ≡ false → next.waits ≡ own.waits
-    refused_waits refusal apart = refused_if (is_media reply) (is_commit call) (is_refusal reply) false own.waits (is_offered (offer_with call)) apart refusal
+    plain_doubt : is_commit call ≡ false → next.doubt ≡ own.doubt
+    plain_doubt plain = kept_if (is_media reply) (is_commit call) (Some (unwrap_or own.live [])) own.doubt plain
 
     -- where nothing waits, only an offer lets something wait
-    idle_stays : own.waits ≡ false → is_offered (offer_with call) ≡ false → next.waits ≡ false
-    idle_stays idle none = all_if (is_media reply) (is_commit call) (is_refusal reply) false own.waits (is_offered (offer_with call)) false refl idle none
+    idle_waits : own.waits ≡ false → is_offered (offer_with call) ≡ false → next.waits ≡ false
+    idle_waits idle none = all_if (is_media reply) (is_commit call) (is_refusal reply) false own.waits (is_offered (offer_with call)) false refl idle none
 
-  -- what waits for its settle is this plan, which was offered with all its calls
-  record IsWaiting (plan : Plan) (own : Own) : Type 0 where
-    offers : plan.end ≡ end.Offer
-    all : Granted
-    live : own.live ≡ Some all
-    calls : map first_of all ≡ plan.calls
+    idle_plain : IsIdle own → is_offered (offer_with call) ≡ false → is_commit call ≡ false → IsIdle next
+    idle_plain idle none plain = record { waits = idle_waits idle.waits none; doubt = plain_doubt plain ∙ idle.doubt }
 
-  abbrev Stands : Plan → Own → Type 0
-  Stands plan own = own.waits ≡ true → IsWaiting plan own
+    idle_sure : IsIdle own → is_offered (offer_with call) ≡ false → is_media reply ≡ false → IsIdle next
+    idle_sure idle none sure = record { waits = idle_waits idle.waits none; doubt = sure_doubt sure ∙ idle.doubt }
 
-  stands_idle : (plan : Plan) (own : Own) → own.waits ≡ false → Stands plan own
-  stands_idle plan own idle waits = absurd (true≢false (sym waits ∙ idle))
+    -- a refused offer lets nothing wait
+    refused_idle : IsIdle own → is_refusal reply ≡ true → is_commit call ≡ false → IsIdle next
+    refused_idle idle refusal plain = record {
+      waits = refused_if (is_media reply) (is_commit call) (is_refusal reply) false own.waits (is_offered (offer_with call)) plain refusal ∙ idle.waits;
+      doubt = plain_doubt plain ∙ idle.doubt;
+    }
 
-  stands_refused : (plan : Plan) (own : Own) (call : Call) (reply : Reply) → Stands plan own → is_refusal reply ≡ true → is_commit call ≡ false → Stands plan (own_after caller own (call, reply))
-  stands_refused plan own call reply stands refusal apart waits =
-      let w = stands (sym (refused_waits own call reply refusal apart) ∙ waits) in
-      record { offers = w.offers; all = w.all; live = refused_live own call reply refusal apart ∙ w.live; calls = w.calls }
+  -- no call but one on a table is told a `Busy`
+  never_busy : (own : Own) (call : Call) (reply : Reply) → IsSaid own (call, reply) → ((asked : TableCall) → call ≡ Table asked → ⊥) → is_busy reply ≡ true → ⊥
+  never_busy own call reply one apart busy = let on = one.busy busy in apart on.0 on.1
 
   -- what a try adds to a caller's transactions
   abbrev Gains : Plan → Result Fate Reply → List Done → List Done → Type 0
-  Gains plan (Ok (Committed at)) old new = (done : Done) × IsDoneAs caller plan at done × (new ≡ old ++ done ∷ [])
+  Gains plan (Ok (Committed at)) old new = (done : Done) × (done.at ≡ at) × IsDoneAs plan done × (new ≡ old ++ done ∷ [])
   Gains plan (Ok Aborted) old new = IsFalse (commits plan.end) × (new ≡ old)
-  Gains plan (Ok (Refused reply)) old new = new ≡ old
+  Gains plan (Ok (Refused reply)) old new = IsRefusedAs said plan reply × (new ≡ old)
   Gains plan (Err reply) old new = new ≡ old
 
-  gains_nothing : (plan : Plan) (made : Result Fate Reply) (reply : Reply) (old new : List Done) → made ≡ Err reply → new ≡ old → Gains plan made old new
-  gains_nothing plan made reply old new is same = subst (λ (r : Result Fate Reply). Gains plan r old new) (sym is) same
+  refusal_gains : (plan : Plan) (refusal : Reply) (old new : List Done) → (is_busy refusal ≡ false → IsRefusedAs said plan refusal) → new ≡ old → Gains plan (refusal_outcome refusal) old new
+  refusal_gains plan (says.Busy holder) old new why same = same
+  refusal_gains plan refusal old new why same = (why refl, same)
 
-  refusal_gains : (plan : Plan) (refusal : Reply) (old new : List Done) → new ≡ old → Gains plan (refusal_outcome refusal) old new
-  refusal_gains plan (says.Busy holder) old new same = same
-  refusal_gains plan refusal old new same = same
-
-  -- What comes of a try. Once the plan has a fate nothing waits, and else only the plan itself may.
+  -- What comes of a try, in a transaction of its own. If the worker goes on then nothing is left of it.
   record Came (plan : Plan) (made : Result Fate Reply) (old new : Own) : Type 0 where
     gains : Gains plan made old.mine new.mine
-    stands : Stands plan new
-    idle : is_made made ≡ true → new.waits ≡ false
+    leaves : Leaves plan new
+    free : goes_on made ≡ true → IsFree new
 
   onto : (plan : Plan) (made : Result Fate Reply) (old mid new : Own) → mid.mine ≡ old.mine → Came plan made mid new → Came plan made old new
-  onto plan made old mid new same came = record { gains = subst (λ (l : List Done). Gains plan made l new.mine) same came.gains; stands = came.stands; idle = came.idle }
+  onto plan made old mid new same came = record { gains = subst (λ (l : List Done). Gains plan made l new.mine) same came.gains; leaves = came.leaves; free = came.free }
 
-  came_refused : (plan : Plan) (made : Result Fate Reply) (reply : Reply) (old new : Own) → made ≡ Err reply → new.mine ≡ old.mine → Stands plan new → Came plan made old new
-  came_refused plan made reply old new is same stands = record {
-    gains = gains_nothing plan made reply old.mine new.mine is same;
-    stands = stands;
-    idle = λ e. absurd (true≢false (sym e ∙ ap is_made is));
-  }
+  -- the worker stops at a reply that is no `Busy`
+  came_stopped : (plan : Plan) (reply : Reply) (old new : Own) → new.mine ≡ old.mine → Leaves plan new → (is_busy reply ≡ true → ⊥) → Came plan (Err reply) old new
+  came_stopped plan reply old new same leaves never = record { gains = same; leaves = leaves; free = λ busy. absurd (never busy) }
 
-  came_idle : (plan : Plan) (made : Result Fate Reply) (old new : Own) → Gains plan made old.mine new.mine → new.waits ≡ false → Came plan made old new
-  came_idle plan made old new gains idle = record { gains = gains; stands = stands_idle plan new idle; idle = λ _. idle }
+  came_free : (plan : Plan) (made : Result Fate Reply) (old new : Own) → Gains plan made old.mine new.mine → IsFree new → Came plan made old new
+  came_free plan made old new gains free = record { gains = gains; leaves = inl free.idle; free = λ _. free }
+
+  came_as : (plan : Plan) (made given : Result Fate Reply) (old new : Own) → made ≡ given → Came plan given old new → Came plan made old new
+  came_as plan made given old new is came = subst (λ (r : Result Fate Reply). Came plan r old new) (sym is) came
 
   -- a refusal, and the abort that may follow it, add nothing
-  given_up : (plan : Plan) (refusal : Reply) (made : Result Fate Reply) (told : Heard) (own : Own) → GivesUp refusal told made → AreLawful own told → Stands plan own → Came plan made own (after own told)
-  given_up plan refusal made told own gives lawful stands = go (is_last refusal) gives
+  given_up : (plan : Plan) (refusal : Reply) (made : Result Fate Reply) (told : Heard) (own : Own) → GivesUp refusal told made → AreSaid caller own told → IsIdle own
+      → (is_last refusal ≡ false → is_busy refusal ≡ false → IsRefusedAs said plan refusal) → Came plan made own (after own told)
+  given_up plan refusal made told own gives all idle why = go (is_last refusal) refl gives
     where
-      go : (b : Bool) → MatchBool b ((told ≡ []) × (made ≡ Err refusal)) (IsOne (Control Abort) (λ answer. if is_refusal answer then Err answer else refusal_outcome refusal) told made) → Came plan made own (after own told)
-      go true (none, is) = subst (λ (l : Heard). Came plan made own (after own l)) (sym none) (came_refused plan made refusal own own is refl stands)
-      go false (answer, is, came) = subst (λ (l : Heard). Came plan made own (after own l)) (sym is) (by (is_refusal answer) refl came)
+      go : (b : Bool) → is_last refusal ≡ b → MatchBool b ((told ≡ []) × (made ≡ Err refusal)) (IsOne (Control Abort) (λ answer. if is_refusal answer then Err answer else refusal_outcome refusal) told made) → Came plan made own (after own told)
+      go true last (none, is) = subst (λ (l : Heard). Came plan made own (after own l)) (sym none)
+          (came_as plan made (Err refusal) own own is (came_stopped plan refusal own own refl (inl idle) (last_apart refusal last)))
+      go false not_last (answer, is, came) = subst (λ (l : Heard). Came plan made own (after own l)) (sym is) (by (is_refusal answer) refl)
         where
-          one : IsLawful own (Control Abort, answer)
-          one = (subst (AreLawful own) is lawful).0
+          one : IsSaid own (Control Abort, answer)
+          one = (subst (AreSaid caller own) is all).0
 
-          same : (own_after caller own (Control Abort, answer)).mine ≡ own.mine
-          same = mine_same own (Control Abort) answer (uncommitted (Control Abort) answer (λ same. cc) (λ same. cc) one.commits)
+          same : (next own (Control Abort) answer).mine ≡ own.mine
+          same = mine_same own (Control Abort) answer (uncommitted (Control Abort) answer (λ same. cc) (λ same. cc) one.lawful.commits)
 
-          by : (b : Bool) → is_refusal answer ≡ b → made ≡ (if is_refusal answer then Err answer else refusal_outcome refusal) → Came plan made own (own_after caller own (Control Abort, answer))
-          by true e came = came_refused plan made answer own (own_after caller own (Control Abort, answer)) (came ∙ ap (λ (b : Bool). if b then Err answer else refusal_outcome refusal) e) same
-              (stands_refused plan own (Control Abort) answer stands e refl)
-          by false e came = came_idle plan made own (own_after caller own (Control Abort, answer))
-              (subst (λ (r : Result Fate Reply). Gains plan r own.mine (own_after caller own (Control Abort, answer)).mine) (sym (came ∙ ap (λ (b : Bool). if b then Err answer else refusal_outcome refusal) e))
-              (refusal_gains plan refusal own.mine (own_after caller own (Control Abort, answer)).mine same))
-              (done_waits own (Control Abort) answer e)
+          resting : IsIdle (next own (Control Abort) answer)
+          resting = idle_plain own (Control Abort) answer idle refl refl
+
+          by : (b : Bool) → is_refusal answer ≡ b → Came plan made own (next own (Control Abort) answer)
+          by true e = came_as plan made (Err answer) own (next own (Control Abort) answer) (came ∙ ap (λ (b : Bool). if b then Err answer else refusal_outcome refusal) e)
+              (came_stopped plan answer own (next own (Control Abort) answer) same (inl resting) (never_busy own (Control Abort) answer one (λ asked on. cc)))
+          by false e = came_as plan made (refusal_outcome refusal) own (next own (Control Abort) answer) (came ∙ ap (λ (b : Bool). if b then Err answer else refusal_outcome refusal) e)
+              (came_free plan (refusal_outcome refusal) own (next own (Control Abort) answer) (refusal_gains plan refusal own.mine (next own (Control Abort) answer).mine (λ free. why not_last free) same)
+              (record { live = done_live own (Control Abort) answer e; idle = resting }))
 
   -- A commit adds the live transaction, and so does a settle; an abort adds nothing.
   module _ (plan : Plan) (own : Own) (all : Granted) (live : own.live ≡ Some all) (calls : map first_of all ≡ plan.calls) where
-    committed_as : (at : ℕ) (is_end : commits plan.end ≡ true) → IsDoneAs caller plan at (record { caller = caller; calls = unwrap_or own.live []; at = at; last = at })
-    committed_as at is_end = record { commits = is_end; caller_is = refl; calls = ap (λ (l : Option Granted). map first_of (unwrap_or l [])) live ∙ calls; number = refl }
+    abbrev done_as : ℕ → Done
+    done_as at = record { caller = caller; calls = unwrap_or own.live []; at = at; last = at }
 
-    at_commit : (reply : Reply) → commits plan.end ≡ true → Gains plan (end_outcome end.Commit reply) own.mine (own_after caller own (Control Commit, reply)).mine
-    at_commit (says.Committed at) is_end = (record { caller = caller; calls = unwrap_or own.live []; at = at; last = at }, committed_as at is_end, refl)
-    at_commit reply is_end = refl
+    live_calls : map first_of (unwrap_or own.live []) ≡ plan.calls
+    live_calls = ap (λ (l : Option Granted). map first_of (unwrap_or l [])) live ∙ calls
+
+    committed_as : (at : ℕ) → commits plan.end ≡ true → IsDoneAs plan (done_as at)
+    committed_as at is_end = record { commits = is_end; calls = live_calls }
+
+    at_commit : (reply : Reply) → IsIdle own → commits plan.end ≡ true → (is_busy reply ≡ true → ⊥) → Came plan (end_outcome end.Commit reply) own (own_after caller own (Control Commit, reply))
+    at_commit (says.Committed at) idle is_end never = came_free plan (Ok (Committed at)) own (own_after caller own (Control Commit, says.Committed at))
+        (done_as at, refl, committed_as at is_end, refl) (record { live = refl; idle = record { waits = refl; doubt = idle.doubt } })
+    at_commit says.Media idle is_end never = came_stopped plan says.Media own (own_after caller own (Control Commit, says.Media)) refl
+        (inr (inr (record { waits = refl; all = unwrap_or own.live []; doubt = refl; ends = is_end; calls = live_calls }))) never
+    at_commit reply idle is_end never = came_stopped plan reply own (own_after caller own (Control Commit, reply)) refl (inl (idle_sure own (Control Commit) reply idle refl refl)) never
 
     -- the reply to a settle
-    at_settle : (reply : Reply) → plan.end ≡ end.Offer → Came plan (end_outcome end.Offer reply) own (own_after caller own (Control Settle, reply))
-    at_settle (says.Committed at) is_end = came_idle plan (Ok (Committed at)) own (own_after caller own (Control Settle, says.Committed at))
-        (record { caller = caller; calls = unwrap_or own.live []; at = at; last = at }, committed_as at (ap commits is_end), refl) refl
-    at_settle says.Media is_end = came_refused plan (Err says.Media) says.Media own (own_after caller own (Control Settle, says.Media)) refl refl (stands_idle plan (own_after caller own (Control Settle, says.Media)) refl)
-    at_settle says.Fine is_end = came_refused plan (Err says.Fine) says.Fine own (own_after caller own (Control Settle, says.Fine)) refl refl (stands_idle plan (own_after caller own (Control Settle, says.Fine)) refl)
-    at_settle (says.Found v) is_end = came_refused plan (Err (says.Found v)) (says.Found v) own (own_after caller own (Control Settle, says.Found v)) refl refl (stands_idle plan (own_after caller own (Control Settle, says.Found v)) refl)
-    at_settle says.Absent is_end = came_refused plan (Err says.Absent) says.Absent own (own_after caller own (Control Settle, says.Absent)) refl refl (stands_idle plan (own_after caller own (Control Settle, says.Absent)) refl)
-    at_settle (says.Listed v) is_end = came_refused plan (Err (says.Listed v)) (says.Listed v) own (own_after caller own (Control Settle, says.Listed v)) refl refl (stands_idle plan (own_after caller own (Control Settle, says.Listed v)) refl)
-    at_settle (says.Saved v) is_end = came_refused plan (Err (says.Saved v)) (says.Saved v) own (own_after caller own (Control Settle, says.Saved v)) refl refl (stands_idle plan (own_after caller own (Control Settle, says.Saved v)) refl)
-    at_settle (says.Purged v) is_end = came_refused plan (Err (says.Purged v)) (says.Purged v) own (own_after caller own (Control Settle, says.Purged v)) refl refl (stands_idle plan (own_after caller own (Control Settle, says.Purged v)) refl)
-    at_settle reply is_end = came_refused plan (Err reply) reply own own refl refl (λ _. record { offers = is_end; all = all; live = live; calls = calls })
+    module _ (waits : own.waits ≡ true) (doubt : own.doubt ≡ None) (is_end : plan.end ≡ end.Offer) where
+      settled_free : (new : Own) → new.live ≡ None → new.waits ≡ false → new.doubt ≡ own.doubt → IsFree new
+      settled_free new none idle same = record { live = none; idle = record { waits = idle; doubt = same ∙ doubt } }
 
-    no_commit : (reply : Reply) → IsLawful own (Control Abort, reply) → (own_after caller own (Control Abort, reply)).mine ≡ own.mine
-    no_commit reply lawful = mine_same own (Control Abort) reply (uncommitted (Control Abort) reply (λ same. cc) (λ same. cc) lawful.commits)
+      at_settle : (reply : Reply) → (is_busy reply ≡ true → ⊥) → Came plan (end_outcome end.Offer reply) own (own_after caller own (Control Settle, reply))
+      at_settle (says.Committed at) never = came_free plan (Ok (Committed at)) own (own_after caller own (Control Settle, says.Committed at))
+          (done_as at, refl, committed_as at (ap commits is_end), refl) (settled_free (own_after caller own (Control Settle, says.Committed at)) refl refl refl)
+      at_settle says.Media never = came_stopped plan says.Media own (own_after caller own (Control Settle, says.Media)) refl
+          (inr (inr (record { waits = refl; all = unwrap_or own.live []; doubt = refl; ends = ap commits is_end; calls = live_calls }))) never
+      at_settle says.Fine never = came_stopped plan says.Fine own (own_after caller own (Control Settle, says.Fine)) refl (inl (record { waits = refl; doubt = doubt })) never
+      at_settle (says.Found v) never = came_stopped plan (says.Found v) own (own_after caller own (Control Settle, says.Found v)) refl (inl (record { waits = refl; doubt = doubt })) never
+      at_settle says.Absent never = came_stopped plan says.Absent own (own_after caller own (Control Settle, says.Absent)) refl (inl (record { waits = refl; doubt = doubt })) never
+      at_settle (says.Listed v) never = came_stopped plan (says.Listed v) own (own_after caller own (Control Settle, says.Listed v)) refl (inl (record { waits = refl; doubt = doubt })) never
+      at_settle (says.Saved v) never = came_stopped plan (says.Saved v) own (own_after caller own (Control Settle, says.Saved v)) refl (inl (record { waits = refl; doubt = doubt })) never
+      at_settle (says.Purged v) never = came_stopped plan (says.Purged v) own (own_after caller own (Control Settle, says.Purged v)) refl (inl (record { waits = refl; doubt = doubt })) never
+      at_settle reply never = came_stopped plan reply own own refl (inr (inl (record { waits = waits; doubt = doubt; offers = is_end; all = all; live = live; calls = calls }))) never
 
-    at_abort : (reply : Reply) → commits plan.end ≡ false → (own_after caller own (Control Abort, reply)).mine ≡ own.mine → Gains plan (end_outcome end.Abort reply) own.mine (own_after caller own (Control Abort, reply)).mine
-    at_abort says.Fine never same = (never, same)
-    at_abort reply never same = same
+    -- the reply to an abort
+    module _ (reply : Reply) (idle : IsIdle own) (one : IsSaid own (Control Abort, reply)) where
+      abbrev ended_so : Own
+      ended_so = own_after caller own (Control Abort, reply)
 
-    at_unended : (reply : Reply) → commits plan.end ≡ false → (own_after caller own (Control Abort, reply)).mine ≡ own.mine → Gains plan (end_outcome end.Unended reply) own.mine (own_after caller own (Control Abort, reply)).mine
-    at_unended says.Fine never same = (never, same)
-    at_unended reply never same = same
+      unchanged : ended_so.mine ≡ own.mine
+      unchanged = mine_same own (Control Abort) reply (uncommitted (Control Abort) reply (λ same. cc) (λ same. cc) one.lawful.commits)
+
+      not_busy : is_busy reply ≡ true → ⊥
+      not_busy busy = never_busy own (Control Abort) reply one (λ asked on. cc) busy
+
+      resting : IsIdle ended_so
+      resting = idle_plain own (Control Abort) reply idle refl refl
+
+    at_abort : (reply : Reply) (idle : IsIdle own) → IsSaid own (Control Abort, reply) → commits plan.end ≡ false → Came plan (end_outcome end.Abort reply) own (own_after caller own (Control Abort, reply))
+    at_abort says.Fine idle one never = came_free plan (Ok Aborted) own (own_after caller own (Control Abort, says.Fine)) (never, unchanged says.Fine idle one) (record { live = refl; idle = resting says.Fine idle one })
+    at_abort reply idle one never = came_stopped plan reply own (own_after caller own (Control Abort, reply)) (unchanged reply idle one) (inl (resting reply idle one)) (not_busy reply idle one)
+
+    at_unended : (reply : Reply) (idle : IsIdle own) → IsSaid own (Control Abort, reply) → commits plan.end ≡ false → Came plan (end_outcome end.Unended reply) own (own_after caller own (Control Abort, reply))
+    at_unended says.Fine idle one never = came_free plan (Ok Aborted) own (own_after caller own (Control Abort, says.Fine)) (never, unchanged says.Fine idle one) (record { live = refl; idle = resting says.Fine idle one })
+    at_unended reply idle one never = came_stopped plan reply own (own_after caller own (Control Abort, reply)) (unchanged reply idle one) (inl (resting reply idle one)) (not_busy reply idle one)
 
   -- one call ends a plan
-  one_ends : (plan : Plan) (made : Result Fate Reply) (told : Heard) (own : Own) (call : Call) (outcome : Reply → Result Fate Reply) → IsOne call outcome told made → AreLawful own told
-      → ((reply : Reply) → IsLawful own (call, reply) → Came plan (outcome reply) own (own_after caller own (call, reply))) → Came plan made own (after own told)
-  one_ends plan made told own call outcome (reply, is, came) lawful by =
+  one_ends : (plan : Plan) (made : Result Fate Reply) (told : Heard) (own : Own) (call : Call) (outcome : Reply → Result Fate Reply) → IsOne call outcome told made → AreSaid caller own told
+      → ((reply : Reply) → IsSaid own (call, reply) → Came plan (outcome reply) own (own_after caller own (call, reply))) → Came plan made own (after own told)
+  one_ends plan made told own call outcome (reply, is, came) all by =
       subst (λ (l : Heard). Came plan made own (after own l)) (sym is)
-      (subst (λ (r : Result Fate Reply). Came plan r own (own_after caller own (call, reply))) (sym came) (by reply (subst (AreLawful own) is lawful).0))
+      (came_as plan made (outcome reply) own (own_after caller own (call, reply)) came (by reply (subst (AreSaid caller own) is all).0))
 
-  ended : (plan : Plan) (ends : PlanEnd) (made : Result Fate Reply) (told : Heard) (own : Own) (all : Granted) → plan.end ≡ ends → own.live ≡ Some all → own.waits ≡ false → map first_of all ≡ plan.calls
-      → Ends ends told made → AreLawful own told → Came plan made own (after own told)
-  ended plan end.Commit made told own all is_end live idle calls last lawful = one_ends plan made told own (Control Commit) (end_outcome end.Commit) last lawful
-      (λ reply so. came_idle plan (end_outcome end.Commit reply) own (own_after caller own (Control Commit, reply)) (at_commit plan own all live calls reply (ap commits is_end)) (idle_stays own (Control Commit) reply idle refl))
-  ended plan end.Abort made told own all is_end live idle calls last lawful = one_ends plan made told own (Control Abort) (end_outcome end.Abort) last lawful
-      (λ reply so. came_idle plan (end_outcome end.Abort reply) own (own_after caller own (Control Abort, reply)) (at_abort plan own all live calls reply (ap commits is_end) (no_commit plan own all live calls reply so)) (idle_stays own (Control Abort) reply idle refl))
-  ended plan end.Unended made told own all is_end live idle calls last lawful = one_ends plan made told own (Control Abort) (end_outcome end.Unended) last lawful
-      (λ reply so. came_idle plan (end_outcome end.Unended reply) own (own_after caller own (Control Abort, reply)) (at_unended plan own all live calls reply (ap commits is_end) (no_commit plan own all live calls reply so)) (idle_stays own (Control Abort) reply idle refl))
-  ended plan end.Offer made told own all is_end live idle calls (reply, rest, is, follows) lawful =
+  ended : (plan : Plan) (ends : PlanEnd) (made : Result Fate Reply) (told : Heard) (own : Own) (all : Granted) → plan.end ≡ ends → own.live ≡ Some all → IsIdle own → map first_of all ≡ plan.calls
+      → Ends ends told made → AreSaid caller own told → Came plan made own (after own told)
+  ended plan end.Commit made told own all is_end live idle calls last so = one_ends plan made told own (Control Commit) (end_outcome end.Commit) last so
+      (λ reply one. at_commit plan own all live calls reply idle (ap commits is_end) (never_busy own (Control Commit) reply one (λ asked on. cc)))
+  ended plan end.Abort made told own all is_end live idle calls last so = one_ends plan made told own (Control Abort) (end_outcome end.Abort) last so
+      (λ reply one. at_abort plan own all live calls reply idle one (ap commits is_end))
+  ended plan end.Unended made told own all is_end live idle calls last so = one_ends plan made told own (Control Abort) (end_outcome end.Unended) last so
+      (λ reply one. at_unended plan own all live calls reply idle one (ap commits is_end))
+  ended plan end.Offer made told own all is_end live idle calls (reply, rest, is, follows) so =
       subst (λ (l : Heard). Came plan made own (after own l)) (sym is) (go (is_refusal reply) refl follows)
     where
-      both : AreLawful own ((Control Offer, reply) ∷ rest)
-      both = subst (AreLawful own) is lawful
+      both : AreSaid caller own ((Control Offer, reply) ∷ rest)
+      both = subst (AreSaid caller own) is so
 
-      given : (own_after caller own (Control Offer, reply)).mine ≡ own.mine
-      given = mine_same own (Control Offer) reply (uncommitted (Control Offer) reply (λ same. cc) (λ same. cc) both.0.commits)
+      same : (next own (Control Offer) reply).mine ≡ own.mine
+      same = mine_same own (Control Offer) reply (uncommitted (Control Offer) reply (λ same. cc) (λ same. cc) both.0.lawful.commits)
 
-      go : (b : Bool) → is_refusal reply ≡ b → MatchBool b ((rest ≡ []) × (made ≡ Err reply)) (IsOne (Control Settle) (end_outcome end.Offer) rest made) → Came plan made own (after (own_after caller own (Control Offer, reply)) rest)
-      go true e (none, came) = subst (λ (l : Heard). Came plan made own (after (own_after caller own (Control Offer, reply)) l)) (sym none)
-          (came_refused plan made reply own (own_after caller own (Control Offer, reply)) came given (stands_refused plan own (Control Offer) reply (stands_idle plan own idle) e refl))
+      go : (b : Bool) → is_refusal reply ≡ b → MatchBool b ((rest ≡ []) × (made ≡ Err reply)) (IsOne (Control Settle) (end_outcome end.Offer) rest made) → Came plan made own (after (next own (Control Offer) reply) rest)
+      go true e (none, came) = subst (λ (l : Heard). Came plan made own (after (next own (Control Offer) reply) l)) (sym none)
+          (came_as plan made (Err reply) own (next own (Control Offer) reply) came (came_stopped plan reply own (next own (Control Offer) reply) same (inl (refused_idle own (Control Offer) reply idle e refl)) (never_busy own (Control Offer) reply both.0 (λ asked on. cc))))
       go false e one =
-          let now : (own_after caller own (Control Offer, reply)).live ≡ Some all = done_live own (Control Offer) reply e ∙ ap (λ (l : Option Granted). Some (unwrap_or l [])) live in
-          onto plan made own (own_after caller own (Control Offer, reply)) (after (own_after caller own (Control Offer, reply)) rest) given
-          (one_ends plan made rest (own_after caller own (Control Offer, reply)) (Control Settle) (end_outcome end.Offer) one both.1 (λ answer so. at_settle plan (own_after caller own (Control Offer, reply)) all now calls answer is_end))
+          let now : (next own (Control Offer) reply).live ≡ Some all = done_live own (Control Offer) reply e ∙ ap (λ (l : Option Granted). Some (unwrap_or l [])) live in
+          onto plan made own (next own (Control Offer) reply) (after (next own (Control Offer) reply) rest) same
+          (one_ends plan made rest (next own (Control Offer) reply) (Control Settle) (end_outcome end.Offer) one both.1 (λ answer one.
+          at_settle plan (next own (Control Offer) reply) all now calls (done_waits own (Control Offer) reply e) (plain_doubt own (Control Offer) reply refl ∙ idle.doubt) is_end answer (never_busy (next own (Control Offer) reply) (Control Settle) answer one (λ asked on. cc))))
 
   -- calls of a table, granted one after another, and then the end
   takes_gain : (plan : Plan) (calls : List TableCall) (told : Heard) (made : Result Fate Reply) → Takes calls plan.end told made
-      → (before : Granted) (own : Own) → AreLawful own told → own.live ≡ Some before → own.waits ≡ false → map first_of before ++ calls ≡ plan.calls → Came plan made own (after own told)
-  takes_gain plan [] told made last before own lawful live idle are = ended plan plan.end made told own before refl live idle (sym (append-nil (map first_of before)) ∙ are) last lawful
-  takes_gain plan (call ∷ calls) told made (reply, rest, is, follows) before own lawful live idle are =
+      → (before : Granted) (own : Own) → AreSaid caller own told → Within told → own.live ≡ Some before → IsIdle own → map first_of before ++ calls ≡ plan.calls → Came plan made own (after own told)
+  takes_gain plan [] told made last before own so within live idle are = ended plan plan.end made told own before refl live idle (sym (append-nil (map first_of before)) ∙ are) last so
+  takes_gain plan (call ∷ calls) told made (reply, rest, is, follows) before own so within live idle are =
       subst (λ (l : Heard). Came plan made own (after own l)) (sym is)
-      (go (λ takes before' own' lawful' live' idle' are'. takes_gain plan calls rest made takes before' own' lawful' live' idle' are') (is_refusal reply) refl follows)
+      (go (λ takes before' own' so' within' live' idle' are'. takes_gain plan calls rest made takes before' own' so' within' live' idle' are') (is_refusal reply) refl follows)
     where
-      both : AreLawful own ((Table call, reply) ∷ rest)
-      both = subst (AreLawful own) is lawful
+      both : AreSaid caller own ((Table call, reply) ∷ rest)
+      both = subst (AreSaid caller own) is so
 
-      mine : (own_after caller own (Table call, reply)).mine ≡ own.mine
-      mine = mine_same own (Table call) reply (uncommitted (Table call) reply (λ same. cc) (λ same. cc) both.0.commits)
+      parts : Within ((Table call, reply) ∷ []) × Within rest
+      parts = within_parts told ((Table call, reply) ∷ []) rest is within
 
-      still : (own_after caller own (Table call, reply)).waits ≡ false
-      still = idle_stays own (Table call) reply idle refl
+      mine : (next own (Table call) reply).mine ≡ own.mine
+      mine = mine_same own (Table call) reply (uncommitted (Table call) reply (λ same. cc) (λ same. cc) both.0.lawful.commits)
 
-      go : (Takes calls plan.end rest made → (before : Granted) (own : Own) → AreLawful own rest → own.live ≡ Some before → own.waits ≡ false → map first_of before ++ calls ≡ plan.calls → Came plan made own (after own rest))
-          → (b : Bool) → is_refusal reply ≡ b → MatchBool b (GivesUp reply rest made) (Takes calls plan.end rest made) → Came plan made own (after (own_after caller own (Table call, reply)) rest)
-      go more true e gives = onto plan made own (own_after caller own (Table call, reply)) (after (own_after caller own (Table call, reply)) rest) mine
-          (given_up plan reply made rest (own_after caller own (Table call, reply)) gives both.1 (stands_idle plan (own_after caller own (Table call, reply)) still))
+      still : IsIdle (next own (Table call) reply)
+      still = idle_plain own (Table call) reply idle refl refl
+
+      planned : Contains plan.calls call
+      planned = subst (λ (l : List TableCall). Contains l call) are (Contains-append_right (map first_of before) (call ∷ calls) call (Contains-append_left (call ∷ []) calls call (one_here call)))
+
+      why : IsKind reply → is_last reply ≡ false → is_busy reply ≡ false → IsRefusedAs said plan reply
+      why (inl last) not_last free = absurd (true≢false (sym last ∙ not_last))
+      why (inr (inl busy)) not_last free = absurd (true≢false (sym busy ∙ free))
+      why (inr (inr final)) not_last free = record { asked = call; planned = planned; refused = parts.0 (Table call, reply) free (one_here (Table call, reply)); final = final }
+
+      go : (Takes calls plan.end rest made → (before : Granted) (own : Own) → AreSaid caller own rest → Within rest → own.live ≡ Some before → IsIdle own → map first_of before ++ calls ≡ plan.calls → Came plan made own (after own rest))
+          → (b : Bool) → is_refusal reply ≡ b → MatchBool b (GivesUp reply rest made) (Takes calls plan.end rest made) → Came plan made own (after (next own (Table call) reply) rest)
+      go more true e gives = onto plan made own (next own (Table call) reply) (after (next own (Table call) reply) rest) mine
+          (given_up plan reply made rest (next own (Table call) reply) gives both.1 still (why (both.0.lawful.asks call before refl live idle.waits e)))
       go more false e takes =
-          let now : (own_after caller own (Table call, reply)).live ≡ Some (before ++ (call, reply) ∷ []) =
-          done_live own (Table call) reply e ∙ ap (λ (l : Option Granted). live_with (unwrap_or l []) (Table call) reply) live in
-          let next : map first_of (before ++ (call, reply) ∷ []) ++ calls ≡ plan.calls =
+          let now : (next own (Table call) reply).live ≡ Some (before ++ (call, reply) ∷ []) = done_live own (Table call) reply e ∙ ap (λ (l : Option Granted). live_with (unwrap_or l []) (Table call) reply) live in
+          let are_next : map first_of (before ++ (call, reply) ∷ []) ++ calls ≡ plan.calls =
           ap (λ (l : List TableCall). l ++ calls) (map-append first_of before ((call, reply) ∷ [])) ∙ append_assoc (map first_of before) (call ∷ []) calls ∙ are in
-          onto plan made own (own_after caller own (Table call, reply)) (after (own_after caller own (Table call, reply)) rest) mine
-          (more takes (before ++ (call, reply) ∷ []) (own_after caller own (Table call, reply)) both.1 now still next)
+          onto plan made own (next own (Table call) reply) (after (next own (Table call) reply) rest) mine (more takes (before ++ (call, reply) ∷ []) (next own (Table call) reply) both.1 parts.1 now still are_next)
 
-  try_gains : (plan : Plan) (told : Heard) (made : Result Fate Reply) → IsTry plan told made → (own : Own) → AreLawful own told → Stands plan own → Came plan made own (after own told)
-  try_gains plan told made (reply, rest, is, follows) own lawful stands =
+  try_gains : (plan : Plan) (told : Heard) (made : Result Fate Reply) → IsTry plan told made → (own : Own) → AreSaid caller own told → Within told → IsFree own → Came plan made own (after own told)
+  try_gains plan told made (reply, rest, is, follows) own so within free =
       subst (λ (l : Heard). Came plan made own (after own l)) (sym is) (go (is_refusal reply) refl follows)
     where
-      both : AreLawful own ((Begin, reply) ∷ rest)
-      both = subst (AreLawful own) is lawful
+      both : AreSaid caller own ((Begin, reply) ∷ rest)
+      both = subst (AreSaid caller own) is so
 
-      mine : (own_after caller own (Begin, reply)).mine ≡ own.mine
-      mine = mine_same own Begin reply (uncommitted Begin reply (λ same. cc) (λ same. cc) both.0.commits)
+      mine : (next own Begin reply).mine ≡ own.mine
+      mine = mine_same own Begin reply (uncommitted Begin reply (λ same. cc) (λ same. cc) both.0.lawful.commits)
 
-      go : (b : Bool) → is_refusal reply ≡ b → MatchBool b (GivesUp reply rest made) (Takes plan.calls plan.end rest made) → Came plan made own (after (own_after caller own (Begin, reply)) rest)
-      go true e gives = onto plan made own (own_after caller own (Begin, reply)) (after (own_after caller own (Begin, reply)) rest) mine
-          (given_up plan reply made rest (own_after caller own (Begin, reply)) gives both.1 (stands_refused plan own Begin reply stands e refl))
-      go false e takes = onto plan made own (own_after caller own (Begin, reply)) (after (own_after caller own (Begin, reply)) rest) mine
-          (takes_gain plan plan.calls rest made takes [] (own_after caller own (Begin, reply)) both.1 (done_live own Begin reply e) (done_waits own Begin reply e) refl)
+      still : IsIdle (next own Begin reply)
+      still = idle_plain own Begin reply free.idle refl refl
+
+      go : (b : Bool) → is_refusal reply ≡ b → MatchBool b (GivesUp reply rest made) (Takes plan.calls plan.end rest made) → Came plan made own (after (next own Begin reply) rest)
+      go true e gives = onto plan made own (next own Begin reply) (after (next own Begin reply) rest) mine
+          (given_up plan reply made rest (next own Begin reply) gives both.1 still (λ not_last _. absurd (true≢false (sym (both.0.lawful.begins refl free.live free.idle.waits e) ∙ not_last))))
+      go false e takes = onto plan made own (next own Begin reply) (after (next own Begin reply) rest) mine
+          (takes_gain plan plan.calls rest made takes [] (next own Begin reply) both.1 (within_parts told ((Begin, reply) ∷ []) rest is within).1 (done_live own Begin reply e) still refl)
 
   -- tries that a locked key stopped add nothing
-  held_up : (plan : Plan) (n : ℕ) (told : Heard) → AreHeldUp plan n told → (own : Own) → AreLawful own told → Stands plan own → ((after own told).mine ≡ own.mine) × Stands plan (after own told)
-  held_up plan zero told none own lawful stands = (ap (λ (l : Heard). (after own l).mine) none, subst (λ (l : Heard). Stands plan (after own l)) (sym none) stands)
-  held_up plan (suc n) told (front, last, holder, is, before, one) own lawful stands =
-      let parts = both_parts own front last (subst (AreLawful own) is lawful) in
-      let first = held_up plan n front before own parts.0 stands in
-      let came = try_gains plan last (Err (says.Busy holder)) one (after own front) parts.1 first.1 in
+  held_up : (plan : Plan) (n : ℕ) (told : Heard) → AreHeldUp plan n told → (own : Own) → AreSaid caller own told → Within told → IsFree own → ((after own told).mine ≡ own.mine) × IsFree (after own told)
+  held_up plan zero told none own so within free = (ap (λ (l : Heard). (after own l).mine) none, subst (λ (l : Heard). IsFree (after own l)) (sym none) free)
+  held_up plan (suc n) told (front, last, holder, is, before, one) own so within free =
+      let parts = both_parts caller own front last (subst (AreSaid caller own) is so) in
+      let inside = within_parts told front last is within in
+      let first = held_up plan n front before own parts.0 inside.0 free in
+      let came = try_gains plan last (Err (says.Busy holder)) one (after own front) parts.1 inside.1 first.1 in
       let here : after own told ≡ after (after own front) last = ap (after own) is ∙ after_both own front last in
-      (ap (λ (o : Own). o.mine) here ∙ came.gains ∙ first.0, subst (λ (o : Own). Stands plan o) (sym here) came.stands)
+      (ap (λ (o : Own). o.mine) here ∙ came.gains ∙ first.0, subst (λ (o : Own). IsFree o) (sym here) (came.free refl))
 
-  made_gains : (tries : Tries) (plan : Plan) (told : Heard) (made : Result Fate Reply) → IsMade tries plan told made → (own : Own) → AreLawful own told → Stands plan own → Came plan made own (after own told)
-  made_gains tries plan told made (held, front, last, is, before, ends, count) own lawful stands =
-      let parts = both_parts own front last (subst (AreLawful own) is lawful) in
-      let first = held_up plan held front before own parts.0 stands in
+  made_gains : (tries : Tries) (plan : Plan) (told : Heard) (made : Result Fate Reply) → IsMade tries plan told made → (own : Own) → AreSaid caller own told → Within told → IsFree own → Came plan made own (after own told)
+  made_gains tries plan told made (held, front, last, is, before, ends, count) own so within free =
+      let parts = both_parts caller own front last (subst (AreSaid caller own) is so) in
+      let inside = within_parts told front last is within in
+      let first = held_up plan held front before own parts.0 inside.0 free in
       subst (λ (o : Own). Came plan made own o) (sym (ap (after own) is ∙ after_both own front last))
-      (onto plan made own (after own front) (after (after own front) last) first.0 (try_gains plan last made ends (after own front) parts.1 first.1))
+      (onto plan made own (after own front) (after (after own front) last) first.0 (try_gains plan last made ends (after own front) parts.1 inside.1 first.1))
 
   -- what the fates say of the transactions that the caller was told of
   abbrev AreTold : List Plan → List Fate → List Done → Type 0
   AreTold plans [] mine = mine ≡ []
   AreTold [] (fate ∷ fates) mine = ⊥
-  AreTold (plan ∷ plans) (Committed at ∷ fates) mine = (done : Done) × (behind : List Done) × (mine ≡ done ∷ behind) × IsDoneAs caller plan at done × AreTold plans fates behind
+  AreTold (plan ∷ plans) (Committed at ∷ fates) mine = (done : Done) × (behind : List Done) × (mine ≡ done ∷ behind) × (done.at ≡ at) × IsDoneAs plan done × AreTold plans fates behind
   AreTold (plan ∷ plans) (Aborted ∷ fates) mine = IsFalse (commits plan.end) × AreTold plans fates mine
-  AreTold (plan ∷ plans) (Refused reply ∷ fates) mine = AreTold plans fates mine
-
-  -- what waits is the first of the plans that are left
-  abbrev StandsFor : List Plan → Own → Type 0
-  StandsFor [] own = own.waits ≡ false
-  StandsFor (plan ∷ plans) own = Stands plan own
-
-  for_idle : (plans : List Plan) (own : Own) → own.waits ≡ false → StandsFor plans own
-  for_idle [] own idle = idle
-  for_idle (plan ∷ plans) own idle = stands_idle plan own idle
+  AreTold (plan ∷ plans) (Refused reply ∷ fates) mine = IsRefusedAs said plan reply × AreTold plans fates mine
 
   -- what all of a worker's turns add
-  abbrev Adds : List Plan → List Fate → Own → Own → Type 0
-  Adds plans fates old new = (mine : List Done) × (new.mine ≡ old.mine ++ mine) × AreTold plans fates mine × StandsFor (drop (length fates) plans) new
+  record Adds (plans : List Plan) (fates : List Fate) (stopped : Option Reply) (old new : Own) : Type 0 where
+    mine : List Done
+    is : new.mine ≡ old.mine ++ mine
+    told : AreTold plans fates mine
+    leaves : LeavesFor (drop (length fates) plans) new
+    free : is_open stopped ≡ true → IsFree new
 
-  fate_first : (plan : Plan) (plans : List Plan) (fate : Fate) (fates : List Fate) (old mid new : Own) → Gains plan (Ok fate) old.mine mid.mine → Adds plans fates mid new → Adds (plan ∷ plans) (fate ∷ fates) old new
-  fate_first plan plans (Committed at) fates old mid new (done, fits, is) (mine, are, so, left) = (done ∷ mine, are ∙ ap (λ (l : List Done). l ++ mine) is ∙ append_assoc old.mine (done ∷ []) mine, (done, mine, refl, fits, so), left)
-  fate_first plan plans Aborted fates old mid new (never, is) (mine, are, so, left) = (mine, are ∙ ap (λ (l : List Done). l ++ mine) is, (never, so), left)
-  fate_first plan plans (Refused reply) fates old mid new is (mine, are, so, left) = (mine, are ∙ ap (λ (l : List Done). l ++ mine) is, so, left)
+  fate_first : (plan : Plan) (plans : List Plan) (fate : Fate) (fates : List Fate) (stopped : Option Reply) (old mid new : Own) → Gains plan (Ok fate) old.mine mid.mine → Adds plans fates stopped mid new
+      → Adds (plan ∷ plans) (fate ∷ fates) stopped old new
+  fate_first plan plans (Committed at) fates stopped old mid new (done, under, fits, is) adds = record {
+    mine = done ∷ adds.mine;
+    is = adds.is ∙ ap (λ (l : List Done). l ++ adds.mine) is ∙ append_assoc old.mine (done ∷ []) adds.mine;
+    told = (done, adds.mine, refl, under, fits, adds.told);
+    leaves = adds.leaves;
+    free = adds.free;
+  }
+  fate_first plan plans Aborted fates stopped old mid new (never, is) adds =
+      record { mine = adds.mine; is = adds.is ∙ ap (λ (l : List Done). l ++ adds.mine) is; told = (never, adds.told); leaves = adds.leaves; free = adds.free }
+  fate_first plan plans (Refused reply) fates stopped old mid new (why, is) adds =
+      record { mine = adds.mine; is = adds.is ∙ ap (λ (l : List Done). l ++ adds.mine) is; told = (why, adds.told); leaves = adds.leaves; free = adds.free }
 
-  works_add : (tries : Tries) (plans : List Plan) (told : Heard) (fates : List Fate) (stopped : Option Reply) → Works tries plans told fates stopped → (own : Own) → AreLawful own told → StandsFor plans own
-      → Adds plans fates own (after own told)
-  works_add tries [] told [] stopped (none, is) own lawful left = ([], ap (λ (l : Heard). (after own l).mine) none ∙ sym (append-nil own.mine), refl, ap (λ (l : Heard). (after own l).waits) none ∙ left)
-  works_add tries [] told (fate ∷ fates) stopped works own lawful left = absurd works
-  works_add tries (plan ∷ plans) told [] stopped (reply, is, made) own lawful left =
-      let came = made_gains tries plan told (Err reply) made own lawful left in
-      ([], came.gains ∙ sym (append-nil own.mine), refl, came.stands)
-  works_add tries (plan ∷ plans) told (fate ∷ fates) stopped (front, back, is, made, works) own lawful left =
-      let parts = both_parts own front back (subst (AreLawful own) is lawful) in
-      let one = made_gains tries plan front (Ok fate) made own parts.0 left in
-      let others = works_add tries plans back fates stopped works (after own front) parts.1 (for_idle plans (after own front) (one.idle refl)) in
-      subst (λ (o : Own). Adds (plan ∷ plans) (fate ∷ fates) own o) (sym (after_both own front back) ∙ ap (after own) (sym is))
-      (fate_first plan plans fate fates own (after own front) (after (after own front) back) one.gains others)
+  works_add : (tries : Tries) (plans : List Plan) (told : Heard) (fates : List Fate) (stopped : Option Reply) → Works tries plans told fates stopped → (own : Own) → AreSaid caller own told → Within told → IsFree own
+      → Adds plans fates stopped own (after own told)
+  works_add tries [] told [] stopped (none, is) own so within free = subst (λ (l : Heard). Adds [] [] stopped own (after own l)) (sym none)
+      (record { mine = []; is = sym (append-nil own.mine); told = refl; leaves = free.idle; free = λ _. free })
+  works_add tries [] told (fate ∷ fates) stopped works own so within free = absurd works
+  works_add tries (plan ∷ plans) told [] stopped (reply, is, made) own so within free =
+      let came = made_gains tries plan told (Err reply) made own so within free in
+      record { mine = []; is = came.gains ∙ sym (append-nil own.mine); told = refl; leaves = came.leaves; free = λ goes. came.free (sym (ap is_open is) ∙ goes) }
+  works_add tries (plan ∷ plans) told (fate ∷ fates) stopped (front, back, is, made, works) own so within free =
+      let parts = both_parts caller own front back (subst (AreSaid caller own) is so) in
+      let inside = within_parts told front back is within in
+      let one = made_gains tries plan front (Ok fate) made own parts.0 inside.0 free in
+      let others = works_add tries plans back fates stopped works (after own front) parts.1 inside.1 (one.free refl) in
+      subst (λ (o : Own). Adds (plan ∷ plans) (fate ∷ fates) stopped own o) (sym (after_both own front back) ∙ ap (after own) (sym is))
+      (fate_first plan plans fate fates stopped own (after own front) (after (after own front) back) one.gains others)
 
   -- fates of some plans and of the ones behind them
   told_both : (plans : List Plan) (early late : List Fate) (xs ys : List Done) → AreTold plans early xs → AreTold (drop (length early) plans) late ys → AreTold plans (early ++ late) (xs ++ ys)
   told_both plans [] late xs ys none so = subst (λ (l : List Done). AreTold plans late (l ++ ys)) (sym none) so
   told_both [] (fate ∷ early) late xs ys one so = absurd one
-  told_both (plan ∷ plans) (Committed at ∷ early) late xs ys (done, behind, is, fits, one) so =
-      (done, behind ++ ys, ap (λ (l : List Done). l ++ ys) is, fits, told_both plans early late behind ys one so)
+  told_both (plan ∷ plans) (Committed at ∷ early) late xs ys (done, behind, is, under, fits, one) so =
+      (done, behind ++ ys, ap (λ (l : List Done). l ++ ys) is, under, fits, told_both plans early late behind ys one so)
   told_both (plan ∷ plans) (Aborted ∷ early) late xs ys (never, one) so = (never, told_both plans early late xs ys one so)
-  told_both (plan ∷ plans) (Refused reply ∷ early) late xs ys one so = told_both plans early late xs ys one so
+  told_both (plan ∷ plans) (Refused reply ∷ early) late xs ys (why, one) so = (why, told_both plans early late xs ys one so)
 
   abbrev no_plan : List Plan
   no_plan = []
@@ -442,85 +485,131 @@ module _ (caller : ℕ) where
   left_both [] (fate ∷ early) late = sym (none_left late)
   left_both (plan ∷ plans) (fate ∷ early) late = left_both plans early late
 
-  work_adds : (tries : Tries) (plans : List Plan) (told : Heard) (fates : List Fate) (stopped : Option Reply) → IsWork tries plans told fates stopped → (own : Own) → AreLawful own told → StandsFor plans own
-      → Adds plans fates own (after own told)
-  work_adds tries plans told fates stopped (inl works) own lawful left = works_add tries plans told fates stopped works own lawful left
-  work_adds tries plans told fates stopped (inr (front, back, early, late, holder, is, are, first, last)) own lawful left =
-      let parts = both_parts own front back (subst (AreLawful own) is lawful) in
-      let one = works_add tries plans front early (Some (says.Busy holder)) first own parts.0 left in
-      let other = works_add NoLimit (drop (length early) plans) back late stopped last (after own front) parts.1 one.3 in
-      subst (λ (x : List Fate × Own). Adds plans x.0 own x.1) (λ k. (sym are k, (sym (after_both own front back) ∙ ap (after own) (sym is)) k)) (
-        one.0 ++ other.0,
-        other.1 ∙ ap (λ (l : List Done). l ++ other.0) one.1 ∙ append_assoc own.mine one.0 other.0,
-        told_both plans early late one.0 other.0 one.2 other.2,
-        subst (λ (l : List Plan). StandsFor l (after (after own front) back)) (sym (left_both plans early late)) other.3,
-      )
-
-  -- one more that waits, and that a group has committed
-  record IsExtra (own : Own) (done : Done) : Type 0 where
-    waits : own.waits ≡ true
-    caller_is : done.caller ≡ caller
-    calls : done.calls ≡ unwrap_or own.live []
-
-  -- with it the fates say what the history has
-  abbrev Extra : Own → List Done → Type 0
-  Extra own more = (more ≡ []) ⊎ ((done : Done) × IsExtra own done × (more ≡ done ∷ []))
-
-  fated_more : (plans : List Plan) (fates : List Fate) (mine : List Done) (own : Own) (more : List Done) → AreTold plans fates mine → StandsFor (drop (length fates) plans) own → Extra own more → AreFated caller plans fates (mine ++ more)
-  fated_more [] [] mine own more none left (inl nil) = (λ i. none i ++ nil i)
-  fated_more [] [] mine own more none left (inr (done, extra, is)) = absurd (true≢false (sym extra.waits ∙ left))
-  fated_more (plan ∷ plans) [] mine own more none left (inl nil) = inl (λ i. none i ++ nil i)
-  fated_more (plan ∷ plans) [] mine own more none left (inr (done, extra, is)) =
-      let w : IsWaiting plan own = left extra.waits in
-      inr (record {
-        offers = w.offers;
-        done = done;
-        only = (λ i. none i ++ is i);
-        caller_is = extra.caller_is;
-        calls = ap (map first_of) (extra.calls ∙ ap (λ (l : Option Granted). unwrap_or l []) w.live) ∙ w.calls;
+  work_adds : (tries : Tries) (plans : List Plan) (told : Heard) (fates : List Fate) (stopped : Option Reply) → IsWork tries plans told fates stopped → (own : Own) → AreSaid caller own told → Within told → IsFree own
+      → Adds plans fates stopped own (after own told)
+  work_adds tries plans told fates stopped (inl works) own so within free = works_add tries plans told fates stopped works own so within free
+  work_adds tries plans told fates stopped (inr (front, back, early, late, holder, is, are, first, last)) own so within free =
+      let parts = both_parts caller own front back (subst (AreSaid caller own) is so) in
+      let inside = within_parts told front back is within in
+      let one = works_add tries plans front early (Some (says.Busy holder)) first own parts.0 inside.0 free in
+      let other = works_add NoLimit (drop (length early) plans) back late stopped last (after own front) parts.1 inside.1 (one.free refl) in
+      subst (λ (x : List Fate × Own). Adds plans x.0 stopped own x.1) (λ k. (sym are k, (sym (after_both own front back) ∙ ap (after own) (sym is)) k)) (record {
+        mine = one.mine ++ other.mine;
+        is = other.is ∙ ap (λ (l : List Done). l ++ other.mine) one.is ∙ append_assoc own.mine one.mine other.mine;
+        told = told_both plans early late one.mine other.mine one.told other.told;
+        leaves = subst (λ (l : List Plan). LeavesFor l (after (after own front) back)) (sym (left_both plans early late)) other.leaves;
+        free = other.free;
       })
-  fated_more [] (fate ∷ fates) mine own more so left extra = absurd so
-  fated_more (plan ∷ plans) (Committed at ∷ fates) mine own more (done, behind, is, fits, so) left extra = (done, behind ++ more, ap (λ (l : List Done). l ++ more) is, fits, fated_more plans fates behind own more so left extra)
-  fated_more (plan ∷ plans) (Aborted ∷ fates) mine own more (never, so) left extra = (never, fated_more plans fates mine own more so left extra)
-  fated_more (plan ∷ plans) (Refused reply ∷ fates) mine own more so left extra = fated_more plans fates mine own more so left extra
+
+  -- what the history and the doubt have beyond what the caller was told, of the plans that are left
+  abbrev IsRest : List Plan → List Done → List Done → Type 0
+  IsRest [] more doubt = more ++ doubt ≡ []
+  IsRest (plan ∷ plans) more doubt = (more ++ doubt ≡ []) ⊎ ((done : Done) × (more ++ doubt ≡ done ∷ []) × IsDoneAs plan done × (plan.end ≡ end.Commit → more ≡ []))
+
+  fated_more : (plans : List Plan) (fates : List Fate) (mine more doubt : List Done) → AreTold plans fates mine → IsRest (drop (length fates) plans) more doubt → AreFated said plans fates (mine ++ more) doubt
+  fated_more [] [] mine more doubt none rest = subst (λ (l : List Done). (l ++ more) ++ doubt ≡ []) (sym none) rest
+  fated_more (plan ∷ plans) [] mine more doubt none rest = subst (λ (l : List Done). IsRest (plan ∷ plans) (l ++ more) doubt) (sym none) rest
+  fated_more [] (fate ∷ fates) mine more doubt so rest = absurd so
+  fated_more (plan ∷ plans) (Committed at ∷ fates) mine more doubt (done, behind, is, under, fits, so) rest = (done, behind ++ more, ap (λ (l : List Done). l ++ more) is, under, fits, fated_more plans fates behind more doubt so rest)
+  fated_more (plan ∷ plans) (Aborted ∷ fates) mine more doubt (never, so) rest = (never, fated_more plans fates mine more doubt so rest)
+  fated_more (plan ∷ plans) (Refused reply ∷ fates) mine more doubt (why, so) rest = (why, fated_more plans fates mine more doubt so rest)
 
   -- where a group ends, no fate says
-  none_told : (dones : List Done) → map as_told dones ≡ [] → dones ≡ []
-  none_told [] e = refl
-  none_told (done ∷ dones) e = absurd (cc)
+  none_told : (dones doubt : List Done) → map as_told dones ++ doubt ≡ [] → dones ++ doubt ≡ []
+  none_told [] doubt e = e
+  none_told (done ∷ dones) doubt e = absurd (cc)
 
   one_told : (dones : List Done) (done : Done) (behind : List Done) → map as_told dones ≡ done ∷ behind → (first : Done) × (rest : List Done) × (dones ≡ first ∷ rest) × (as_told first ≡ done) × (map as_told rest ≡ behind)
   one_told [] done behind e = absurd (cc)
   one_told (first ∷ rest) done behind e = (first, rest, refl, (let same : as_told first ≡ done = cc in same), (let same : map as_told rest ≡ behind = cc in same))
 
-  fated_as : (plans : List Plan) (fates : List Fate) (dones : List Done) → AreFated caller plans fates (map as_told dones) → AreFated caller plans fates dones
-  fated_as [] [] dones none = none_told dones none
-  fated_as [] (fate ∷ fates) dones never = never
-  fated_as (plan ∷ plans) [] dones (inl none) = inl (none_told dones none)
-  fated_as (plan ∷ plans) [] dones (inr more) =
-      let one = one_told dones more.done [] more.only in
-      inr (record {
-        offers = more.offers;
-        done = one.0;
-        only = one.2 ∙ ap (λ (l : List Done). one.0 ∷ l) (none_told one.1 one.4);
-        caller_is = ap (λ (d : Done). d.caller) one.3 ∙ more.caller_is;
-        calls = ap (λ (d : Done). map first_of d.calls) one.3 ∙ more.calls;
-      })
-  fated_as (plan ∷ plans) (Committed at ∷ fates) dones (done, behind, is, fits, so) =
+  done_told : (plan : Plan) (first done : Done) → as_told first ≡ done → IsDoneAs plan done → IsDoneAs plan first
+  done_told plan first done is fits = record { commits = fits.commits; calls = ap (λ (d : Done). map first_of d.calls) is ∙ fits.calls }
+
+  rest_told : (plan : Plan) (plans : List Plan) (dones doubt : List Done) → IsRest (plan ∷ plans) (map as_told dones) doubt → IsRest (plan ∷ plans) dones doubt
+  rest_told plan plans dones doubt (inl none) = inl (none_told dones doubt none)
+  rest_told plan plans [] doubt (inr one) = inr one
+  rest_told plan plans (first ∷ rest) doubt (inr (done, only, fits, alone)) =
+      let same : as_told first ≡ done = cc in
+      let none : map as_told rest ++ doubt ≡ [] = cc in
+      inr (first, ap (λ (l : List Done). first ∷ l) (none_told rest doubt none), done_told plan first done same fits, (λ ends. absurd (let e : as_told first ∷ map as_told rest ≡ [] = alone ends in cc)))
+
+  fated_as : (plans : List Plan) (fates : List Fate) (dones doubt : List Done) → AreFated said plans fates (map as_told dones) doubt → AreFated said plans fates dones doubt
+  fated_as [] [] dones doubt none = none_told dones doubt none
+  fated_as [] (fate ∷ fates) dones doubt never = never
+  fated_as (plan ∷ plans) [] dones doubt rest = rest_told plan plans dones doubt rest
+  fated_as (plan ∷ plans) (Committed at ∷ fates) dones doubt (done, behind, is, under, fits, so) =
       let one = one_told dones done behind is in (
         one.0,
         one.1,
         one.2,
-        record {
-          commits = fits.commits;
-          caller_is = ap (λ (d : Done). d.caller) one.3 ∙ fits.caller_is;
-          calls = ap (λ (d : Done). map first_of d.calls) one.3 ∙ fits.calls;
-          number = ap (λ (d : Done). d.at) one.3 ∙ fits.number;
-        },
-        fated_as plans fates one.1 (subst (λ (l : List Done). AreFated caller plans fates l) (sym one.4) so),
+        ap (λ (d : Done). d.at) one.3 ∙ under,
+        done_told plan one.0 done one.3 fits,
+        fated_as plans fates one.1 doubt (subst (λ (l : List Done). AreFated said plans fates l doubt) (sym one.4) so),
       )
-  fated_as (plan ∷ plans) (Aborted ∷ fates) dones (never, so) = (never, fated_as plans fates dones so)
-  fated_as (plan ∷ plans) (Refused reply ∷ fates) dones so = fated_as plans fates dones so
+  fated_as (plan ∷ plans) (Aborted ∷ fates) dones doubt (never, so) = (never, fated_as plans fates dones doubt so)
+  fated_as (plan ∷ plans) (Refused reply ∷ fates) dones doubt (why, so) = (why, fated_as plans fates dones doubt so)
+
+  -- What is in doubt, by its calls.
+  no_calls : (dones : List Done) → map (λ (done : Done). done.calls) dones ≡ [] → dones ≡ []
+  no_calls [] e = refl
+  no_calls (done ∷ dones) e = absurd (cc)
+
+  one_call : (dones : List Done) (calls : Granted) → map (λ (done : Done). done.calls) dones ≡ calls ∷ [] → (done : Done) × (dones ≡ done ∷ []) × (done.calls ≡ calls)
+  one_call [] calls e = absurd (cc)
+  one_call (done ∷ dones) calls e = (done, ap (λ (l : List Done). done ∷ l) (no_calls dones (let none : map (λ (done : Done). done.calls) dones ≡ [] = cc in none)), (let same : done.calls ≡ calls = cc in same))
+
+  -- What of a plan is committed or in doubt and not told: another's settle may have ended the one that waits.
+  module _ (own : Own) (now : State) (knows : KnowsLive caller own now) (doubted : calls_among caller now.doubt ≡ doubt_in own (now.offers caller)) where
+    abbrev doubt : List Done
+    doubt = commits_of caller now.doubt
+
+    rest_idle : (plans : List Plan) → IsIdle own → (more : List Done) × IsRest plans more doubt × (mine_in caller own (now.offers caller) ≡ own.mine ++ more)
+    rest_idle plans idle = ([], none plans, ap (mine_in caller own) open_is ∙ sym (append-nil own.mine))
+      where
+        open_is : now.offers caller ≡ unoffered
+        open_is = knows.none idle.waits
+
+        nothing : doubt ≡ []
+        nothing = no_calls doubt (doubted ∙ ap (doubt_in own) open_is ∙ pick_false own.waits (unwrap_or own.live [] ∷ []) (option_to_list own.doubt) idle.waits ∙ ap option_to_list idle.doubt)
+
+        none : (plans : List Plan) → IsRest plans [] doubt
+        none [] = nothing
+        none (plan ∷ plans) = inl nothing
+
+    rest_doubted : (plan : Plan) (plans : List Plan) → IsDoubted plan own → (more : List Done) × IsRest (plan ∷ plans) more doubt × (mine_in caller own (now.offers caller) ≡ own.mine ++ more)
+    rest_doubted plan plans left =
+        let open_is : now.offers caller ≡ unoffered = knows.none left.waits in
+        let one = one_call doubt left.all (doubted ∙ ap (doubt_in own) open_is ∙ pick_false own.waits (unwrap_or own.live [] ∷ []) (option_to_list own.doubt) left.waits ∙ ap option_to_list left.doubt) in
+        ([], inr (one.0, one.1, record { commits = left.ends; calls = ap (map first_of) one.2 ∙ left.calls }, (λ ends. refl)), ap (mine_in caller own) open_is ∙ sym (append-nil own.mine))
+
+    rest_waiting : (plan : Plan) (plans : List Plan) → IsWaiting plan own → (more : List Done) × IsRest (plan ∷ plans) more doubt × (mine_in caller own (now.offers caller) ≡ own.mine ++ more)
+    rest_waiting plan plans left = go (now.offers caller) refl
+      where
+        sure : option_to_list own.doubt ≡ []
+        sure = ap option_to_list left.doubt
+
+        its : map first_of (unwrap_or own.live []) ≡ plan.calls
+        its = ap (λ (l : Option Granted). map first_of (unwrap_or l [])) left.live ∙ left.calls
+
+        go : (offer : state.Offer) → now.offers caller ≡ offer → (more : List Done) × IsRest (plan ∷ plans) more doubt × (mine_in caller own offer ≡ own.mine ++ more)
+        go unoffered is =
+            let one = one_call doubt (unwrap_or own.live []) (doubted ∙ ap (doubt_in own) is ∙ ap (λ (b : Bool). if b then unwrap_or own.live [] ∷ [] else option_to_list own.doubt) left.waits) in
+            ([], inr (one.0, one.1, record { commits = ap commits left.offers; calls = ap (map first_of) one.2 ∙ its }, (λ ends. refl)), sym (append-nil own.mine))
+        go offered is = ([], inl (no_calls doubt (doubted ∙ ap (doubt_in own) is ∙ sure)), sym (append-nil own.mine))
+        go (unsettled n) is =
+            let done : Done = record { caller = caller; calls = unwrap_or own.live []; at = n; last = n } in
+            let nothing : doubt ≡ [] = no_calls doubt (doubted ∙ ap (doubt_in own) is ∙ sure) in (
+              done ∷ [],
+              inr (done, ap (λ (l : List Done). done ∷ l) nothing, record { commits = ap commits left.offers; calls = its }, (λ ends. absurd (let no : end.Offer ≡ end.Commit = sym left.offers ∙ ends in cc))),
+              refl,
+            )
+
+    rest_of : (plans : List Plan) → LeavesFor plans own → (more : List Done) × IsRest plans more doubt × (mine_in caller own (now.offers caller) ≡ own.mine ++ more)
+    rest_of [] idle = rest_idle [] idle
+    rest_of (plan ∷ plans) (inl idle) = rest_idle (plan ∷ plans) idle
+    rest_of (plan ∷ plans) (inr (inl waiting)) = rest_waiting plan plans waiting
+    rest_of (plan ∷ plans) (inr (inr doubted)) = rest_doubted plan plans doubted
 
 -- a `Busy` changes nothing of a caller's transactions
 own_at : (caller : ℕ) (own : Own) (call : Call) (reply : Reply) (told : Heard) → ((own : Own) → fold (own_after caller) own (steps_of told) ≡ fold (own_after caller) own told)
@@ -550,49 +639,60 @@ steps_own : (caller : ℕ) (told : Heard) (own : Own) → fold (own_after caller
 steps_own caller [] own = refl
 steps_own caller ((call, reply) ∷ told) own = own_at caller own call reply told (steps_own caller told)
 
-busy_is : (reply : Reply) → is_busy reply ≡ true → (holder : ℕ) × (reply ≡ says.Busy holder)
-busy_is (says.Busy holder) e = (holder, refl)
-busy_is reply e = absurd (true≢false (sym e))
-
--- and is lawful
-lawful_at : (caller : ℕ) (own : Own) (call : Call) (reply : Reply) (told : Heard) (b : Bool) → is_busy reply ≡ b → ((own : Own) → AreLawful caller own (steps_of told) → AreLawful caller own told)
-    → AreLawful caller own (if not b then (call, reply) ∷ steps_of told else steps_of told) → AreLawful caller own ((call, reply) ∷ told)
-lawful_at caller own call reply told true e rest all =
-    let busy = busy_is reply e in
-    subst (λ (r : Reply). AreLawful caller own ((call, r) ∷ told)) (sym busy.1) (record { commits = λ sure. absurd (true≢false (sym sure)); closed = λ waits done. absurd (true≢false done) }, rest own all)
-lawful_at caller own call reply told false e rest all = (all.0, rest (own_after caller own (call, reply)) all.1)
-
-steps_lawful : (caller : ℕ) (told : Heard) (own : Own) → AreLawful caller own (steps_of told) → AreLawful caller own told
-steps_lawful caller [] own all = tt
-steps_lawful caller ((call, reply) ∷ told) own all = lawful_at caller own call reply told (is_busy reply) refl (steps_lawful caller told) all
-
--- what a caller has committed beyond what it was told
-extra_of : (caller : ℕ) (own : Own) (now : State) → KnowsLive caller own now → (more : List Done) × Extra caller own more × (mine_in caller own (now.offers caller) ≡ own.mine ++ more)
-extra_of caller own now knows = go (now.offers caller) refl
+-- what is told and is no `Busy` came of a turn
+step_at : (call : Call) (reply : Reply) (told : Heard) (entry : Call × Reply) → is_busy entry.1 ≡ false → (b : Bool) → is_busy reply ≡ b → (Contains told entry → Contains (steps_of told) entry)
+    → Contains ((call, reply) ∷ told) entry → Contains (if not b then (call, reply) ∷ steps_of told else steps_of told) entry
+step_at call reply told entry free b is later there = ⊎_elim
+    (λ (here : Contains ((call, reply) ∷ []) entry). ⊎_elim
+    (λ (none : Contains [] entry). none_here entry none)
+    (λ (same : (call, reply) ≡ entry). first b is same)
+    (Contains-push_cases [] (call, reply) entry here))
+    (λ (behind : Contains told entry). more b (later behind))
+    (Contains-append_cases ((call, reply) ∷ []) told entry there)
   where
-    go : (offer : state.Offer) → now.offers caller ≡ offer → (more : List Done) × Extra caller own more × (mine_in caller own offer ≡ own.mine ++ more)
-    go unoffered is = ([], inl refl, sym (append-nil own.mine))
-    go offered is = ([], inl refl, sym (append-nil own.mine))
-    go (unsettled n) is =
-        let done : Done = record { caller = caller; calls = unwrap_or own.live []; at = n; last = n } in
-        (done ∷ [], inr (done, record { waits = waits; caller_is = refl; calls = refl }, refl), refl)
-      where
-        waits : own.waits ≡ true
-        waits = elim (cases_Bool own.waits) [
-          | inl has ↦ has
-          | inr idle ↦ absurd (true≢false (ap is_unoffered (sym (knows.none idle) ∙ is)))
-        ]
+    more : (b : Bool) → Contains (steps_of told) entry → Contains (if not b then (call, reply) ∷ steps_of told else steps_of told) entry
+    more true there = there
+    more false there = Contains-append_right ((call, reply) ∷ []) (steps_of told) entry there
 
-pub fated : (limits : Limits) (caller : ℕ) (first now : State) (turns : List Turn) → Runs limits first turns now → first.live caller ≡ None → first.offers caller ≡ unoffered → commits_of caller first.history ≡ [] → (tries : Tries) (plans : List Plan)
-    (fates : List Fate) (stopped : Option Reply) → IsWorkOf tries plans (turns_of caller turns) fates stopped → AreFated caller plans fates (commits_of caller now.history)
-fated limits caller first now turns run none free nothing tries plans fates stopped work =
-    let fresh = fresh_live caller first none free in
-    let lawful = lawful_run caller limits turns first now nothing_own run fresh in
-    let its = work_adds caller tries plans work.0 fates stopped work.2 nothing_own (steps_lawful caller work.0 nothing_own (subst (λ (l : Heard). AreLawful caller nothing_own l) work.1 lawful)) (for_idle caller plans nothing_own refl) in
-    let same : fold (own_after caller) nothing_own (turns_of caller turns) ≡ fold (own_after caller) nothing_own work.0 = ap (λ (l : Heard). fold (own_after caller) nothing_own l) work.1 ∙ steps_own caller work.0 nothing_own in
+    first : (b : Bool) → is_busy reply ≡ b → (call, reply) ≡ entry → Contains (if not b then (call, reply) ∷ steps_of told else steps_of told) entry
+    first true busy same = absurd (true≢false (sym busy ∙ ap (λ (e : Call × Reply). is_busy e.1) same ∙ free))
+    first false busy same = Contains-append_left ((call, reply) ∷ []) (steps_of told) entry (subst (λ (e : Call × Reply). Contains ((call, reply) ∷ []) e) same (one_here (call, reply)))
+
+steps_there : (told : Heard) (entry : Call × Reply) → is_busy entry.1 ≡ false → Contains told entry → Contains (steps_of told) entry
+steps_there [] entry free there = there
+steps_there ((call, reply) ∷ told) entry free there = step_at call reply told entry free (is_busy reply) refl (steps_there told entry free) there
+
+pub fated : (limits : Limits) (caller : ℕ) (first now : State) (turns : List Turn) → Runs limits first turns now → first.live caller ≡ None → first.offers caller ≡ unoffered → commits_of caller first.history ≡ [] → first.doubt ≡ [] → (tries : Tries) (plans : List Plan)
+    (fates : List Fate) (stopped : Option Reply) → (work : IsWorkOf tries plans (turns_of caller turns) fates stopped) → AreOnTables work.0 → AreFated (turns_of caller turns) plans fates (commits_of caller now.history) (commits_of caller now.doubt)
+fated limits caller first now turns run none free nothing certain tries plans fates stopped work tables =
+    let said = turns_of caller turns in
+    let goes = turns_of_runs limits first now turns run in
+    let lawful = lawful_run caller limits turns first now nothing_own run (fresh_live caller first none free) in
+    let all = steps_said caller work.0 nothing_own tables (subst (λ (l : Heard). AreLawful caller nothing_own l) work.1 lawful) in
+    let within : (entry : Call × Reply) → is_busy entry.1 ≡ false → Contains work.0 entry → Contains said entry = λ entry free there. subst (λ (l : Heard). Contains l entry) (sym work.1) (steps_there work.0 entry free there) in
+    let its = work_adds caller said tries plans work.0 fates stopped work.2 nothing_own all within (record { live = refl; idle = record { waits = refl; doubt = refl } }) in
     let own : Own = fold (own_after caller) nothing_own work.0 in
-    let known = turns_mine limits caller first now turns nothing_own (turns_of_runs limits first now turns run) (fresh_mine caller first none free nothing) in
-    let extra = extra_of caller own now (subst (λ (o : Own). KnowsLive caller o now) same known.live) in
-    let mine : told_of caller now.history ≡ its.0 ++ extra.0 = known.mine ∙ ap (λ (o : Own). mine_in caller o (now.offers caller)) same ∙ extra.2 ∙ ap (λ (l : List Done). l ++ extra.0) its.1 in
-    fated_as caller plans fates (commits_of caller now.history)
-    (subst (λ (l : List Done). AreFated caller plans fates l) (sym mine) (fated_more caller plans fates its.0 own extra.0 its.2 its.3 extra.1))
+    let same : fold (own_after caller) nothing_own said ≡ own = ap (λ (l : Heard). fold (own_after caller) nothing_own l) work.1 ∙ steps_own caller work.0 nothing_own in
+    let known = turns_mine limits caller first now turns nothing_own goes (fresh_mine caller first none free nothing) in
+    let doubted = turns_doubt limits caller first now turns nothing_own goes (fresh_doubt caller first none free certain) in
+    let rest = rest_of caller said own now (subst (λ (o : Own). KnowsLive caller o now) same known.live) (doubted.doubt ∙ ap (λ (o : Own). doubt_in o (now.offers caller)) same) (drop (length fates) plans) its.leaves in
+    let mine : told_of caller now.history ≡ its.mine ++ rest.0 = known.mine ∙ ap (λ (o : Own). mine_in caller o (now.offers caller)) same ∙ rest.2 ∙ ap (λ (l : List Done). l ++ rest.0) its.is in
+    fated_as caller said plans fates (commits_of caller now.history) (commits_of caller now.doubt)
+    (subst (λ (l : List Done). AreFated said plans fates l (commits_of caller now.doubt)) (sym mine) (fated_more caller said plans fates its.mine rest.0 (commits_of caller now.doubt) its.told rest.1))
+
+-- Whoever was not stopped has a fate for each plan.
+all_works : (tries : Tries) (plans : List Plan) (told : Heard) (fates : List Fate) → Works tries plans told fates None → length fates ≡ length plans
+all_works tries [] told [] works = refl
+all_works tries [] told (fate ∷ fates) works = absurd works
+all_works tries (plan ∷ plans) told [] (reply, is, made) = absurd (cc)
+all_works tries (plan ∷ plans) told (fate ∷ fates) (front, back, is, made, works) = ap suc (all_works tries plans back fates works)
+
+few_works : (tries : Tries) (plans : List Plan) (told : Heard) (fates : List Fate) (stopped : Option Reply) → Works tries plans told fates stopped → length (drop (length fates) plans) + length fates ≡ length plans
+few_works tries plans told [] stopped works = omega arith
+few_works tries [] told (fate ∷ fates) stopped works = absurd works
+few_works tries (plan ∷ plans) told (fate ∷ fates) stopped (front, back, is, made, works) = let rest = few_works tries plans back fates stopped works in omega (arith, rest)
+
+pub whole : (tries : Tries) (plans : List Plan) (told : Heard) (fates : List Fate) → IsWork tries plans told fates None → length fates ≡ length plans
+whole tries plans told fates (inl works) = all_works tries plans told fates works
+whole tries plans told fates (inr (front, back, early, late, holder, is, are, first, last)) =
+    omega (arith, ap (λ (l : List Fate). length l) are, length-append early late, few_works tries plans front early (Some (says.Busy holder)) first, all_works NoLimit (drop (length early) plans) back late last)

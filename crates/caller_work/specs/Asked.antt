@@ -37,6 +37,10 @@ pub record HasCause (callers : ℕ) (names : List (List ℕ)) (plans : ℕ → L
   pub stripe : ℕ
   pub clashes : IsTrue (clash (touches names call stripe) (touches names its stripe))
 
+-- each `Busy` that a caller was told is the reply to a call on a table
+abbrev pub AreOnTables : Heard → Type 0
+AreOnTables told = (call : Call) (holder : ℕ) → Contains told (call, says.Busy holder) → (asked : TableCall) × (call ≡ Table asked)
+
 -- so it is at each `Busy` that a caller was told, which is the reply to a call on a table
 abbrev pub HaveCauses : ℕ → List (List ℕ) → (ℕ → List Plan) → ℕ → Heard → Type 0
 HaveCauses callers names plans caller told = (call : Call) (holder : ℕ) → Contains told (call, says.Busy holder) → (asked : TableCall) × (call ≡ Table asked) × HasCause callers names plans caller asked holder

@@ -1,8 +1,11 @@
 -- What the fates of a caller's plans say of a history.
-use Rattle.std.specs.Prelude.{ℕ, ◌≡◌, ◌⊎◌, Bool, true, false, IsTrue, IsFalse, List, [], ◌∷◌, map}
+use Rattle.std.specs.Prelude.{ℕ, ◌≡◌, ◌⊎◌, Bool, true, false, IsTrue, IsFalse, List, [], ◌∷◌, ◌++◌, map, Contains}
+use Rattle.history.specs.declared.call.Call.TheVariants.{Table}
 use Rattle.history.specs.declared.call.TableCall.{TableCall}
 use Rattle.history.specs.declared.call.Reply.{Reply}
+use Rattle.history.specs.declared.call.Reply.TheVariants.{NoTable, NoSave, SavesFull, LogFull, SlotsFull, PagesFull}
 use Rattle.history.specs.declared.transaction.Done.{Done}
+use Rattle.caller_steps.specs.Run.{Heard}
 use Rattle.caller_plans.specs.declared.plan.Plan.{Plan}
 use Rattle.caller_plans.specs.declared.plan.PlanEnd.{PlanEnd}
 use Rattle.caller_plans.specs.declared.plan.PlanEnd.TheVariants as end
@@ -15,27 +18,35 @@ commits end.Commit = true
 commits end.Offer = true
 commits _ = false
 
--- a transaction of a history is this plan of a caller, which ends in a commit
-pub record IsDoneAs (caller : ℕ) (plan : Plan) (at : ℕ) (done : Done) : Type 0 where
+-- a refusal of a call after which its transaction is not tried again
+abbrev pub is_final : Reply → Bool
+is_final NoTable = true
+is_final (NoSave n) = true
+is_final SavesFull = true
+is_final (LogFull logger held needed) = true
+is_final (SlotsFull n) = true
+is_final (PagesFull n) = true
+is_final _ = false
+
+-- among what a caller was told is such a refusal of one of the plan's calls
+pub record IsRefusedAs (told : Heard) (plan : Plan) (reply : Reply) : Type 0 where
+  pub asked : TableCall
+  pub planned : Contains plan.calls asked
+  pub refused : Contains told (Table asked, reply)
+  pub final : IsTrue (is_final reply)
+
+-- a transaction is this plan, which ends in a commit: it has just its calls, in order
+pub record IsDoneAs (plan : Plan) (done : Done) : Type 0 where
   pub commits : IsTrue (commits plan.end)
-  pub caller_is : done.caller ≡ caller
-  pub calls : map (λ (entry : TableCall × Reply). entry.0) done.calls ≡ plan.calls
-  pub number : done.at ≡ at
-
--- The only transaction is this plan, which was offered: a group has committed it, and its caller was not told.
-pub record IsUnsettled (caller : ℕ) (plan : Plan) (mine : List Done) : Type 0 where
-  pub offers : plan.end ≡ end.Offer
-  pub done : Done
-  pub only : mine ≡ done ∷ []
-  pub caller_is : done.caller ≡ caller
   pub calls : map (λ (entry : TableCall × Reply). entry.0) done.calls ≡ plan.calls
 
--- The transactions are those of the plans that committed, in order and each once. A plan was aborted only if it does not end in a commit. A
--- caller that was stopped before it could settle may have one more, the plan in which it was stopped.
-abbrev pub AreFated : ℕ → List Plan → List Fate → List Done → Type 0
-AreFated caller [] [] mine = mine ≡ []
-AreFated caller (plan ∷ plans) [] mine = (mine ≡ []) ⊎ IsUnsettled caller plan mine
-AreFated caller [] (fate ∷ fates) mine = ⊥
-AreFated caller (plan ∷ plans) (Committed at ∷ fates) mine = (done : Done) × (behind : List Done) × (mine ≡ done ∷ behind) × IsDoneAs caller plan at done × AreFated caller plans fates behind
-AreFated caller (plan ∷ plans) (Aborted ∷ fates) mine = IsFalse (commits plan.end) × AreFated caller plans fates mine
-AreFated caller (plan ∷ plans) (Refused reply ∷ fates) mine = AreFated caller plans fates mine
+-- A caller that was told this has these transactions in the history, and these in doubt: those of its plans that were told as committed, in order,
+-- each once, and under the number that was told. It was told of the first plans. Of the next one, in which it was stopped, it may have one more,
+-- in doubt or, if it was offered, committed by another's settle. A plan is aborted only if it does not end in a commit.
+abbrev pub AreFated : Heard → List Plan → List Fate → (mine doubt : List Done) → Type 0
+AreFated told [] [] mine doubt = mine ++ doubt ≡ []
+AreFated told [] (fate ∷ fates) mine doubt = ⊥
+AreFated told (plan ∷ plans) [] mine doubt = (mine ++ doubt ≡ []) ⊎ ((done : Done) × (mine ++ doubt ≡ done ∷ []) × IsDoneAs plan done × (plan.end ≡ end.Commit → mine ≡ []))
+AreFated told (plan ∷ plans) (Committed at ∷ fates) mine doubt = (done : Done) × (behind : List Done) × (mine ≡ done ∷ behind) × (done.at ≡ at) × IsDoneAs plan done × AreFated told plans fates behind doubt
+AreFated told (plan ∷ plans) (Aborted ∷ fates) mine doubt = IsFalse (commits plan.end) × AreFated told plans fates mine doubt
+AreFated told (plan ∷ plans) (Refused reply ∷ fates) mine doubt = IsRefusedAs told plan reply × AreFated told plans fates mine doubt

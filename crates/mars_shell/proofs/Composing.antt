@@ -221,7 +221,7 @@ module _ (tells : Bool) (told : IsTrue tells) (old new : View) (counts_now : (t 
 
     pub next_sound : (Knows : Place → Type 0) (asked : Words) (status : Status) (input : List ℕ) (cut : Bool) (text : List ℕ) → IsOfRecords asked → OutcomeFor asked Knows old status new input cut text → AllSound shape form new.content
     next_sound Knows (Run given) status input cut text of outcome = records_sound false 0 (λ ended. RunsAs given.frames (depth_of given.writing) input cut text old ended new) status cut text (λ ended taken. run_sound given.frames (depth_of given.writing) input cut text ended taken) outcome
-    next_sound Knows (Callers numbers) status input cut text of outcome = records_sound false (passes_for numbers.callers numbers.readers) (λ ended. TakesTurns (depth_of numbers.writing) (JointWork Knows numbers.callers numbers.readers numbers.tries input ended cut text) old ended new) status cut text (λ ended taken. turns_sound (depth_of numbers.writing) (JointWork Knows numbers.callers numbers.readers numbers.tries input ended cut text) ended taken) outcome
+    next_sound Knows (Callers numbers) status input cut text of outcome = records_sound false (passes_for numbers.callers numbers.readers) (λ ended. TakesTurns (depth_of numbers.writing) (JointWork Knows numbers.callers numbers.readers input ended cut text) old ended new) status cut text (λ ended taken. turns_sound (depth_of numbers.writing) (JointWork Knows numbers.callers numbers.readers input ended cut text) ended taken) outcome
     next_sound Knows Dump status input cut text of outcome = records_sound true 0 (DumpsRecords old new cut text) status cut text (dumped_sound cut text) outcome
     next_sound Knows (Drill numbers) status input cut text of outcome = records_sound false 0 (λ ended. TakesTurns (depth_of numbers.writing) (Drills numbers ended cut text) old ended new) status cut text (λ ended taken. turns_sound (depth_of numbers.writing) (Drills numbers ended cut text) ended taken) outcome
     next_sound Knows (Make name) status input cut text of outcome = made_sound name status cut text outcome

@@ -281,8 +281,8 @@ module _ (old : View) (shape : Shape) (form : ℕ) (names : List (List ℕ)) (ta
       some Knows (Run given) status input cut text of outcome = over HasSome as_before false 0 (λ ended. RunsAs given.frames (depth_of given.writing) input cut text old ended new) status cut text
           (λ ended taken. run_by given.frames (depth_of given.writing) input cut text ended taken) outcome
       some Knows (Callers numbers) status input cut text of outcome = over HasSome as_before false (passes_for numbers.callers numbers.readers)
-          (λ ended. TakesTurns (depth_of numbers.writing) (JointWork Knows numbers.callers numbers.readers numbers.tries input ended cut text) old ended new) status cut text
-          (λ ended taken. turned (depth_of numbers.writing) (JointWork Knows numbers.callers numbers.readers numbers.tries input ended cut text) ended taken) outcome
+          (λ ended. TakesTurns (depth_of numbers.writing) (JointWork Knows numbers.callers numbers.readers input ended cut text) old ended new) status cut text
+          (λ ended taken. turned (depth_of numbers.writing) (JointWork Knows numbers.callers numbers.readers input ended cut text) ended taken) outcome
       some Knows (Drill numbers) status input cut text of outcome = over HasSome as_before false 0 (λ ended. TakesTurns (depth_of numbers.writing) (Drills numbers ended cut text) old ended new) status cut text
           (λ ended taken. turned (depth_of numbers.writing) (Drills numbers ended cut text) ended taken) outcome
       some Knows Dump status input cut text of outcome = let has = unchanged Knows Dump status input cut text tt outcome in (has.0, has.1, table, has.2)

@@ -1,22 +1,30 @@
 -- The work of callers on threads over the records of a store, from what a core makes of it.
-use Rattle.std.proofs.Common.{◌≡◌, ◌≢◌, ◌↔◌, ℕ, zero, suc, ◌+◌, ◌<◌, ◌≤◌, List, None, get_or, length, [], ◌∷◌, ◌++◌, Bool, true, false, refl, sym, ap, subst, ◌∙◌, arith}
-use Rattle.std.specs.Prelude.{IsTrue, Contains, Result, Ok, Err, IfOk, IsOk}
+use Rattle.std.proofs.Common.{◌≡◌, ◌≢◌, ◌↔◌, inl, ℕ, zero, suc, ◌+◌, ◌<◌, ◌≤◌, List, Option, None, get_or, ne_eqb, length, [], ◌∷◌, ◌++◌, Bool, true, false, refl, sym, ap, subst, ◌∙◌, arith}
+use Rattle.std.specs.Prelude.{IsTrue, if◌then◌else◌, Result, Ok, Err, IfOk, IsOk}
 use Rattle.std.specs.Global.{Vec}
 use Rattle.mars_base.specs.declared.NoMemory.{NoMemory}
 use Rattle.history.specs.Writes.{Table}
 use Rattle.history.specs.declared.key.Key.{Key}
 use Rattle.std.specs.List.{flat_map, AllZip}
+use mathlib.Core.Logic.{dite, ¬◌}
+use native.Mathlib.Decide.{dec_le}
 use Rattle.std.specs.FinMap.{entries}
 use Rattle.std.proofs.lemmas.Bool.{true≢false}
+use Rattle.std.proofs.lemmas.List.{get_or_past}
 use Rattle.history.specs.Rows as rows
 use Rattle.history.specs.Rows.{NamedRows}
 use Rattle.history.specs.declared.transaction.Done.{Done}
 use Rattle.history.specs.Legal.{records}
-use Rattle.history.specs.Locks.{touches, clash}
+use Rattle.history.specs.declared.call.Call.{Call}
+use Rattle.history.specs.declared.call.Reply.{Reply}
+use Rattle.history.specs.declared.call.Reply.TheVariants.{Busy}
 use Rattle.caller_steps.specs.Core.{CoreView}
+use Rattle.caller_steps.specs.State.{commits_of}
 use Rattle.caller_steps.specs.Run.{AreOf, turns_of}
 use Rattle.caller_steps.specs.Step.{Runs}
-use Rattle.caller_steps.proofs.Running.{turns_tell}
+use Rattle.caller_steps.proofs.Running.{turns_tell, none_beyond}
+use Rattle.mars_manager.specs.Sharing.{CanShare}
+use Rattle.mars_manager.proofs.Asking.{none_here}
 use Rattle.caller_plans.specs.declared.plan.Plan.{Plan}
 use Rattle.caller_plans.specs.declared.fate.Fate.{Fate}
 use Rattle.caller_plans.specs.declared.fate.LineFault.{LineFault}
@@ -25,12 +33,15 @@ use Rattle.caller_work.specs.declared.end.WorkEnd.{WorkEnd}
 use Rattle.caller_work.specs.declared.end.WorkEnd.TheVariants as work
 use Rattle.caller_work.specs.declared.tries.Tries.TheVariants.{Times}
 use Rattle.caller_work.specs.Tries.{IsWork, IsWorkOf}
-use Rattle.caller_work.specs.Asked.{HaveCauses}
+use Rattle.caller_work.specs.Asked.{AreOnTables}
+use Rattle.caller_work.specs.Fated.{AreFated}
+use Rattle.caller_work.proofs.Histories as histories
 use Rattle.caller_work.specs.Worked.{Worked, is_fault, of_caller}
 use Rattle.history_text.specs.Text.{done_lines, work_text}
 use Rattle.script_run.specs.Lines.{lines_of}
 use Rattle.texts.specs.MediaFault.{media_line}
 use Rattle.script_text.specs.declared.joint_line.JointLine.{JointLine}
+use Rattle.script_text.specs.declared.joint_line.JointLine.TheVariants.{Nothing, Told, Read, Bad}
 use Rattle.caller_plans.specs.Asks.{keys_from}
 use Rattle.history.specs.Answers.{AreAnswers, AllAnswer}
 use Rattle.reader_work.specs.Readership.{passes_for}
@@ -89,6 +100,18 @@ plans_at first zero caller at said less is = absurd (omega arith)
 plans_at first (suc callers) zero at said less is = ap (λ (n : ℕ). planned None (calls_by n said)) (let e : first ≡ at = omega arith in e)
 plans_at first (suc callers) (suc caller) at said less is = plans_at (suc first) callers caller at said (omega arith) (omega arith)
 
+-- and nobody else has any
+plans_beyond : (callers readers caller : ℕ) → callers ≤ caller → (lines : List (List ℕ)) (said : List JointLine) → AllSay callers readers lines said → calls_by caller said ≡ []
+plans_beyond callers readers caller beyond [] [] all = refl
+plans_beyond callers readers caller beyond [] (one ∷ said) all = absurd all
+plans_beyond callers readers caller beyond (line ∷ lines) [] all = absurd all
+plans_beyond callers readers caller beyond (line ∷ lines) (Nothing ∷ said) all = plans_beyond callers readers caller beyond lines said all.1
+plans_beyond callers readers caller beyond (line ∷ lines) (Read reader key ∷ said) all = plans_beyond callers readers caller beyond lines said all.1
+plans_beyond callers readers caller beyond (line ∷ lines) (Bad ∷ said) all = plans_beyond callers readers caller beyond lines said all.1
+plans_beyond callers readers caller beyond (line ∷ lines) (Told other call ∷ said) all =
+    ap (λ (b : Bool). if b then call ∷ calls_by caller said else calls_by caller said) (ne_eqb other caller (λ e. let l = all.0.0 in omega arith))
+    ∙ plans_beyond callers readers caller beyond lines said all.1
+
 -- the same text for equal things
 pub retold : (ended : Ended) (cut : Bool) (text : List ℕ) (faults faults' : List LineFault) (history history' : List Done) (base base' : List NamedRows) (fates fates' : List (List Fate)) (told : List (List Answer))
     → faults ≡ faults' → history ≡ history' → base ≡ base' → fates ≡ fates'
@@ -99,7 +122,7 @@ retold ended cut text faults faults' history history' base base' fates fates' to
     (subst (λ (whole : List ℕ). TellsEnd ended cut text whole (flat_map done_lines history ++ media_line)) (λ i. work_text (f i) (h i) (t i) (entries (records (rows.table_of (b i)) (h i))) told) tells)
 
 module _ (tells : Bool) (core last : CoreView) (callers readers tries : ℕ) (input : List ℕ) (said : List JointLine) (says : AllSay callers readers (lines_of input) said)
-    (plans : List (List Plan)) (plans_are : plans ≡ plans_from 0 callers said) (fates : List (List Fate)) (end : WorkEnd) (worked : Worked tells tries plans core last fates end) (enough : passes_for callers readers ≤ core.limits.callers) (told : List (List Answer)) (Knows : Place → Type 0) (known : KnowsFirst Knows plans) where
+    (plans : List (List Plan)) (plans_are : plans ≡ plans_from 0 callers said) (fates : List (List Fate)) (end : WorkEnd) (worked : Worked tells tries plans core last fates end) (ready : CanShare tells (passes_for callers readers) core) (told : List (List Answer)) (Knows : Place → Type 0) (known : KnowsFirst Knows plans) where
   counted : length plans ≡ callers
   counted = ap length plans_are ∙ as_many 0 callers said
 
@@ -131,43 +154,59 @@ module _ (tells : Bool) (core last : CoreView) (callers readers tries : ℕ) (in
       let w = worked.works caller (within caller less) in
       (w.0, w.1, subst (λ (ps : List Plan). IsWork (Times tries) ps (worked.works caller (within caller less)).0 (of_caller fates caller) (get_or worked.stopped caller None)) (planned_at caller less) w.2)
 
-  caused : last.state.names ≡ core.state.names → (caller : ℕ) (less : caller < callers) → HaveCauses callers last.state.names his caller (its caller less).0
+  tables : (caller : ℕ) (less : caller < callers) → AreOnTables (its caller less).0
   unfolding its
-  caused named caller less call holder there =
-      let made = worked.causes caller (within caller less) call holder there in
-      let asked = made.0 in
-      let c = made.2 in
-      let among : holder < callers = omega (arith, c.among, counted) in (
-        asked,
-        made.1,
-        record {
-          among = among;
-          other = c.other;
-          its = c.its;
-          planned = subst (λ (ps : List Plan). Contains (flat_map (λ (plan : Plan). plan.calls) ps) c.its) (planned_at holder among) c.planned;
-          stripe = c.stripe;
-          clashes = subst (λ (names : List (List ℕ)). IsTrue (clash (touches names asked c.stripe) (touches names c.its c.stripe))) (sym named) c.clashes;
-        },
-      )
+  tables caller less call holder there = let made = worked.causes caller (within caller less) call holder there in (made.0, made.1)
 
-  joint_work : last.state.names ≡ core.state.names → (ended : Ended) (cut : Bool) (text : List ℕ) → (ended ≢ ends.MediaFault → ended ≢ ends.NoMemory → end ≡ work.All) → (ended ≡ ends.MediaFault) ↔ (end ≡ work.MediaFault)
+  -- what a caller has in the history and in doubt is what its fates say of these plans
+  abbrev Fates : ℕ → List Plan → List Fate → Type 0
+  Fates caller plans fates = AreFated (turns_of caller worked.turns) plans fates (commits_of caller last.state.history) (commits_of caller last.state.doubt)
+
+  fated_as : IsTrue tells → (caller : ℕ) (plans : List Plan) (fates : List Fate) (stopped : Option Reply) (work : IsWorkOf (Times tries) plans (turns_of caller worked.turns) fates stopped) → AreOnTables work.0 → Fates caller plans fates
+  fated_as told caller plans fates stopped work on = histories.fated core.limits caller core.state last.state worked.turns (runs told) (ready.live caller) (ready.offers caller) (ap (commits_of caller) ready.history)
+      ((ready.sound told).certain ready.alive) (Times tries) plans fates stopped work on
+
+  module _ (caller : ℕ) (beyond : callers ≤ caller) where
+    no_plans : his caller ≡ []
+    no_plans = ap (planned None) (plans_beyond callers readers caller beyond (lines_of input) said says)
+
+    no_fates : of_caller fates caller ≡ []
+    no_fates = get_or_past fates caller [] (omega (arith, worked.each, counted, beyond))
+
+    no_turns : turns_of caller worked.turns ≡ []
+    no_turns = none_beyond (length plans) caller worked.turns worked.whose (omega (arith, counted, beyond))
+
+    fated_beyond : IsTrue tells → Fates caller (his caller) (of_caller fates caller)
+    fated_beyond told = subst (λ (x : List Plan × List Fate). Fates caller x.0 x.1) (λ i. (sym no_plans i, sym no_fates i))
+        (fated_as told caller [] [] None ([], no_turns, inl (refl, refl)) (λ call holder there. none_here (call, Busy holder) there))
+
+  fated : IsTrue tells → (caller : ℕ) → Fates caller (his caller) (of_caller fates caller)
+  fated told caller = dite (dec_le callers caller)
+      (λ (beyond : callers ≤ caller). fated_beyond caller beyond told)
+      (λ (among : ¬ (callers ≤ caller)). let less : caller < callers = omega arith in fated_as told caller (his caller) (of_caller fates caller) (get_or worked.stopped caller None) (its caller less) (tables caller less))
+
+  whole_of : end ≡ work.All → (caller : ℕ) → length (of_caller fates caller) ≡ length (his caller)
+  whole_of all caller = dite (dec_le callers caller)
+      (λ (beyond : callers ≤ caller). ap (λ (l : List Fate). length l) (no_fates caller beyond) ∙ sym (ap (λ (l : List Plan). length l) (no_plans caller beyond)))
+      (λ (among : ¬ (callers ≤ caller)).
+      let less : caller < callers = omega arith in
+      let w = its caller less in
+      histories.whole (Times tries) (his caller) w.0 (of_caller fates caller) (subst (λ (s : Option Reply). IsWork (Times tries) (his caller) w.0 (of_caller fates caller) s) (worked.whole all caller (within caller less)) w.2))
+
+  joint_work : IsTrue tells → (ended : Ended) (cut : Bool) (text : List ℕ) → (ended ≢ ends.MediaFault → ended ≢ ends.NoMemory → end ≡ work.All) → (ended ≡ ends.MediaFault) ↔ (end ≡ work.MediaFault)
       → (ended ≢ ends.MediaFault → ended ≢ ends.NoMemory → AllAnswer last.state.names last.state.base last.state.history (keys_from 0 readers said) told)
       → TellsEnd ended cut text (work_text (faults_from 1 (λ caller. false) said) last.state.history fates (entries (records last.state.base last.state.history)) told) (flat_map done_lines last.state.history ++ media_line)
-      → JointWork Knows callers readers tries input ended cut text core.limits worked.turns last.state
-  joint_work named ended cut text whole fault answered tells_work = record {
-    enough = enough;
+      → JointWork Knows callers readers input ended cut text core.limits worked.turns last.state
+  joint_work tells_all ended cut text whole fault answered tells_work = record {
+    enough = ready.enough;
     said = said;
     says = says;
     whose = subst (λ (n : ℕ). AreOf n worked.turns) counted worked.whose;
     fates = fates;
     each = worked.each ∙ counted;
-    works = λ caller less. (
-      get_or worked.stopped caller None,
-      its caller less,
-      (λ unfailed remembered. worked.whole (whole unfailed remembered) caller (within caller less)),
-    );
+    fated = fated tells_all;
+    whole = λ unfailed remembered. whole_of (whole unfailed remembered);
     known = λ caller less plans_one. known caller (within caller less) (subst (λ (ps : List Plan). 0 < length ps) (sym (planned_at caller less)) plans_one);
-    causes = λ caller less call holder there. caused named caller less call holder there;
     fault = (λ is. worked.dead ∙ ap is_fault (fault.0 is), λ has. fault.1 (fault_of end (sym worked.dead ∙ has)));
     told = told;
     answered = λ unfailed remembered. zipped last.state.names last.state.base last.state.history (keys_from 0 readers said) told (answered unfailed remembered);
@@ -177,11 +216,11 @@ module _ (tells : Bool) (core last : CoreView) (callers readers tries : ℕ) (in
   pub joint_turns : IsTrue tells → (ended : Ended) (cut : Bool) (text : List ℕ) → (ended ≢ ends.MediaFault → ended ≢ ends.NoMemory → end ≡ work.All) → (ended ≡ ends.MediaFault) ↔ (end ≡ work.MediaFault)
       → (ended ≢ ends.MediaFault → ended ≢ ends.NoMemory → AllAnswer last.state.names last.state.base last.state.history (keys_from 0 readers said) told)
       → TellsEnd ended cut text (work_text (faults_from 1 (λ caller. false) said) last.state.history fates (entries (records last.state.base last.state.history)) told) (flat_map done_lines last.state.history ++ media_line)
-      → TurnsOn (JointWork Knows callers readers tries input ended cut text) core ended last
+      → TurnsOn (JointWork Knows callers readers input ended cut text) core ended last
   joint_turns tells_all ended cut text whole fault answered tells_work = record {
     turns = worked.turns;
     runs = runs tells_all;
-    does = joint_work (worked.since.continues tells_all).names ended cut text whole fault answered tells_work;
+    does = joint_work tells_all ended cut text whole fault answered tells_work;
     continues = worked.since.continues tells_all;
     alive = λ unfailed. worked.dead ∙ no_fault end (λ is. unfailed (fault.1 is));
   }

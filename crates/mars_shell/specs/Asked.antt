@@ -49,7 +49,7 @@ IfReads _ Without Reads = Without
 abbrev pub OutcomeFor : Words → (Place → Type 0) → View → Status → View → List ℕ → Bool → List ℕ → Type 0
 OutcomeFor (Run given) Knows old status new input cut text = OverRecords false 0 (λ ended. RunsAs given.frames (depth_of given.writing) input cut text old ended new) old status new cut text
 OutcomeFor (Callers numbers) Knows old status new input cut text =
-    OverRecords false (passes_for numbers.callers numbers.readers) (λ ended. TakesTurns (depth_of numbers.writing) (JointWork Knows numbers.callers numbers.readers numbers.tries input ended cut text) old ended new) old status new cut text
+    OverRecords false (passes_for numbers.callers numbers.readers) (λ ended. TakesTurns (depth_of numbers.writing) (JointWork Knows numbers.callers numbers.readers input ended cut text) old ended new) old status new cut text
 OutcomeFor (Eaw given) Knows old status new input cut text = OutcomeOf true (λ ended. ObeysAs given.frames old input ended new cut text) (λ page. ⊥) ⊥ ⊥ old status new cut text
 OutcomeFor Follow Knows old status new input cut text = OutcomeOf true (λ ended. ⊥) (λ page. ⊥) ⊥ ⊥ old status new cut text
     ⊎ ((ended : FollowEnd) × (status ≡ follow_status ended) × Follows old input ended new cut text)

@@ -1,19 +1,16 @@
 -- What comes of a script whose callers work on threads.
-use Rattle.std.specs.Prelude.{ℕ, ◌≡◌, ◌≢◌, ◌≤◌, ◌<◌, ◌↔◌, List, ◌++◌, length, Bool, false, IsTrue, Option, None}
+use Rattle.std.specs.Prelude.{ℕ, ◌≡◌, ◌≢◌, ◌≤◌, ◌<◌, ◌↔◌, List, ◌++◌, length, Bool, false, IsTrue, None}
 use Rattle.std.specs.List.{flat_map, AllZip}
 use Rattle.std.specs.FinMap.{entries}
 use Rattle.history.specs.Legal.{records}
-use Rattle.history.specs.declared.call.Reply.{Reply}
-use Rattle.caller_steps.specs.State.{State}
+use Rattle.caller_steps.specs.State.{State, commits_of}
 use Rattle.caller_steps.specs.Room.{Limits}
 use Rattle.caller_steps.specs.Run.{Turn, AreOf, turns_of}
 use Rattle.caller_plans.specs.declared.fate.Fate.{Fate}
 use Rattle.caller_plans.specs.Plans.{planned, calls_by, faults_from}
 use Rattle.caller_work.specs.declared.gate.Place.{Place}
 use Rattle.caller_work.specs.declared.gate.Place.TheVariants as place
-use Rattle.caller_work.specs.declared.tries.Tries.TheVariants.{Times}
-use Rattle.caller_work.specs.Tries.{IsWorkOf}
-use Rattle.caller_work.specs.Asked.{HaveCauses}
+use Rattle.caller_work.specs.Fated.{AreFated}
 use Rattle.caller_work.specs.Worked.{of_caller}
 use Rattle.history_text.specs.Text.{done_lines, work_text}
 use Rattle.script_run.specs.Lines.{lines_of}
@@ -29,23 +26,21 @@ use Rattle.script_run.specs.declared.ended.Ended.TheVariants.{MediaFault, NoMemo
 use Rattle.mars_shell.specs.Told.{TellsEnd}
 
 -- What comes of the callers' work on a core of these limits, which has at least as many callers, and one more if there are readers: what the
--- lines of the input say, and that each caller's turns are those that its plans ask for, of which its fates are told. The gate knows of each
--- caller that plans a transaction where its first has ended, or was left for last. Each `Busy` that a
--- caller was told names another one that plans a call on the same stripe, one of the two for writing. The work ended at a fault of the
--- medium exactly if the medium has failed. If neither that was so nor memory ran out, each caller came to the end of its plans, and each
+-- lines of the input say, and what became of each caller's plans. The transactions of a caller in the history are its plans that were told as
+-- committed, and no other caller has any. The gate knows of each caller that plans a transaction where its first has ended, or was left for last. The
+-- work ended at a fault of the medium exactly if the medium has failed. If neither that was so nor memory ran out, each plan has its fate, and each
 -- reader was answered for each key that it asks for: the value after some first transactions of the history, no fewer from one of its
 -- answers to the next. The text has all of this, or, if the medium failed, the history and a line that says so.
-pub record JointWork (Knows : Place → Type 0) (callers readers tries : ℕ) (input : List ℕ) (ended : Ended) (cut : Bool) (text : List ℕ) (limits : Limits) (turns : List Turn) (final : State) : Type 0 where
+pub record JointWork (Knows : Place → Type 0) (callers readers : ℕ) (input : List ℕ) (ended : Ended) (cut : Bool) (text : List ℕ) (limits : Limits) (turns : List Turn) (final : State) : Type 0 where
   pub enough : passes_for callers readers ≤ limits.callers
   pub said : List JointLine
   pub says : AllZip (JointLineSays callers readers) (lines_of input) said
   pub whose : AreOf callers turns
   pub fates : List (List Fate)
   pub each : length fates ≡ callers
-  pub works : (caller : ℕ) → caller < callers → (stopped : Option Reply) × IsWorkOf (Times tries) (planned None (calls_by caller said)) (turns_of caller turns) (of_caller fates caller) stopped
-      × (ended ≢ MediaFault → ended ≢ NoMemory → stopped ≡ None)
+  pub fated : (caller : ℕ) → AreFated (turns_of caller turns) (planned None (calls_by caller said)) (of_caller fates caller) (commits_of caller final.history) (commits_of caller final.doubt)
+  pub whole : ended ≢ MediaFault → ended ≢ NoMemory → (caller : ℕ) → length (of_caller fates caller) ≡ length (planned None (calls_by caller said))
   pub known : (caller : ℕ) → caller < callers → 0 < length (planned None (calls_by caller said)) → Knows (place.Ended caller 1)
-  pub causes : (caller : ℕ) (within : caller < callers) → HaveCauses callers final.names (λ other. planned None (calls_by other said)) caller (works caller within).1.0
   pub fault : (ended ≡ MediaFault) ↔ IsTrue final.is_dead
   pub told : List (List Answer)
   pub answered : ended ≢ MediaFault → ended ≢ NoMemory → AllZip (AreAnswers final.names final.base final.history 0) (keys_from 0 readers said) told

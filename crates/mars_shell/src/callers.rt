@@ -106,7 +106,7 @@ fn serve_jointly<R: Threads + Wait + Sync, K: Sink, S: EawStore + Drop + Send, G
     requires readers { crew.now.numbers.readers ≤ 8 }
     requires tries { 1 ≤ crew.now.numbers.tries }
     ensures served { Wrote K.tells (K.written sink.old) (K.written sink.new) (K.faults sink.old) (K.faults sink.new)
-        (λ cut text. IsTrue S.tells → Serves (λ ended. JointWork (G.told crew.now.gate.now) crew.now.numbers.callers crew.now.numbers.readers crew.now.numbers.tries input.now ended cut text) S.opens (index_at (S.view store).state.bytes) (S.view store)
+        (λ cut text. IsTrue S.tells → Serves (λ ended. JointWork (G.told crew.now.gate.now) crew.now.numbers.callers crew.now.numbers.readers input.now ended cut text) S.opens (index_at (S.view store).state.bytes) (S.view store)
         result.0 cut text (S.view result.1)) }
     ensures untold { IfErr result.0 (λ fault. sink.new ≡ sink.old) }
     ensures short { IfOk result.0 (λ ended. RanOut ended → sink.new ≡ sink.old) }
@@ -147,7 +147,7 @@ fn work_under<
     requires readers { crew.now.numbers.readers ≤ 8 }
     requires tries { 1 ≤ crew.now.numbers.tries }
     ensures served { Wrote K.tells (K.written sink.old) (K.written sink.new) (K.faults sink.old) (K.faults sink.new)
-        (λ cut text. IsTrue S.tells → Serves (λ ended. JointWork (G.told crew.now.gate.now) crew.now.numbers.callers crew.now.numbers.readers crew.now.numbers.tries input.now ended cut text) S.opens I.index (S.view store) result.0 cut text (S.view result.1)) }
+        (λ cut text. IsTrue S.tells → Serves (λ ended. JointWork (G.told crew.now.gate.now) crew.now.numbers.callers crew.now.numbers.readers input.now ended cut text) S.opens I.index (S.view store) result.0 cut text (S.view result.1)) }
     ensures untold { IfErr result.0 (λ fault. sink.new ≡ sink.old) }
     ensures short { IfOk result.0 (λ ended. RanOut ended → sink.new ≡ sink.old) }
     ensures counts { ServedCounts result.0 (K.faults sink.old) (K.faults sink.new) (S.view store).faults (S.view result.1).faults }
@@ -184,7 +184,7 @@ fn work_jointly<
     requires tries { 1 ≤ crew.now.numbers.tries }
     requires ready { CanShare S.tells (passes_for crew.now.numbers.callers crew.now.numbers.readers) (core_of S.opens I.index (S.view core.records.store) core) }
     ensures works { Wrote K.tells (K.written sink.old) (K.written sink.new) (K.faults sink.old) (K.faults sink.new)
-        (λ cut text. IsTrue S.tells → Works (λ ended. JointWork (G.told crew.now.gate.now) crew.now.numbers.callers crew.now.numbers.readers crew.now.numbers.tries input.now ended cut text) (core_of S.opens I.index (S.view core.records.store) core) result.0
+        (λ cut text. IsTrue S.tells → Works (λ ended. JointWork (G.told crew.now.gate.now) crew.now.numbers.callers crew.now.numbers.readers input.now ended cut text) (core_of S.opens I.index (S.view core.records.store) core) result.0
         cut text (core_of S.opens I.index (S.view result.1.records.store) result.1)) }
     ensures untold { IfErr result.0 (λ fault. sink.new ≡ sink.old) }
     ensures short { IfOk result.0 (λ ended. RanOut ended → sink.new ≡ sink.old) }

@@ -3,13 +3,8 @@ ghost use Rattle.std.specs.Prelude.{ℕ, ◌≡◌, ◌⊎◌, ◌<◌, ◌≤�
 ghost use Rattle.history.specs.Legal.{IsLegal};
 ghost use Rattle.history.specs.declared.call.Reply.TheVariants.{Committed};
 ghost use Rattle.history.specs.Writes.{Table};
-ghost use Rattle.caller_steps.specs.State.{State, Index, opened, commits_of};
-ghost use Rattle.caller_steps.specs.Room.{Limits};
-ghost use Rattle.caller_steps.specs.Run.{Turn, HasNoOthers, has_write};
-ghost use Rattle.caller_steps.specs.Step.{Runs};
-ghost use Rattle.caller_plans.specs.Plans.{planned, calls_by};
-ghost use Rattle.caller_work.specs.Fated.{AreFated};
-ghost use Rattle.caller_work.specs.Worked.{of_caller};
+ghost use Rattle.caller_steps.specs.State.{State};
+ghost use Rattle.caller_steps.specs.Run.{Turn, has_write};
 ghost use Rattle.script_run.specs.declared.ended.Ended.{Ended};
 ghost use Rattle.array_shape.specs.declared.shape.Shape.{Shape};
 ghost use Rattle.command_words.specs.declared.words.FormatNumbers.{FormatNumbers};
@@ -29,7 +24,6 @@ ghost use Rattle.mars_shell.specs.Run.{AnswersLines};
 ghost use Rattle.array_runs.specs.Forms.{index_in};
 ghost use Rattle.mars_shell.specs.Asked.{OutcomeFor};
 ghost use Rattle.mars_shell.specs.Formats.{FormatOutcome};
-ghost use Rattle.mars_shell.specs.Joint.{JointWork};
 ghost use Rattle.mars_shell.specs.Next.{AllSound, IsOfRecords, LeavesFresh, records_on};
 ghost use Rattle.array_runs.specs.Records.{HasAll, HoldsRecords};
 ghost use Rattle.array_runs.specs.declared.status.Status.{Status};
@@ -39,17 +33,6 @@ use caller_work::Gate;
 use key_list::KeyList;
 use pcm_media::Media;
 use record_table::version_two_keeps;
-
-/// What the fates of callers on threads say of the history of a run: the transactions of each caller are those of its plans that committed,
-/// in their order and each once, with just the calls of the plan and under the number that was told. A caller whose worker was stopped
-/// before it could settle may have one more, the plan that it had offered. No other caller has any.
-pub fn what_callers_are_told<G: Gate>()
-    ensures fated { (names : List (List ℕ)) (base : Table) (index : Index) (limits : Limits) (turns : List Turn) (final : State) → Runs limits (opened names base index) turns final
-        → (gate : G) (callers readers tries : ℕ) (input text : List ℕ) (ended : Ended) (cut : Bool) (work : JointWork (G.told gate) callers readers tries input ended cut text limits turns final)
-        → (caller : ℕ) → caller < callers → AreFated caller (planned None (calls_by caller work.said)) (of_caller work.fates caller) (commits_of caller final.history) }
-    ensures others { (names : List (List ℕ)) (base : Table) (index : Index) (limits : Limits) (turns : List Turn) (final : State) → Runs limits (opened names base index) turns final
-        → (gate : G) (callers readers tries : ℕ) (input text : List ℕ) (ended : Ended) (cut : Bool) → JointWork (G.told gate) callers readers tries input ended cut text limits turns final → HasNoOthers callers final }
-{}
 
 /// What turns over an array leave, which follows from their run (`TakesTurns.runs`). The names and the records at first are those that were
 /// opened, and on these the history is legal, also with what is in doubt. If no turn asked to write or to remove a record, and the medium has

@@ -6,8 +6,8 @@
 //! `specs/PrefixLaw` (what a loss of power leaves). The trait of work on a core over records is in `core_work.rt`, and `records.rt`
 //! goes from the opening to the status.
 //!
-//! The laws in `laws.rt`: what a run leaves is what the next one needs (`runs_compose`), and what the fates of callers say of the history
-//! (`what_callers_are_told`), and what the turns of a run leave (`what_turns_leave`). The one in `images.rt` says what images hold without their bytes (`what_images_hold`).
+//! The laws in `laws.rt`: what a run leaves is what the next one needs (`runs_compose`), and what the turns of a run leave
+//! (`what_turns_leave`). The one in `images.rt` says what images hold without their bytes (`what_images_hold`).
 #![tactic(auto)]
 
 mod callers;
@@ -36,6 +36,6 @@ mod whole;
 pub use array_runs::{Status, fault_text};
 pub use caller_work::{Gate, OpenGate, Place};
 pub use images::what_images_hold;
-pub use laws::{runs_compose, what_callers_are_told, what_turns_leave};
+pub use laws::{runs_compose, what_turns_leave};
 pub use media_room::room;
 pub use whole::run;

@@ -21,7 +21,7 @@ returns-in-Ok-Chain-clause-served g c =
       text = said.text;
       wrote = said.wrote;
       counts = said.counts;
-      holds = λ told. serves_on s.tells told s.opens 0 old mid form (s.view c.work_under.result.1) (λ ended. JointWork (g.G.Gate.told c.args.crew.now.gate.now) c.args.crew.now.numbers.callers c.args.crew.now.numbers.readers c.args.crew.now.numbers.tries c.args.input.now ended said.cut said.text) c.work_under.result.0 said.cut said.text (said.holds told);
+      holds = λ told. serves_on s.tells told s.opens 0 old mid form (s.view c.work_under.result.1) (λ ended. JointWork (g.G.Gate.told c.args.crew.now.gate.now) c.args.crew.now.numbers.callers c.args.crew.now.numbers.readers c.args.input.now ended said.cut said.text) c.work_under.result.0 said.cut said.text (said.holds told);
     }
 
 pub returns-in-Ok-Chain-clause-untold : goal.returns-in-Ok-Chain-clause-untold
@@ -42,7 +42,7 @@ returns-in-Ok-Tree-clause-served g c =
       text = said.text;
       wrote = said.wrote;
       counts = said.counts;
-      holds = λ told. serves_on s.tells told s.opens 1 old mid form (s.view c.work_under-in-Ok-Tree.result.1) (λ ended. JointWork (g.G.Gate.told c.args.crew.now.gate.now) c.args.crew.now.numbers.callers c.args.crew.now.numbers.readers c.args.crew.now.numbers.tries c.args.input.now ended said.cut said.text) c.work_under-in-Ok-Tree.result.0 said.cut said.text (said.holds told);
+      holds = λ told. serves_on s.tells told s.opens 1 old mid form (s.view c.work_under-in-Ok-Tree.result.1) (λ ended. JointWork (g.G.Gate.told c.args.crew.now.gate.now) c.args.crew.now.numbers.callers c.args.crew.now.numbers.readers c.args.input.now ended said.cut said.text) c.work_under-in-Ok-Tree.result.0 said.cut said.text (said.holds told);
     }
 
 pub returns-in-Ok-Tree-clause-untold : goal.returns-in-Ok-Tree-clause-untold

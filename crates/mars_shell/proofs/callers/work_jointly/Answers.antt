@@ -58,7 +58,7 @@ returns-in-Ok-work_with-clause-works g c =
       text = told.text;
       wrote = told.wrote;
       counts = told.counts;
-      holds = λ tells. joint_turns s.tells _ _ numbers.callers numbers.readers numbers.tries c.args.input.now read.0 read.1 plans read.3 c.in-Ok-work_with.fates.items c.in-Ok-work_with.end worked c.requires.ready.enough (answers_in answers) (g.G.Gate.told c.args.crew.now.gate.now) c.in-Ok-work_with.ensures.told tells
+      holds = λ tells. joint_turns s.tells _ _ numbers.callers numbers.readers numbers.tries c.args.input.now read.0 read.1 plans read.3 c.in-Ok-work_with.fates.items c.in-Ok-work_with.end worked c.requires.ready (answers_in answers) (g.G.Gate.told c.args.crew.now.gate.now) c.in-Ok-work_with.ensures.told tells
           c.tell_end-ended.result told.cut told.text (λ unfailed remembered. (whole unfailed remembered).0) c.tell_end-ended.ensures.fault
           (λ unfailed remembered. answered_in answers _ _ _ _ _ _ _ _ (names ∙ sym (worked.since.continues tells).names) base history asks c.in-Ok-work_with.ensures.answered (whole unfailed remembered).1)
           (retold c.tell_end-ended.result told.cut told.text _ _ _ _ _ _ c.in-Ok-work_with.fates.items c.in-Ok-work_with.fates.items (answers_in answers) read.2 c.history_of.ensures c.base_of.ensures refl told.holds);

@@ -26,7 +26,7 @@ returns-in-Ok-worked-clause-served g c =
     let over = subst (λ st. IsOver s.tells (s.opens (s.view st).shape) g.I.KeyIndex.index (s.view st) (core_of s.opens g.I.KeyIndex.index (s.view st) core)) c.into_store-store.ensures.store c.into_store-store.ensures.over in
     let works = c.work_jointly-worked.ensures.works in
     let ended = c.in-Ok-worked.ended in
-    let does = JointWork (g.G.Gate.told c.args.crew.now.gate.now) c.args.crew.now.numbers.callers c.args.crew.now.numbers.readers c.args.crew.now.numbers.tries c.args.input.now ended works.cut works.text in
+    let does = JointWork (g.G.Gate.told c.args.crew.now.gate.now) c.args.crew.now.numbers.callers c.args.crew.now.numbers.readers c.args.input.now ended works.cut works.text in
     record {
       cut = works.cut;
       text = works.text;
