@@ -58,14 +58,14 @@ module _ (root : Root) (old new : List ℕ) (l parent key right : ℕ) (splits :
     | inl same ↦
         let u' : IsUnderSome (IsUnder n new x) (page_pairs old parent) = subst (λ (q : ℕ). IsUnderSome (IsUnder n new x) (page_pairs old q)) same.1 u in
         let w = subst (λ (ps : List Pair). IsUnderSome (IsUnder n new x) ps) (sym splits.pairs)
-        (some_with (IsUnder n new x) (page_pairs old parent) key (middle old (child_for (page_pairs old parent) key), right) u') in
+        (some_with (IsUnder n new x) (page_pairs old parent) key (middle old (child_for (page_pairs old parent) key) splits.place, right) u') in
         inl (inr (subst (λ (q : ℕ). IsUnderSome (IsUnder n new x) (page_pairs new q)) (sym same.1) w))
     | inr other ↦ elim (eqb_tells p (child_for (page_pairs old parent) key)) [
       | inl same ↦
           let c : ℕ = child_for (page_pairs old parent) key in
           let deep : suc n ≡ l = sym level ∙ ap (λ (q : ℕ). level_of old q) same.1 ∙ child_level in
           let u' : IsUnderSome (IsUnder n new x) (page_pairs old (child_for (page_pairs old parent) key)) = subst (λ (q : ℕ). IsUnderSome (IsUnder n new x) (page_pairs old q)) same.1 u in
-          elim (some_halves (IsUnder n new x) 15 (page_pairs old (child_for (page_pairs old parent) key)) u') [
+          elim (some_halves (IsUnder n new x) splits.place (page_pairs old (child_for (page_pairs old parent) key)) u') [
             | inl a ↦ inl (inr (subst (λ (q : ℕ). IsUnderSome (IsUnder n new x) (page_pairs new q)) (sym same.1) (subst (λ (ps : List Pair). IsUnderSome (IsUnder n new x) ps) (sym splits.cut.left_is.pairs_are) a)))
             | inr a ↦ inr (subst (λ (k : ℕ). IsUnder k new x right) deep (inr (subst (λ (ps : List Pair). IsUnderSome (IsUnder n new x) ps) (sym splits.cut.right_is.pairs_are) a)))
           ]
@@ -85,7 +85,7 @@ module _ (root : Root) (old new : List ℕ) (l parent key right : ℕ) (splits :
   -- what is under the upper half is under the parent
   half_named : (x : ℕ) → 1 ≤ length (page_pairs old parent) → IsUnder l new x right → IsUnder (suc l) new x parent
   half_named x some u = inr (subst (λ (ps : List Pair). IsUnderSome (IsUnder l new x) ps) (sym splits.pairs)
-      (new_with (IsUnder l new x) (page_pairs old parent) key (middle old (child_for (page_pairs old parent) key), right) some u))
+      (new_with (IsUnder l new x) (page_pairs old parent) key (middle old (child_for (page_pairs old parent) key) splits.place, right) some u))
 
 -- if pages above a level keep their pairs, the way down to that level stays
 pub way_same : (root : Root) (l : ℕ) (old new : List ℕ) (Mine : ℕ → Type 0) → ((x : ℕ) → Mine x → l < level_of old x → page_pairs new x ≡ page_pairs old x)
@@ -176,7 +176,7 @@ module _ (root : Root) (old new : List ℕ) (left right : ℕ) (splits : SplitsR
       let sub = sub_below root l old q (sub_of root l old q) (page_pairs old root.page) high t.0.children t.1 v in
       omega (arith, ap (λ (y : ℕ). level_of old y) e, tree_level root sub.m old q sub.from sub.to sub.tree, sub.most, t.0.level_is)) in
       let u' = some_same root old new x l (under_same root old new x l) (page_pairs old root.page) high t.1 other u in
-      elim (some_halves (IsUnder l new x) 15 (page_pairs old root.page) u') [
+      elim (some_halves (IsUnder l new x) splits.place (page_pairs old root.page) u') [
         | inl a ↦ inr (subst (λ (ps : List Pair). IsUnderSome (IsUnder (suc l) new x) ps) (sym splits.pairs) (inl (inr (subst (λ (ps : List Pair). IsUnderSome (IsUnder l new x) ps) (sym splits.cut.left_is.pairs_are) a))))
         | inr a ↦ inr (subst (λ (ps : List Pair). IsUnderSome (IsUnder (suc l) new x) ps) (sym splits.pairs) (inr (inl (inr (subst (λ (ps : List Pair). IsUnderSome (IsUnder l new x) ps) (sym splits.cut.right_is.pairs_are) a)))))
       ]

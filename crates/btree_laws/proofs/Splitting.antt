@@ -63,9 +63,9 @@ pub record AreHalves (root : Root) (new : List ℕ) (l left right low mid high :
   pub below : mid < high
 
 pub leaf_half : (root : Root) (old new : List ℕ) (whole half : ℕ) (ps : List Pair) → IsHalf old new whole half ps → (low high low' high' : ℕ) → IsTree root 0 old whole low' high'
-    → length ps ≡ 15 → Rise low high ps → AreGiven new root.table ps → IsTree root 0 new half low high
-leaf_half root old new whole half ps is low high low' high' t long r g =
-    let count : count_of new half ≡ 15 = sym (length-page_pairs new half) ∙ ap (λ (l : List Pair). length l) is.pairs_are ∙ long in (
+    → 1 ≤ length ps → length ps ≤ 30 → Rise low high ps → AreGiven new root.table ps → IsTree root 0 new half low high
+leaf_half root old new whole half ps is low high low' high' t one short r g =
+    let count : count_of new half ≡ length ps = sym (length-page_pairs new half) ∙ ap (λ (l : List Pair). length l) is.pairs_are in (
       record {
         kind = is.kind ∙ t.0.kind;
         level = is.level ∙ t.0.level;
@@ -78,9 +78,9 @@ leaf_half root old new whole half ps is low high low' high' t long r g =
     )
 
 pub inner_half : (root : Root) (old new : List ℕ) (whole half : ℕ) (ps : List Pair) → IsHalf old new whole half ps → (level low low' : ℕ) → IsUpper root.page old level whole low'
-    → length ps ≡ 15 → next_low ps low ≡ low → Rise low key_end ps → AreBelow root.page (next_page new) ps → IsUpper root.page new level half low
-inner_half root old new whole half ps is level low low' t long first r are =
-    let count : count_of new half ≡ 15 = sym (length-page_pairs new half) ∙ ap (λ (l : List Pair). length l) is.pairs_are ∙ long in
+    → 1 ≤ length ps → length ps ≤ 30 → next_low ps low ≡ low → Rise low key_end ps → AreBelow root.page (next_page new) ps → IsUpper root.page new level half low
+inner_half root old new whole half ps is level low low' t one short first r are =
+    let count : count_of new half ≡ length ps = sym (length-page_pairs new half) ∙ ap (λ (l : List Pair). length l) is.pairs_are in
     record {
       kind = is.kind ∙ t.kind;
       level_is = is.level ∙ t.level_is;
@@ -93,63 +93,69 @@ inner_half root old new whole half ps is level low low' t long first r are =
     }
 
 -- a page that was split, with the pages below it as they were
-pub halves : (root : Root) (old new : List ℕ) → Keeps old new → (l whole left right low high : ℕ) → IsTree root l old whole low high → IsCut old new whole left right
+pub halves : (root : Root) (old new : List ℕ) → Keeps old new → (l whole left right place low high : ℕ) → IsTree root l old whole low high → IsCut old new whole left right place
     → ((x : ℕ) → IsUnder l old x whole → x ≢ whole → page_bytes new x ≡ page_bytes old x)
-    → AreHalves root new l left right low (middle old whole) high (pairs_under l old whole)
-halves root old new keeps zero whole left right low high t cut kept =
+    → AreHalves root new l left right low (middle old whole place) high (pairs_under l old whole)
+halves root old new keeps zero whole left right place low high t cut kept =
     let full = cut.full in
+    let first = cut.some in
+    let less = cut.less in
+    let long = length-take-le place (page_pairs old whole) (omega arith) in
+    let long' = length-drop place (page_pairs old whole) in
     let ps : List Pair = page_pairs old whole in
-    let b = key_at-bounds 15 low high (page_pairs old whole) (omega arith) t.0.rises in
-    let g = given_take new root.table 15 (page_pairs old whole) (given_kept old new keeps root.table (page_pairs old whole) (t.1)) in
+    let b = key_at-bounds place low high (page_pairs old whole) (omega arith) t.0.rises in
+    let g = given_take new root.table place (page_pairs old whole) (given_kept old new keeps root.table (page_pairs old whole) (t.1)) in
     record {
-      left_tree = leaf_half root old new whole left (take 15 (page_pairs old whole)) cut.left_is low (middle old whole) low high t (length-take-le 15 (page_pairs old whole) (omega arith))
-          (take_rises 15 low high (page_pairs old whole) (omega arith) t.0.rises) g.0;
-      right_tree = leaf_half root old new whole right (drop 15 (page_pairs old whole)) cut.right_is (middle old whole) high low high t (omega (arith, length-drop 15 (page_pairs old whole)))
-          (drop_rises 15 low high (page_pairs old whole) (omega arith) t.0.rises) g.1;
-      pairs_are = ap (λ (l : List Pair). l ++ page_pairs new right) cut.left_is.pairs_are ∙ ap (λ (l : List Pair). take 15 (page_pairs old whole) ++ l) cut.right_is.pairs_are
-          ∙ take-append-drop 15 (page_pairs old whole);
+      left_tree = leaf_half root old new whole left (take place (page_pairs old whole)) cut.left_is low (middle old whole place) low high t (omega arith) (omega arith)
+          (take_rises place low high (page_pairs old whole) (omega arith) t.0.rises) g.0;
+      right_tree = leaf_half root old new whole right (drop place (page_pairs old whole)) cut.right_is (middle old whole place) high low high t (omega arith) (omega arith)
+          (drop_rises place low high (page_pairs old whole) (omega arith) t.0.rises) g.1;
+      pairs_are = ap (λ (l : List Pair). l ++ page_pairs new right) cut.left_is.pairs_are ∙ ap (λ (l : List Pair). take place (page_pairs old whole) ++ l) cut.right_is.pairs_are
+          ∙ take-append-drop place (page_pairs old whole);
       above = omega arith;
       below = b.1;
     }
-halves root old new keeps (suc l) whole left right low high t cut kept =
+halves root old new keeps (suc l) whole left right place low high t cut kept =
     let full = cut.full in
+    let first = cut.some in
+    let less = cut.less in
     let es : List Pair = page_pairs old whole in
     let f : ℕ → List Pair = pairs_under l new in
     let same = λ (x : ℕ) (u : IsUnderSome (IsUnder l old x) (page_pairs old whole)). kept x (inr u) (λ e.
     let sub = sub_below root l old x (sub_of root l old x) (page_pairs old whole) high t.0.children t.1 u in
     omega (arith, ap (λ (y : ℕ). level_of old y) e, tree_level root sub.m old x sub.from sub.to sub.tree, sub.most, t.0.level_is)) in
     let below = below_kept root old new keeps l (tree_kept root old new keeps l) (page_pairs old whole) high t.1 same in
-    let s = sound_take (IsTree root l new) 15 high (page_pairs old whole) (omega arith) below.0 in
-    let s' = sound_take (IsTree root l old) 15 high (page_pairs old whole) (omega arith) t.1 in
-    let are = children_take root new 15 (page_pairs old whole) (children_kept root old new keeps (page_pairs old whole) t.0.children) in
-    let are' = children_take root old 15 (page_pairs old whole) t.0.children in
-    let b = key_at-bounds 15 low key_end (page_pairs old whole) (omega arith) t.0.rises in
+    let s = sound_take (IsTree root l new) place high (page_pairs old whole) (omega arith) below.0 in
+    let s' = sound_take (IsTree root l old) place high (page_pairs old whole) (omega arith) t.1 in
+    let are = children_take root new place (page_pairs old whole) (children_kept root old new keeps (page_pairs old whole) t.0.children) in
+    let are' = children_take root old place (page_pairs old whole) t.0.children in
+    let b = key_at-bounds place low key_end (page_pairs old whole) (omega arith) t.0.rises in
     let start = start_of low high (page_pairs old whole) (omega arith) t.0.first in
-    let start' : next_low (take 15 (page_pairs old whole)) (middle old whole) ≡ low = next_low-take 15 high (page_pairs old whole) (omega arith) ∙ start in
-    let long = length-take-le 15 (page_pairs old whole) (omega arith) in
-    let long' : length (drop 15 (page_pairs old whole)) ≡ 15 = omega (arith, length-drop 15 (page_pairs old whole)) in
-    let tile = entries_tile root l old (drop 15 (page_pairs old whole)) high are'.1 s'.1 in
-    let wide = tile_wide (next_low (drop 15 (page_pairs old whole)) high) high (pieces_with (pairs_under l old) (drop 15 (page_pairs old whole)))
-    (omega (arith, long', length-pieces (pairs_under l old) (drop 15 (page_pairs old whole)))) tile in
+    let start' : next_low (take place (page_pairs old whole)) (middle old whole place) ≡ low = next_low-take place high (page_pairs old whole) (omega arith) ∙ start in
+    let long = length-take-le place (page_pairs old whole) (omega arith) in
+    let long' = length-drop place (page_pairs old whole) in
+    let tile = entries_tile root l old (drop place (page_pairs old whole)) high are'.1 s'.1 in
+    let wide = tile_wide (next_low (drop place (page_pairs old whole)) high) high (pieces_with (pairs_under l old) (drop place (page_pairs old whole)))
+    (omega (arith, long', length-pieces (pairs_under l old) (drop place (page_pairs old whole)))) tile in
     record {
       left_tree = (
-        inner_half root old new whole left (take 15 (page_pairs old whole)) cut.left_is (suc l) low low t.0 long
-            (next_low-first low (middle old whole) (take 15 (page_pairs old whole)) start' (omega arith))
-            (rise_to_more low (middle old whole) key_end (take 15 (page_pairs old whole)) (omega (arith, b.1)) (take_rises 15 low key_end (page_pairs old whole) (omega arith) t.0.rises)) are.0,
-        subst (λ (ps : List Pair). AreSound (IsTree root l new) ps (middle old whole)) (sym cut.left_is.pairs_are) s.0,
+        inner_half root old new whole left (take place (page_pairs old whole)) cut.left_is (suc l) low low t.0 (omega arith) (omega arith)
+            (next_low-first low (middle old whole place) (take place (page_pairs old whole)) start' (omega arith))
+            (rise_to_more low (middle old whole place) key_end (take place (page_pairs old whole)) (omega (arith, b.1)) (take_rises place low key_end (page_pairs old whole) (omega arith) t.0.rises)) are.0,
+        subst (λ (ps : List Pair). AreSound (IsTree root l new) ps (middle old whole place)) (sym cut.left_is.pairs_are) s.0,
       );
       right_tree = (
-        inner_half root old new whole right (drop 15 (page_pairs old whole)) cut.right_is (suc l) (middle old whole) low t.0 long'
-            (next_low-drop 15 (middle old whole) (page_pairs old whole) (omega arith))
-            (drop_rises 15 low key_end (page_pairs old whole) (omega arith) t.0.rises) are.1,
+        inner_half root old new whole right (drop place (page_pairs old whole)) cut.right_is (suc l) (middle old whole place) low t.0 (omega arith) (omega arith)
+            (next_low-drop place (middle old whole place) (page_pairs old whole) (omega arith))
+            (drop_rises place low key_end (page_pairs old whole) (omega arith) t.0.rises) are.1,
         subst (λ (ps : List Pair). AreSound (IsTree root l new) ps high) (sym cut.right_is.pairs_are) s.1,
       );
       pairs_are =
           ap (λ (ps : List Pair). joined (pieces_with f ps) ++ joined (pieces_with f (page_pairs new right))) cut.left_is.pairs_are
-          ∙ ap (λ (ps : List Pair). joined (pieces_with f (take 15 (page_pairs old whole))) ++ joined (pieces_with f ps)) cut.right_is.pairs_are
-          ∙ joined_take f 15 (page_pairs old whole) ∙ below.1;
+          ∙ ap (λ (ps : List Pair). joined (pieces_with f (take place (page_pairs old whole))) ++ joined (pieces_with f ps)) cut.right_is.pairs_are
+          ∙ joined_take f place (page_pairs old whole) ∙ below.1;
       above = omega (arith, b.0);
-      below = omega (arith, next_low-drop 15 high (page_pairs old whole) (omega arith), wide);
+      below = omega (arith, next_low-drop place high (page_pairs old whole) (omega arith), wide);
     }
 
 -- one more entry
@@ -210,18 +216,18 @@ child_other root bytes (e ∷ f ∷ es) key some are =
       | inr h ↦ let b : nat_lt key f.0 ≡ false = h.0 in rw b (child_other root bytes (f ∷ es) key (omega arith) are.2)
     ]
 
-module _ (root : Root) (old new : List ℕ) (keeps : Keeps old new) (l c right key : ℕ) (cut : IsCut old new c c right) where
+module _ (root : Root) (old new : List ℕ) (keeps : Keeps old new) (l c right place key : ℕ) (cut : IsCut old new c c right place) where
   pub split_below : (es : List Pair) (high : ℕ) → 1 ≤ length es → high ≤ key_end → c ≡ child_for es key → AreBelow root.page (next_page old) es → AreSound (IsTree root l old) es high
       → ((x : ℕ) → IsUnderSome (IsUnder l old x) es → x ≢ c → page_bytes new x ≡ page_bytes old x)
-      → Splits root old new l key (middle old c, right) es high
+      → Splits root old new l key (middle old c place, right) es high
   split_below [] high some small is are sound kept = absurd (omega arith)
   split_below (e ∷ []) high some small is are sound kept =
       let t = subst (λ (x : ℕ). IsTree root l old x e.0 high) (sym is) sound.0 in
-      let h = halves root old new keeps l c c right e.0 high t cut (λ x u other. kept x (inl (subst (λ (y : ℕ). IsUnder l old x y) is u)) other) in
+      let h = halves root old new keeps l c c right place e.0 high t cut (λ x u other. kept x (inl (subst (λ (y : ℕ). IsUnder l old x y) is u)) other) in
       let e1 : pairs_under l new e.1 ++ pairs_under l new right ≡ pairs_under l old e.1 =
       subst (λ (y : ℕ). pairs_under l new y ++ pairs_under l new right ≡ pairs_under l old y) is h.pairs_are in
       record {
-        sound = (subst (λ (x : ℕ). IsTree root l new x e.0 (middle old c)) is h.left_tree, (h.right_tree, tt));
+        sound = (subst (λ (x : ℕ). IsTree root l new x e.0 (middle old c place)) is h.left_tree, (h.right_tree, tt));
         pairs = joined_two (pairs_under l new e.1) (pairs_under l new right) [] (pairs_under l old e.1) e1;
         rises = λ low r. (r.0, (omega (arith, h.above), omega (arith, h.below)));
       }
@@ -231,7 +237,7 @@ module _ (root : Root) (old new : List ℕ) (keeps : Keeps old new) (l c right k
             let b : nat_lt key f.0 ≡ true = h.0 in
             let is' : c ≡ e.1 = is ∙ (rw b refl) in
             let t = subst (λ (x : ℕ). IsTree root l old x e.0 f.0) (sym is') sound.0 in
-            let two = halves root old new keeps l c c right e.0 f.0 t cut (λ x u other. kept x (inl (subst (λ (y : ℕ). IsUnder l old x y) is' u)) other) in
+            let two = halves root old new keeps l c c right place e.0 f.0 t cut (λ x u other. kept x (inl (subst (λ (y : ℕ). IsUnder l old x y) is' u)) other) in
             let rest = below_kept root old new keeps l (tree_kept root old new keeps l) (f ∷ es) high sound.1
             (λ x u. kept x (inr u) (λ same.
             let v : IsUnder l old x e.1 = subst (λ (y : ℕ). IsUnder l old y e.1) (sym (same ∙ is')) (under_self l old e.1) in
@@ -240,7 +246,7 @@ module _ (root : Root) (old new : List ℕ) (keeps : Keeps old new) (l c right k
             let e1 : pairs_under l new e.1 ++ pairs_under l new right ≡ pairs_under l old e.1 =
             subst (λ (y : ℕ). pairs_under l new y ++ pairs_under l new right ≡ pairs_under l old y) is' two.pairs_are in
             record {
-              sound = rw b (subst (λ (x : ℕ). IsTree root l new x e.0 (middle old c)) is' two.left_tree, (two.right_tree, rest.0));
+              sound = rw b (subst (λ (x : ℕ). IsTree root l new x e.0 (middle old c place)) is' two.left_tree, (two.right_tree, rest.0));
               pairs = rw b (joined_two (pairs_under l new e.1) (pairs_under l new right) (joined (pieces_with (pairs_under l new) (f ∷ es))) (pairs_under l old e.1) e1
                   ∙ ap (λ (ps : List Pair). pairs_under l old e.1 ++ ps) rest.1);
               rises = λ low r. rw b (r.0, (omega (arith, two.above), (omega (arith, two.below), r.1.1)));
@@ -257,8 +263,8 @@ module _ (root : Root) (old new : List ℕ) (keeps : Keeps old new) (l c right k
             (sub_below root l old x (sub_of root l old x) (f ∷ es) high are.2 sound.1 v))) in
             let rest = split_below (f ∷ es) high (omega arith) small is' are.2 sound.1 (λ x u other. kept x (inr u) other) in
             record {
-              sound = rw b (subst (λ (x : ℕ). IsTree root l new e.1 e.0 x) (sym (next_low-with (f ∷ es) key high (middle old c, right))) first.0, rest.sound);
-              pairs = rw b (ap (λ (ps : List Pair). ps ++ joined (pieces_with (pairs_under l new) (with_entry (f ∷ es) key (middle old c, right)))) first.1
+              sound = rw b (subst (λ (x : ℕ). IsTree root l new e.1 e.0 x) (sym (next_low-with (f ∷ es) key high (middle old c place, right))) first.0, rest.sound);
+              pairs = rw b (ap (λ (ps : List Pair). ps ++ joined (pieces_with (pairs_under l new) (with_entry (f ∷ es) key (middle old c place, right)))) first.1
                   ∙ ap (λ (ps : List Pair). pairs_under l old e.1 ++ ps) rest.pairs);
               rises = λ low r. rw b (r.0, rest.rises (suc e.0) r.1);
             }
@@ -271,8 +277,8 @@ pub parent_splits : (root : Root) (old new : List ℕ) → Keeps old new → (l 
 parent_splits root old new keeps l parent key right low high t small splits kept =
     let some : 1 ≤ length (page_pairs old parent) = omega (arith, t.0.some, length-page_pairs old parent) in
     let c : ℕ = child_for (page_pairs old parent) key in
-    let p : Pair = (middle old (child_for (page_pairs old parent) key), right) in
-    let s = split_below root old new keeps l (child_for (page_pairs old parent) key) right key splits.cut (page_pairs old parent) high some small refl t.0.children t.1
+    let p : Pair = (middle old (child_for (page_pairs old parent) key) splits.place, right) in
+    let s = split_below root old new keeps l (child_for (page_pairs old parent) key) right splits.place key splits.cut (page_pairs old parent) high some small refl t.0.children t.1
     (λ x u other. kept x (inr u) (λ e.
     let sub = sub_below root l old x (sub_of root l old x) (page_pairs old parent) high t.0.children t.1 u in
     omega (arith, ap (λ (y : ℕ). level_of old y) e, tree_level root sub.m old x sub.from sub.to sub.tree, sub.most, t.0.level_is)) other) in
@@ -330,7 +336,7 @@ unfolding pairs_of_tree
 sound_tree_grows root old new left right sound keeps less splits kept =
     let own : IsOwn old root.page = sound.0 in
     let l : ℕ = level_of old root.page in
-    let h = halves root old new keeps (level_of old root.page) root.page left right 0 key_end sound.2 splits.cut
+    let h = halves root old new keeps (level_of old root.page) root.page left right splits.place 0 key_end sound.2 splits.cut
     (λ x u other. kept x u other) in
     let count : count_of new root.page ≡ 2 = sym (length-page_pairs new root.page) ∙ ap (λ (ps : List Pair). length ps) splits.pairs in
     let small = h.below in

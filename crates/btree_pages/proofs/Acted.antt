@@ -9,11 +9,11 @@ use Rattle.index_pages.specs.Keys.{key_at}
 use Rattle.index_pages.specs.Actions.{half_for}
 use Rattle.btree_pages.specs.Writes.{cutting_pages, cutting_parts, growing_pages, growing_parts}
 
-pub cutting_in : (after : Super) (page level : ℕ) (pairs : List Pair) (taken parent : ℕ) (above : List Pair) → AllZip LiesIn (cutting_pages page taken parent) (cutting_parts after page level pairs taken parent above)
-cutting_in after page level pairs taken parent above = ((0, omega arith, refl), ((0, omega arith, refl), ((0, omega arith, refl), ((8, omega arith, refl), tt))))
+pub cutting_in : (after : Super) (page level : ℕ) (pairs : List Pair) (key taken parent : ℕ) (above : List Pair) → AllZip LiesIn (cutting_pages page taken parent) (cutting_parts after page level pairs key taken parent above)
+cutting_in after page level pairs key taken parent above = ((0, omega arith, refl), ((0, omega arith, refl), ((0, omega arith, refl), ((8, omega arith, refl), tt))))
 
-pub growing_in : (after : Super) (left right root level : ℕ) (pairs : List Pair) → AllZip LiesIn (growing_pages left right root) (growing_parts after left right root level pairs)
-growing_in after left right root level pairs = ((0, omega arith, refl), ((0, omega arith, refl), ((0, omega arith, refl), ((8, omega arith, refl), tt))))
+pub growing_in : (after : Super) (left right root level : ℕ) (pairs : List Pair) (key : ℕ) → AllZip LiesIn (growing_pages left right root) (growing_parts after left right root level pairs key)
+growing_in after left right root level pairs key = ((0, omega arith, refl), ((0, omega arith, refl), ((0, omega arith, refl), ((8, omega arith, refl), tt))))
 
 -- the half that has the key is one of the pages that the split writes
 pub half_one : (pairs : List Pair) (left right key half : ℕ) → half ≡ half_for pairs left right key → (half ≡ left) ⊎ (half ≡ right)

@@ -17,9 +17,11 @@ use Rattle.btree_laws.specs.Descent.{child_for}
 use Rattle.btree_laws.specs.Sound.{IsTree}
 use Rattle.btree_laws.specs.Tree.{IsUnder}
 use Rattle.btree_laws.specs.TreeFacts.{tree_level}
+use Rattle.btree_pages.proofs.CutPlace.{cut_inside, cut_side, side_before, side_behind}
 use Rattle.btree_pages.proofs.Descending.{child_step}
-use Rattle.btree_pages.specs.Index.{actions_below, cutting, half_pairs}
+use Rattle.btree_pages.specs.Index.{actions_below, cutting}
 use Rattle.index_pages.specs.Actions.{adding, half_for}
+use Rattle.btree_pages.specs.Writes.{cut_for, half_pairs}
 use Rattle.btree_laws.specs.declared.root.Root.{Root}
 
 -- a half of the entries that has the key in its range has the key's child
@@ -43,11 +45,15 @@ child_drop (suc n) key low high (e ∷ f ∷ es) less r le =
     let is : child_for (e ∷ f ∷ es) key ≡ child_for (f ∷ es) key = (rw b refl) in
     child_drop n key (suc e.0) high (f ∷ es) (omega arith) r.1 le ∙ sym is
 
-pub half_same : (key low high : ℕ) (ps : List Pair) → length ps ≡ 30 → Rise low high ps → child_for (half_pairs ps key) key ≡ child_for ps key
-half_same key low high ps full rises = elim (leb_tells (suc key) (key_at ps 15)) [
-  | inl h ↦ let b : nat_lt key (key_at ps 15) ≡ true = h.0 in rw b (child_take 15 key ps (omega arith) (omega (arith, full)) h.1)
-  | inr h ↦ let b : nat_lt key (key_at ps 15) ≡ false = h.0 in rw b (child_drop 15 key low high ps (omega (arith, full)) rises (omega (arith, h.1)))
-]
+pub half_same : (level key low high : ℕ) (ps : List Pair) → length ps ≡ 30 → Rise low high ps → child_for (half_pairs level ps key) key ≡ child_for ps key
+half_same level key low high ps full rises =
+    let inside = cut_inside level ps key in
+    let side = side_before key (key_at ps (cut_for level ps key)) (key_at ps 15) (cut_side level key low high ps full rises) in
+    let side' = side_behind key (key_at ps (cut_for level ps key)) (key_at ps 15) (cut_side level key low high ps full rises) in
+    elim (leb_tells (suc key) (key_at ps 15)) [
+      | inl h ↦ let b : nat_lt key (key_at ps 15) ≡ true = h.0 in rw b (child_take (cut_for level ps key) key ps (omega (arith, inside)) (omega (arith, full, inside)) (side h.1))
+      | inr h ↦ let b : nat_lt key (key_at ps 15) ≡ false = h.0 in rw b (child_drop (cut_for level ps key) key low high ps (omega (arith, full, inside)) rises (side' (omega (arith, h.1))))
+    ]
 
 -- one page further down, with what it has
 abbrev actions_step : ℕ → List ℕ → ℕ → ℕ → ℕ → ℕ → ℕ → ℕ → List Pair → List Action
@@ -94,15 +100,15 @@ module _ (root : Root) (old new : List ℕ) (k : ℕ) (slot : slot_due new ≡ s
       (actions_same m key (child_for (page_pairs old p) key) child.from child.to child.tree child.from_key child.key_to under) now n
 
   -- after a split, the half that has the key has what is left to do
-  module _ (whole left right key : ℕ) (cut : IsCut old new whole left right) where
+  module _ (whole left right place key : ℕ) (cut : IsCut old new whole left right place) (side : nat_lt key (key_at (page_pairs old whole) place) ≡ nat_lt key (key_at (page_pairs old whole) 15)) where
     pub half_child : (low : ℕ) → Rise low key_end (page_pairs old whole) → child_for (page_pairs new (half_for (page_pairs old whole) left right key)) key ≡ child_for (page_pairs old whole) key
     half_child low rises = elim (leb_tells (suc key) (key_at (page_pairs old whole) 15)) [
       | inl h ↦
           let b : nat_lt key (key_at (page_pairs old whole) 15) ≡ true = h.0 in
-          rw b (ap (λ (ps : List Pair). child_for ps key) cut.left_is.pairs_are ∙ child_take 15 key (page_pairs old whole) (omega arith) (omega (arith, cut.full)) h.1)
+          rw b (ap (λ (ps : List Pair). child_for ps key) cut.left_is.pairs_are ∙ child_take place key (page_pairs old whole) (omega (arith, cut.some)) (omega (arith, cut.full, cut.less)) (side_before key (key_at (page_pairs old whole) place) (key_at (page_pairs old whole) 15) side h.1))
       | inr h ↦
           let b : nat_lt key (key_at (page_pairs old whole) 15) ≡ false = h.0 in
-          rw b (ap (λ (ps : List Pair). child_for ps key) cut.right_is.pairs_are ∙ child_drop 15 key low key_end (page_pairs old whole) (omega (arith, cut.full)) rises (omega (arith, h.1)))
+          rw b (ap (λ (ps : List Pair). child_for ps key) cut.right_is.pairs_are ∙ child_drop place key low key_end (page_pairs old whole) (omega (arith, cut.full, cut.less)) rises (side_behind key (key_at (page_pairs old whole) place) (key_at (page_pairs old whole) 15) side (omega (arith, h.1))))
     ]
 
     pub half_actions : (m low high : ℕ) → IsTree root m old whole low high → low ≤ key → key < high → ((x : ℕ) → IsUnder m old x whole → x ≢ whole → page_bytes new x ≡ page_bytes old x)

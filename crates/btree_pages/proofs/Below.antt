@@ -35,13 +35,14 @@ use Rattle.index_pages.proofs.Writing.{small_take}
 use Rattle.btree_laws.specs.Descent.{child_for}
 use Rattle.btree_laws.specs.Tree.{pairs_of_tree}
 use Rattle.btree_laws.specs.declared.root.Root.{Root}
-use Rattle.btree_pages.specs.Index.{tree, tree_below, cutting, half_pairs, actions_below, AreSoundTrees}
+use Rattle.btree_pages.specs.Index.{tree, tree_below, cutting, actions_below, AreSoundTrees}
 use Rattle.index_pages.specs.Actions.{adding, half_for}
 use Rattle.btree_pages.specs.OnWay.{IsOnWay, IsReached}
 use Rattle.btree_pages.specs.Trees.{trees_count, table_sound}
 use Rattle.btree_pages.proofs.Actions.{half_same}
 use Rattle.btree_pages.proofs.Children.{reached_child}
-use Rattle.btree_pages.specs.Writes.{IsRead, cutting_pages, cutting_parts}
+use Rattle.btree_pages.proofs.CutPlace.{cut_inside}
+use Rattle.btree_pages.specs.Writes.{IsRead, cut_for, half_pairs, cutting_pages, cutting_parts}
 use Rattle.btree_pages.proofs.AddData.{adding_grows, adding_takes_none, slot_there}
 use Rattle.btree_pages.proofs.CutData.{cutting_grows, cut_after, cut_says, cut_used, cut_level, cut_due, half_there, half_says, half_left}
 use Rattle.btree_pages.proofs.Joining.{grows_more, rests_more, gains_more}
@@ -49,32 +50,32 @@ use Rattle.index_pages.proofs.Joining.{named_kept}
 use Rattle.index_pages.proofs.Left.{DecidesAll, pages_lack, room_lacks, fits_same, lacks_same}
 use Rattle.btree_pages.proofs.Walking.{Walks, walk_first, walk_down, walk_due, walk_cut, walk_last, child_way, rest_room, rest_full}
 
--- a half of 30 pairs
+-- one of the two parts of 30 pairs
 pub record IsHalfRead (shape : Shape) (page : ℕ) (pairs : List Pair) : Type 0 where
   pub some : 1 ≤ page
   pub inside : page < index_pages_of shape
-  pub many : length pairs ≡ 15
+  pub many : 1 ≤ length pairs
+  pub few : length pairs < 30
   pub small : AreSmall pairs
 
-pub half_read : (shape : Shape) (pairs : List Pair) (left right key page : ℕ) (half : List Pair) → length pairs ≡ 30 → AreSmall pairs → 1 ≤ left → left < index_pages_of shape → 1 ≤ right → right < index_pages_of shape
-    → page ≡ half_for pairs left right key → half ≡ half_pairs pairs key → IsHalfRead shape page half
-half_read shape pairs left right key page half full small left_some left_in right_some right_in is are = elim (leb_tells (suc key) (key_at pairs 15)) [
-  | inl h ↦
-      let b : nat_lt key (key_at pairs 15) ≡ true = h.0 in
-      let page' : page ≡ left = is ∙ (rw b refl) in
-      let half' : half ≡ take 15 pairs = are ∙ (rw b refl) in
-      record { some = omega arith; inside = omega arith; many = ap (λ (ps : List Pair). length ps) half' ∙ length-take-le 15 pairs (omega arith); small = subst (λ (ps : List Pair). AreSmall ps) (sym half') (small_take 15 pairs small).0 }
-  | inr h ↦
-      let b : nat_lt key (key_at pairs 15) ≡ false = h.0 in
-      let page' : page ≡ right = is ∙ (rw b refl) in
-      let half' : half ≡ drop 15 pairs = are ∙ (rw b refl) in
-      record {
-        some = omega arith;
-        inside = omega arith;
-        many = ap (λ (ps : List Pair). length ps) half' ∙ (let e : length (drop 15 pairs) ≡ 15 = omega (arith, length-drop 15 pairs) in e);
-        small = subst (λ (ps : List Pair). AreSmall ps) (sym half') (small_take 15 pairs small).1;
-      }
-]
+pub half_read : (shape : Shape) (level : ℕ) (pairs : List Pair) (left right key page : ℕ) (half : List Pair) → length pairs ≡ 30 → AreSmall pairs → 1 ≤ left → left < index_pages_of shape → 1 ≤ right → right < index_pages_of shape
+    → page ≡ half_for pairs left right key → half ≡ half_pairs level pairs key → IsHalfRead shape page half
+half_read shape level pairs left right key page half full small left_some left_in right_some right_in is are =
+    let cut = cut_inside level pairs key in
+    elim (leb_tells (suc key) (key_at pairs 15)) [
+      | inl h ↦
+          let b : nat_lt key (key_at pairs 15) ≡ true = h.0 in
+          let page' : page ≡ left = is ∙ (rw b refl) in
+          let half' : half ≡ take (cut_for level pairs key) pairs = are ∙ (rw b refl) in
+          let long = ap (λ (ps : List Pair). length ps) half' ∙ length-take-le (cut_for level pairs key) pairs (omega (arith, full, cut)) in
+          record { some = omega arith; inside = omega arith; many = omega (arith, long, cut); few = omega (arith, long, cut); small = subst (λ (ps : List Pair). AreSmall ps) (sym half') (small_take (cut_for level pairs key) pairs small).0 }
+      | inr h ↦
+          let b : nat_lt key (key_at pairs 15) ≡ false = h.0 in
+          let page' : page ≡ right = is ∙ (rw b refl) in
+          let half' : half ≡ drop (cut_for level pairs key) pairs = are ∙ (rw b refl) in
+          let long = ap (λ (ps : List Pair). length ps) half' ∙ length-drop (cut_for level pairs key) pairs in
+          record { some = omega arith; inside = omega arith; many = omega (arith, long, full, cut); few = omega (arith, long, full, cut); small = subst (λ (ps : List Pair). AreSmall ps) (sym half') (small_take (cut_for level pairs key) pairs small).1 }
+    ]
 
 module _ (tells : Bool) (E : Shape → List ℕ → List ℕ → Type 0) (t : ℕ) (root : Root) (key : ℕ) (v0 : PagesView) (page0 level0 most : ℕ) where
   -- The insertion has come to a page that has room.
@@ -214,11 +215,11 @@ module _ (tells : Bool) (E : Shape → List ℕ → List ℕ → Type 0) (t : �
             due told = walk_due v0.store root t (index_pages_of v0.store.shape) key (index_pages_of v0.store.shape - used_pages v0.store.state.bytes) (actions_below level0 v0.store.state.bytes page0 page0 0 key) most v'.store.state.bytes page m pairs (walks1 told) child child_is (many told)
 
             -- the half that has the key has the child that the page had
-            pub half_leads : (pairs2 : List Pair) → pairs2 ≡ half_pairs below key → IsTrue tells → child_for pairs2 key ≡ child_for below key
+            pub half_leads : (pairs2 : List Pair) → pairs2 ≡ half_pairs m below key → IsTrue tells → child_for pairs2 key ≡ child_for below key
             half_leads pairs2 pairs2_is told =
                 let child' = reached_child root v.store.state.bytes key page level pairs (table_sound v.store.state.bytes root (sound_now told) (named_now told)) fits (reached_now told) (let ne : level ≡ 0 → ⊥ = λ e. absurd (omega (arith, one_more)) in ne) in
                 let rises = subst (λ (c : ℕ). (low : ℕ) × (high : ℕ) × Rise low high (page_pairs v.store.state.bytes c)) (sym child_is) child'.rises in
-                ap (λ (ps : List Pair). child_for ps key) pairs2_is ∙ half_same key rises.0 rises.1 below full (subst (λ (ps : List Pair). Rise rises.0 rises.1 ps) (sym (are told)) rises.2)
+                ap (λ (ps : List Pair). child_for ps key) pairs2_is ∙ half_same m key rises.0 rises.1 below full (subst (λ (ps : List Pair). Rise rises.0 rises.1 ps) (sym (are told)) rises.2)
 
             -- no page is left
             pub pages_full : (1 ≤ front.free_pages + (half - front.next_page) → ⊥) → (let r : Result ℕ IndexFault = Err (index.PagesFull (half - 1)) in Inserts tells (E v0.store.shape) (tree_below page0 level0 most) t root.page root.table key v0 v' r)
@@ -247,25 +248,25 @@ module _ (tells : Bool) (E : Shape → List ℕ → List ℕ → Type 0) (t : �
               used_less : IsTrue tells → used_pages v'.store.state.bytes < index_pages_of v0.store.shape
               used_less told = pages_few v0.store.shape v'.store.state.bytes front s.front_is left (says1 told) (trees_count v'.store.state.bytes (sound1 told))
 
-              cut_data : IsTrue tells → Grows tree root.page v'.store.state.bytes (applied (cutting_parts after child m below taken page pairs) v'.store.state.bytes) × Rests tree root.page v'.store.state.bytes (applied (cutting_parts after child m below taken page pairs) v'.store.state.bytes)
+              cut_data : IsTrue tells → Grows tree root.page v'.store.state.bytes (applied (cutting_parts after child m below key taken page pairs) v'.store.state.bytes) × Rests tree root.page v'.store.state.bytes (applied (cutting_parts after child m below key taken page pairs) v'.store.state.bytes)
               cut_data told = cutting_grows v0.store.shape v'.store.state.bytes half (long1 told) half_is all few root front after taken key (walks1 told).d child m page below pairs fits (long_entries told) child_read parent_read (sound1 told) (named1 told) (says1 told) (takes told) (walks1 told).way child_is (are1 told) full s.room (used_less told)
 
-              cut_most : IsTrue tells → next_page (applied (cutting_parts after child m below taken page pairs) v'.store.state.bytes) ≤ next_page v'.store.state.bytes + 1
+              cut_most : IsTrue tells → next_page (applied (cutting_parts after child m below key taken page pairs) v'.store.state.bytes) ≤ next_page v'.store.state.bytes + 1
               cut_most told = omega (arith, (cut_after v0.store.shape v'.store.state.bytes half (long1 told) half_is all few root front after taken key (walks1 told).d child m page below pairs fits (long_entries told) child_read parent_read (sound1 told) (named1 told) (says1 told) (takes told) (walks1 told).way child_is (are1 told) full s.room (used_less told)).pages_next)
 
-              cut_grown : IsTrue tells → Grows (tree_below page0 level0 most) root.page v0.store.state.bytes (applied (cutting_parts after child m below taken page pairs) v'.store.state.bytes) × Rests (tree_below page0 level0 most) root.page v0.store.state.bytes (applied (cutting_parts after child m below taken page pairs) v'.store.state.bytes)
+              cut_grown : IsTrue tells → Grows (tree_below page0 level0 most) root.page v0.store.state.bytes (applied (cutting_parts after child m below key taken page pairs) v'.store.state.bytes) × Rests (tree_below page0 level0 most) root.page v0.store.state.bytes (applied (cutting_parts after child m below key taken page pairs) v'.store.state.bytes)
               cut_grown told =
                   let made = going1.made told alive in
                   let d = cut_data told in (
-                    grows_more page0 level0 most root.page v0.store.state.bytes v'.store.state.bytes (applied (cutting_parts after child m below taken page pairs) v'.store.state.bytes) (limit told) (next1 told) made.0 made.1 d.0 (omega (arith, cut_most told, (walks1 told).few)),
-                    rests_more page0 level0 most root.page v0.store.state.bytes v'.store.state.bytes (applied (cutting_parts after child m below taken page pairs) v'.store.state.bytes) (limit told) (next1 told) made.1 d.1,
+                    grows_more page0 level0 most root.page v0.store.state.bytes v'.store.state.bytes (applied (cutting_parts after child m below key taken page pairs) v'.store.state.bytes) (limit told) (next1 told) made.0 made.1 d.0 (omega (arith, cut_most told, (walks1 told).few)),
+                    rests_more page0 level0 most root.page v0.store.state.bytes v'.store.state.bytes (applied (cutting_parts after child m below key taken page pairs) v'.store.state.bytes) (limit told) (next1 told) made.1 d.1,
                   )
 
-              cut_may : IsTrue tells → IsAlive v0.store → MayBecome (tree_below page0 level0 most) root.page root.table key v0.store.state.bytes (applied (cutting_parts after child m below taken page pairs) v'.store.state.bytes)
+              cut_may : IsTrue tells → IsAlive v0.store → MayBecome (tree_below page0 level0 most) root.page root.table key v0.store.state.bytes (applied (cutting_parts after child m below key taken page pairs) v'.store.state.bytes)
               cut_may told running = let d = cut_grown told in (d.0, inl d.1)
 
-              cut_start : (v'' : PagesView) (r : Result (Unit {0}) PageFault) → Acts tells (E v'.store.shape) t (cutting_pages child taken page) (cutting_parts after child m below taken page pairs) v' v'' r → Acts tells (E v0.store.shape) t (cutting_pages child taken page) (cutting_parts after child m below taken page pairs) v' v'' r
-              cut_start v'' r acts = subst (λ (sh : Shape). Acts tells (E sh) t (cutting_pages child taken page) (cutting_parts after child m below taken page pairs) v' v'' r) going1.shape acts
+              cut_start : (v'' : PagesView) (r : Result (Unit {0}) PageFault) → Acts tells (E v'.store.shape) t (cutting_pages child taken page) (cutting_parts after child m below key taken page pairs) v' v'' r → Acts tells (E v0.store.shape) t (cutting_pages child taken page) (cutting_parts after child m below key taken page pairs) v' v'' r
+              cut_start v'' r acts = subst (λ (sh : Shape). Acts tells (E sh) t (cutting_pages child taken page) (cutting_parts after child m below key taken page pairs) v' v'' r) going1.shape acts
 
               taken_due : IsTrue tells → taken ≡ page_due v'.store.state.bytes 0
               taken_due told = cut_due v0.store.shape v'.store.state.bytes half (long1 told) half_is all few root front after taken key (walks1 told).d child m page below pairs fits (long_entries told) child_read parent_read (sound1 told) (named1 told) (says1 told) (takes told) (walks1 told).way child_is (are1 told) full s.room (used_less told)
@@ -283,11 +284,11 @@ module _ (tells : Bool) (E : Shape → List ℕ → List ℕ → Type 0) (t : �
                   ∙ ap (λ (n : ℕ). cutting child n page ∷ actions_below m v'.store.state.bytes child (half_for (page_pairs v'.store.state.bytes child) child n key) 1 key) (sym (taken_due told))
 
               -- the split was refused
-              pub cut_err : (v'' : PagesView) (fault : PageFault) → (let r : Result (Unit {0}) PageFault = Err fault in Acts tells (E v'.store.shape) t (cutting_pages child taken page) (cutting_parts after child m below taken page pairs) v' v'' r)
+              pub cut_err : (v'' : PagesView) (fault : PageFault) → (let r : Result (Unit {0}) PageFault = Err fault in Acts tells (E v'.store.shape) t (cutting_pages child taken page) (cutting_parts after child m below key taken page pairs) v' v'' r)
                   → (let r : Result ℕ IndexFault = Err (as_index fault) in Inserts tells (E v0.store.shape) (tree_below page0 level0 most) t root.page root.table key v0 v'' r)
               cut_err v'' fault acts' =
                   let r : Result (Unit {0}) PageFault = Err fault in
-                  inserts_act_err (tree_below page0 level0 most) tells (E v0.store.shape) t root.page root.table key v0 v' v'' going1 (cutting_pages child taken page) (cutting_parts after child m below taken page pairs) cut_may alive
+                  inserts_act_err (tree_below page0 level0 most) tells (E v0.store.shape) t root.page root.table key v0 v' v'' going1 (cutting_pages child taken page) (cutting_parts after child m below key taken page pairs) cut_may alive
                   (λ g h n lacks. let lacks' = lacks_same v0.store v'.store t going1.shape (going1.logs.ranges t) (cutting_pages child taken page) g h n lacks in (
                     alive,
                     ((cutting_pages child taken page), omega arith, lacks'),
@@ -299,42 +300,42 @@ module _ (tells : Bool) (E : Shape → List ℕ → List ℕ → Type 0) (t : �
                   ))
                   fault (cut_start v'' r acts')
 
-              module _ (v'' : PagesView) (acts' : (let r : Result (Unit {0}) PageFault = Ok tt in Acts tells (E v'.store.shape) t (cutting_pages child taken page) (cutting_parts after child m below taken page pairs) v' v'' r)) where
-                cut_acts : (let r : Result (Unit {0}) PageFault = Ok tt in Acts tells (E v0.store.shape) t (cutting_pages child taken page) (cutting_parts after child m below taken page pairs) v' v'' r)
+              module _ (v'' : PagesView) (acts' : (let r : Result (Unit {0}) PageFault = Ok tt in Acts tells (E v'.store.shape) t (cutting_pages child taken page) (cutting_parts after child m below key taken page pairs) v' v'' r)) where
+                cut_acts : (let r : Result (Unit {0}) PageFault = Ok tt in Acts tells (E v0.store.shape) t (cutting_pages child taken page) (cutting_parts after child m below key taken page pairs) v' v'' r)
                 cut_acts = (let r : Result (Unit {0}) PageFault = Ok tt in cut_start v'' r acts')
 
                 going2 : Going (tree_below page0 level0 most) tells (E v0.store.shape) t root.page root.table key v0 v''
-                going2 = going_act (tree_below page0 level0 most) tells (E v0.store.shape) t root.page root.table key v0 v' v'' going1 (cutting_pages child taken page) (cutting_parts after child m below taken page pairs) cut_may cut_acts (λ told running. cut_grown told)
+                going2 = going_act (tree_below page0 level0 most) tells (E v0.store.shape) t root.page root.table key v0 v' v'' going1 (cutting_pages child taken page) (cutting_parts after child m below key taken page pairs) cut_may cut_acts (λ told running. cut_grown told)
 
-                cut_bytes : IsTrue tells → v''.store.state.bytes ≡ (applied (cutting_parts after child m below taken page pairs) v'.store.state.bytes)
+                cut_bytes : IsTrue tells → v''.store.state.bytes ≡ (applied (cutting_parts after child m below key taken page pairs) v'.store.state.bytes)
                 cut_bytes told = cut_acts.made told living1
 
                 cut_fits : IsTrue tells → ActionFits v0.store t (index_pages_of v0.store.shape - used_pages v'.store.state.bytes) (cutting child (page_due v'.store.state.bytes 0) page)
                 cut_fits told = (cut_enough told, subst (λ (ps : List ℕ). FitAll v0.store t ps) (cut_pages told) (fits_same v0.store v'.store t going1.shape (going1.logs.ranges t) (cutting_pages child taken page) cut_acts.cause.1))
 
-                module _ (page2 : ℕ) (pairs2 : List Pair) (page2_is : page2 ≡ half_for below child taken key) (pairs2_are : pairs2 ≡ half_pairs below key) where
+                module _ (page2 : ℕ) (pairs2 : List Pair) (page2_is : page2 ≡ half_for below child taken key) (pairs2_are : pairs2 ≡ half_pairs m below key) where
                   half_is2 : IsTrue tells → page2 ≡ half_for (page_pairs v'.store.state.bytes child) child taken key
                   half_is2 told = page2_is ∙ ap (λ (ps : List Pair). half_for ps child taken key) (are1 told)
 
-                  half_way : (told : IsTrue tells) → IsOnWay root (applied (cutting_parts after child m below taken page pairs) v'.store.state.bytes) key (suc (walks1 told).d) page2 m pairs2
+                  half_way : (told : IsTrue tells) → IsOnWay root (applied (cutting_parts after child m below key taken page pairs) v'.store.state.bytes) key (suc (walks1 told).d) page2 m pairs2
                   half_way told =
                       let way = child_way v0.store root t (index_pages_of v0.store.shape) key (index_pages_of v0.store.shape - used_pages v0.store.state.bytes) (actions_below level0 v0.store.state.bytes page0 page0 0 key) most v'.store.state.bytes page m pairs (walks1 told) child child_is below (are1 told) in
                       record {
                         page_is = half_is2 told ∙ half_there v0.store.shape v'.store.state.bytes half (long1 told) half_is all few root front after taken key (walks1 told).d child m page below pairs fits (long_entries told) child_read parent_read (sound1 told) (named1 told) (says1 told) (takes told) (walks1 told).way child_is (are1 told) full s.room (used_less told);
                         level_is = cut_level v0.store.shape v'.store.state.bytes half (long1 told) half_is all few root front after taken key (walks1 told).d child m page below pairs fits (long_entries told) child_read parent_read (sound1 told) (named1 told) (says1 told) (takes told) (walks1 told).way child_is (are1 told) full s.room (used_less told) ∙ way.level_is;
-                        pairs_are = pairs2_are ∙ ap (λ (ps : List Pair). half_pairs ps key) (are1 told)
+                        pairs_are = pairs2_are ∙ ap (λ (ps : List Pair). half_pairs m ps key) (are1 told)
                             ∙ sym (half_says v0.store.shape v'.store.state.bytes half (long1 told) half_is all few root front after taken key (walks1 told).d child m page below pairs fits (long_entries told) child_read parent_read (sound1 told) (named1 told) (says1 told) (takes told) (walks1 told).way child_is (are1 told) full s.room (used_less told))
-                            ∙ ap (λ (x : ℕ). page_pairs (applied (cutting_parts after child m below taken page pairs) v'.store.state.bytes) x) (sym (half_is2 told));
+                            ∙ ap (λ (x : ℕ). page_pairs (applied (cutting_parts after child m below key taken page pairs) v'.store.state.bytes) x) (sym (half_is2 told));
                       }
 
-                  half_rest : IsTrue tells → actions_below m (applied (cutting_parts after child m below taken page pairs) v'.store.state.bytes) page2 page2 0 key ≡ actions_below m v'.store.state.bytes child page2 1 key
+                  half_rest : IsTrue tells → actions_below m (applied (cutting_parts after child m below key taken page pairs) v'.store.state.bytes) page2 page2 0 key ≡ actions_below m v'.store.state.bytes child page2 1 key
                   half_rest told =
-                      subst (λ (x : ℕ). actions_below m (applied (cutting_parts after child m below taken page pairs) v'.store.state.bytes) x x 0 key ≡ actions_below m v'.store.state.bytes child x 1 key) (sym (half_is2 told))
+                      subst (λ (x : ℕ). actions_below m (applied (cutting_parts after child m below key taken page pairs) v'.store.state.bytes) x x 0 key ≡ actions_below m v'.store.state.bytes child x 1 key) (sym (half_is2 told))
                       (half_left v0.store.shape v'.store.state.bytes half (long1 told) half_is all few root front after taken key (walks1 told).d child m page below pairs fits (long_entries told) child_read parent_read (sound1 told) (named1 told) (says1 told) (takes told) (walks1 told).way child_is (are1 told) full s.room (used_less told))
 
-                  half_walks : IsTrue tells → Walks v0.store root t (index_pages_of v0.store.shape) key (index_pages_of v0.store.shape - used_pages v0.store.state.bytes) (actions_below level0 v0.store.state.bytes page0 page0 0 key) most (applied (cutting_parts after child m below taken page pairs) v'.store.state.bytes) page2 m pairs2
+                  half_walks : IsTrue tells → Walks v0.store root t (index_pages_of v0.store.shape) key (index_pages_of v0.store.shape - used_pages v0.store.state.bytes) (actions_below level0 v0.store.state.bytes page0 page0 0 key) most (applied (cutting_parts after child m below key taken page pairs) v'.store.state.bytes) page2 m pairs2
                   half_walks told =
-                      walk_cut v0.store root t (index_pages_of v0.store.shape) key (index_pages_of v0.store.shape - used_pages v0.store.state.bytes) (actions_below level0 v0.store.state.bytes page0 page0 0 key) most v'.store.state.bytes page m pairs (walks1 told) child child_is (many told) (applied (cutting_parts after child m below taken page pairs) v'.store.state.bytes) page2 pairs2
+                      walk_cut v0.store root t (index_pages_of v0.store.shape) key (index_pages_of v0.store.shape - used_pages v0.store.state.bytes) (actions_below level0 v0.store.state.bytes page0 page0 0 key) most v'.store.state.bytes page m pairs (walks1 told) child child_is (many told) (applied (cutting_parts after child m below key taken page pairs) v'.store.state.bytes) page2 pairs2
                       (half_is2 told ∙ ap (λ (n : ℕ). half_for (page_pairs v'.store.state.bytes child) child n key) (taken_due told)) (cut_fits told) (cut_used v0.store.shape v'.store.state.bytes half (long1 told) half_is all few root front after taken key (walks1 told).d child m page below pairs fits (long_entries told) child_read parent_read (sound1 told) (named1 told) (says1 told) (takes told) (walks1 told).way child_is (are1 told) full s.room (used_less told)) (cut_most told) (half_way told) (half_rest told)
 
                   -- the split is the next action, and this is left behind it
@@ -348,13 +349,13 @@ module _ (tells : Bool) (E : Shape → List ℕ → List ℕ → Type 0) (t : �
                   -- after the split, the half that has the key is the next page on the way
                   pub stands_cut : (level2 : ℕ) → level2 ≡ m → Stands v'' after page2 level2 pairs2
                   stands_cut level2 level2_is =
-                      let half2 = half_read v0.store.shape below child taken key page2 pairs2 full child_read.small child_read.some child_read.inside taken_some taken_in page2_is pairs2_are in
+                      let half2 = half_read v0.store.shape m below child taken key page2 pairs2 full child_read.small child_read.some child_read.inside taken_some taken_in page2_is pairs2_are in
                       record {
                         front_is = after_is;
                         slot = λ none. (let e : front.next_slot < slots_of v0.store.shape = s.slot (sym after_free ∙ none) in omega (arith, e, after_slot));
-                        read = record { some = half2.some; inside = half2.inside; level_most = omega (arith, level2_is, child_read.level_most); most = omega (arith, half2.many); small = half2.small };
-                        some = λ inner. omega (arith, half2.many);
-                        room = omega (arith, half2.many);
+                        read = record { some = half2.some; inside = half2.inside; level_most = omega (arith, level2_is, child_read.level_most); most = omega (arith, half2.few); small = half2.small };
+                        some = λ inner. half2.many;
+                        room = half2.few;
                         going = going2;
                         says = λ told. subst (λ (b : List ℕ). SaysSuper (page_bytes b 0) after) (sym (cut_bytes told)) (cut_says v0.store.shape v'.store.state.bytes half (long1 told) half_is all few root front after taken key (walks1 told).d child m page below pairs fits (long_entries told) child_read parent_read (sound1 told) (named1 told) (says1 told) (takes told) (walks1 told).way child_is (are1 told) full s.room (used_less told));
                         slots_next = λ told. ap (λ (b : List ℕ). next_slot b) (cut_bytes told) ∙ (cut_after v0.store.shape v'.store.state.bytes half (long1 told) half_is all few root front after taken key (walks1 told).d child m page below pairs fits (long_entries told) child_read parent_read (sound1 told) (named1 told) (says1 told) (takes told) (walks1 told).way child_is (are1 told) full s.room (used_less told)).slots_next ∙ next1 told;

@@ -1,6 +1,6 @@
 -- What splitting a page does to the data.
 use Rattle.std.proofs.Common.{◌≡◌, ◌≢◌, ℕ, zero, suc, ◌+◌, ◌-◌, ◌*◌, ◌^◌, ◌<◌, ◌≤◌, true, false, nat_lt, inl, inr, List, [], ◌∷◌, length, take, drop, refl, sym, ◌∙◌, ap, subst, arith}
-use Rattle.std.specs.Prelude.{if◌then◌else◌}
+use Rattle.std.specs.Prelude.{if◌then◌else◌, Bool}
 use Rattle.std.proofs.lemmas.Bool.{cases_lt}
 use Rattle.std.proofs.lemmas.Bool.Decides.{leb_tells}
 use Rattle.std.proofs.lemmas.List.{length-take-le, length-drop}
@@ -13,7 +13,7 @@ use Rattle.record_slots.specs.Super.{SaysSuper, part_bytes}
 use Rattle.record_slots.specs.declared.super_page.Super.{Super}
 use Rattle.record_slots.specs.Places.{page_bytes, page_count, slot_at, slot_of, next_slot, next_page, free_pages, used_pages, slot_due, page_due, tables_of, IsSuper}
 use Rattle.page_store.specs.Index.{IsTable, index_pages_of, Grows, Rests}
-use Rattle.page_store.specs.Pairs.{Pair, inserted}
+use Rattle.page_store.specs.Pairs.{Pair, Rise, inserted}
 use Rattle.page_store.specs.Shown.{address}
 use Rattle.index_pages.specs.Adding.{TakesPage}
 use Rattle.index_pages.specs.Keys.{key_at, key_end}
@@ -38,11 +38,13 @@ use Rattle.btree_laws.proofs.Belonging.{StaysSplit, tree_stays_split}
 use Rattle.btree_laws.proofs.Splitting.{halves, sound_tree_splits, under_self, child_under}
 use Rattle.btree_laws.proofs.Ways.{Way, way_of, way_under, child_some, page_for_last}
 use Rattle.btree_pages.specs.OnWay.{IsOnWay}
-use Rattle.btree_pages.specs.Writes.{IsRead, cutting_parts}
-use Rattle.btree_pages.specs.Index.{tree, AreSoundTrees, half_pairs, actions_below}
+use Rattle.btree_pages.specs.Writes.{IsRead, cut_for, half_pairs, cutting_parts}
+use Rattle.btree_pages.specs.Index.{tree, AreSoundTrees, actions_below}
 use Rattle.index_pages.specs.Actions.{half_for}
 use Rattle.btree_pages.specs.Trees.{table_sound}
 use Rattle.btree_pages.proofs.Actions.{half_actions}
+use Rattle.btree_pages.proofs.Children.{rises_of}
+use Rattle.btree_pages.proofs.CutPlace.{cut_inside, cut_side}
 use Rattle.btree_pages.proofs.Descending.{Child, child_step}
 use Rattle.btree_pages.proofs.Entries.{with_inserted, entry_child}
 use Rattle.btree_pages.proofs.Halving.{AreWritten, are_written, is_half, takes_due, taken_says}
@@ -84,38 +86,42 @@ module _ (shape : Shape) (old : List ℕ) (half : ℕ) (long : length old ≡ da
     | inr none ↦ let f = due_next old laid.whole.pages 0 (omega (arith, none)) in (omega (arith, due, f, laid.whole.front.some_pages), omega (arith, due, f, none, left, half_is), omega (arith, due, f, none))
   ]
 
+  -- both pages have some of the pairs
+  inside : (1 ≤ cut_for level pairs key) × (cut_for level pairs key < 30)
+  inside = cut_inside level pairs key
+
   lower : List ℕ
-  lower = written_page level 0 (take 15 pairs)
+  lower = written_page level 0 (take (cut_for level pairs key) pairs)
 
   upper : List ℕ
-  upper = written_page level 0 (drop 15 pairs)
+  upper = written_page level 0 (drop (cut_for level pairs key) pairs)
 
   named : List ℕ
-  named = written_page (level + 1) 0 (inserted entries (key_at pairs 15) taken)
+  named = written_page (level + 1) 0 (inserted entries (key_at pairs (cut_for level pairs key)) taken)
 
   part : List ℕ
   part = part_bytes after
 
-  lower_few : length (take 15 pairs) ≤ 30
-  lower_few = omega (arith, length-take-le 15 pairs (omega arith))
+  lower_few : length (take (cut_for level pairs key) pairs) ≤ 30
+  lower_few = omega (arith, inside, length-take-le (cut_for level pairs key) pairs (omega (arith, inside, full)))
 
-  upper_few : length (drop 15 pairs) ≤ 30
-  upper_few = omega (arith, length-drop 15 pairs)
+  upper_few : length (drop (cut_for level pairs key) pairs) ≤ 30
+  upper_few = omega (arith, length-drop (cut_for level pairs key) pairs, full)
 
-  named_few : length (inserted entries (key_at pairs 15) taken) ≤ 30
-  named_few = omega (arith, length-inserted (key_at pairs 15) taken entries)
+  named_few : length (inserted entries (key_at pairs (cut_for level pairs key)) taken) ≤ 30
+  named_few = omega (arith, length-inserted (key_at pairs (cut_for level pairs key)) taken entries)
 
   len1 : length lower ≡ 512
   unfolding lower
-  len1 = length-written_page level 0 (take 15 pairs) lower_few (omega (arith, read.level_most))
+  len1 = length-written_page level 0 (take (cut_for level pairs key) pairs) lower_few (omega (arith, read.level_most))
 
   len2 : length upper ≡ 512
   unfolding upper
-  len2 = length-written_page level 0 (drop 15 pairs) upper_few (omega (arith, read.level_most))
+  len2 = length-written_page level 0 (drop (cut_for level pairs key) pairs) upper_few (omega (arith, read.level_most))
 
   len3 : length named ≡ 512
   unfolding named
-  len3 = length-written_page (level + 1) 0 (inserted entries (key_at pairs 15) taken) named_few (omega (arith, above_read.level_most))
+  len3 = length-written_page (level + 1) 0 (inserted entries (key_at pairs (cut_for level pairs key)) taken) named_few (omega (arith, above_read.level_most))
 
   after_long : length after.entries ≡ 256
   after_long = ap (λ (es : List ℕ). length es) (took.entries_are ∙ sym says.entries) ∙ entries_long
@@ -176,18 +182,18 @@ module _ (shape : Shape) (old : List ℕ) (half : ℕ) (long : length old ≡ da
   other same = omega (arith, level_page, level_parent, ap (λ (x : ℕ). level_of old x) same)
 
   cut : List ℕ
-  cut = applied (cutting_parts after page level pairs taken parent entries) old
+  cut = applied (cutting_parts after page level pairs key taken parent entries) old
 
   written : AreWritten old cut half page taken parent lower upper named part
   unfolding cut lower upper named part
-  written = are_written old half laid.size page taken parent (written_page level 0 (take 15 pairs)) (written_page level 0 (drop 15 pairs)) (written_page (level + 1) 0 (inserted entries (key_at pairs 15) taken)) (part_bytes after)
+  written = are_written old half laid.size page taken parent (written_page level 0 (take (cut_for level pairs key) pairs)) (written_page level 0 (drop (cut_for level pairs key) pairs)) (written_page (level + 1) 0 (inserted entries (key_at pairs (cut_for level pairs key)) taken)) (part_bytes after)
       (own_page.0, omega (arith, own_page, laid.given_most)) (omega (arith, taken_in), taken_in.1) (own_parent.0, omega (arith, own_parent, laid.given_most)) (fresh page page_under) other (λ e. fresh parent parent_under (sym e)) len1 len2 len3 len4
 
   -- the other pages and the slots are as they were
   cut_others : (x : ℕ) → 1 ≤ x → x ≢ parent → x ≢ page → x ≢ taken → page_bytes cut x ≡ page_bytes old x
   cut_others x some no_parent no_page no_taken = written.others x some no_page no_taken no_parent
 
-  pub cut_slots : (j : ℕ) → slot_of (applied (cutting_parts after page level pairs taken parent entries) old) j ≡ slot_of old j
+  pub cut_slots : (j : ℕ) → slot_of (applied (cutting_parts after page level pairs key taken parent entries) old) j ≡ slot_of old j
   unfolding cut
   cut_slots = written.slots
 
@@ -220,18 +226,18 @@ module _ (shape : Shape) (old : List ℕ) (half : ℕ) (long : length old ≡ da
     carried = λ t p lt carries. carries_on old cut t p (cut_slots p.1) carries;
   }
 
-  lower_half : IsHalf old cut page page (take 15 (page_pairs old page))
+  lower_half : IsHalf old cut page page (take (cut_for level pairs key) (page_pairs old page))
   unfolding lower
-  lower_half = is_half old cut page page level (take 15 pairs) (take 15 (page_pairs old page)) written.first lower_few read.level_most (small_take 15 pairs read.small).0
-      (tree_kind root level old page child.from child.to page_tree) level_page (ap (take 15) pairs_are)
+  lower_half = is_half old cut page page level (take (cut_for level pairs key) pairs) (take (cut_for level pairs key) (page_pairs old page)) written.first lower_few read.level_most (small_take (cut_for level pairs key) pairs read.small).0
+      (tree_kind root level old page child.from child.to page_tree) level_page (ap (take (cut_for level pairs key)) pairs_are)
 
-  upper_half : IsHalf old cut page taken (drop 15 (page_pairs old page))
+  upper_half : IsHalf old cut page taken (drop (cut_for level pairs key) (page_pairs old page))
   unfolding upper
-  upper_half = is_half old cut page taken level (drop 15 pairs) (drop 15 (page_pairs old page)) written.second upper_few read.level_most (small_take 15 pairs read.small).1
-      (tree_kind root level old page child.from child.to page_tree) level_page (ap (drop 15) pairs_are)
+  upper_half = is_half old cut page taken level (drop (cut_for level pairs key) pairs) (drop (cut_for level pairs key) (page_pairs old page)) written.second upper_few read.level_most (small_take (cut_for level pairs key) pairs read.small).1
+      (tree_kind root level old page child.from child.to page_tree) level_page (ap (drop (cut_for level pairs key)) pairs_are)
 
-  is_cut : IsCut old cut page page taken
-  is_cut = record { full = ap (λ (ps : List Pair). length ps) (sym pairs_are) ∙ full; left_is = lower_half; right_is = upper_half }
+  is_cut : IsCut old cut page page taken (cut_for level pairs key)
+  is_cut = record { full = ap (λ (ps : List Pair). length ps) (sym pairs_are) ∙ full; some = inside.0; less = inside.1; left_is = lower_half; right_is = upper_half }
 
   -- the other pages of the tree
   tree_others : (x : ℕ) → IsPageOfTree old root.page x → x ≢ parent → x ≢ page → page_bytes cut x ≡ page_bytes old x
@@ -250,32 +256,33 @@ module _ (shape : Shape) (old : List ℕ) (half : ℕ) (long : length old ≡ da
       let sub = sub_of root level old x page a b t u in
       tree_others x (under_page x u) (λ e. omega (arith, ap (λ (y : ℕ). level_of old y) e, level_parent, tree_level root sub.m old x sub.from sub.to sub.tree, sub.most)) ne
 
-  within : (a b : ℕ) → IsTree root level old page a b → (a ≤ key_at (page_pairs old page) 15) × (key_at (page_pairs old page) 15 < b)
-  within a b t = let h = halves root old cut keeps level page page taken a b t is_cut (below_page a b t) in (omega (arith, h.above), h.below)
+  within : (a b : ℕ) → IsTree root level old page a b → (a ≤ key_at (page_pairs old page) (cut_for level pairs key)) × (key_at (page_pairs old page) (cut_for level pairs key) < b)
+  within a b t = let h = halves root old cut keeps level page page taken (cut_for level pairs key) a b t is_cut (below_page a b t) in (omega (arith, h.above), h.below)
 
-  named_small : AreSmall (inserted entries (key_at pairs 15) taken)
-  named_small = small_inserted (key_at pairs 15) taken entries above_read.small (small_at 15 pairs (omega (arith, full)) read.small) (omega (arith, taken_in, few))
+  named_small : AreSmall (inserted entries (key_at pairs (cut_for level pairs key)) taken)
+  named_small = small_inserted (key_at pairs (cut_for level pairs key)) taken entries above_read.small (small_at (cut_for level pairs key) pairs (omega (arith, full, inside)) read.small) (omega (arith, taken_in, few))
 
   one_more : level + 1 ≡ suc level
   one_more = omega arith
 
-  named_pairs : page_pairs cut parent ≡ with_entry (page_pairs old parent) key (middle old page, taken)
+  named_pairs : page_pairs cut parent ≡ with_entry (page_pairs old parent) key (middle old page (cut_for level pairs key), taken)
   unfolding named
   named_pairs =
-      ap pairs_said written.third ∙ written_pairs (level + 1) 0 (inserted entries (key_at pairs 15) taken) named_few (omega (arith, above_read.level_most)) named_small
-      ∙ ap (λ (ps : List Pair). inserted entries (key_at ps 15) taken) pairs_are ∙ ap (λ (ps : List Pair). inserted ps (key_at (page_pairs old page) 15) taken) way.pairs_are
-      ∙ with_inserted root level old (page_pairs old parent) parent_way.to key (key_at (page_pairs old page) 15) taken entries_some parent_way.tree.0.children parent_way.tree.1 (omega (arith, start, parent_way.from_key)) parent_way.key_to
+      ap pairs_said written.third ∙ written_pairs (level + 1) 0 (inserted entries (key_at pairs (cut_for level pairs key)) taken) named_few (omega (arith, above_read.level_most)) named_small
+      ∙ ap (λ (ps : List Pair). inserted entries (key_at ps (cut_for level pairs key)) taken) pairs_are ∙ ap (λ (ps : List Pair). inserted ps (key_at (page_pairs old page) (cut_for level pairs key)) taken) way.pairs_are
+      ∙ with_inserted root level old (page_pairs old parent) parent_way.to key (key_at (page_pairs old page) (cut_for level pairs key)) taken entries_some parent_way.tree.0.children parent_way.tree.1 (omega (arith, start, parent_way.from_key)) parent_way.key_to
       (λ a b t. within a b (subst (λ (x : ℕ). IsTree root level old x a b) (sym page_there) t))
 
   cut_splits : SplitsChild root old cut parent key taken
   unfolding named
   cut_splits = record {
+    place = (cut_for level pairs key);
     room = omega (arith, room, ap (λ (ps : List Pair). length ps) way.pairs_are, length-page_pairs old parent);
-    kind = ap kind_said written.third ∙ written_kind (level + 1) 0 (inserted entries (key_at pairs 15) taken) named_few (omega (arith, above_read.level_most)) ∙ ap kind_for one_more;
-    level = ap level_said written.third ∙ written_level (level + 1) 0 (inserted entries (key_at pairs 15) taken) named_few (omega (arith, above_read.level_most)) ∙ one_more ∙ sym level_parent;
-    link = ap link_said written.third ∙ written_link (level + 1) 0 (inserted entries (key_at pairs 15) taken) named_few (omega (arith, above_read.level_most));
-    pairs = named_pairs ∙ ap (λ (x : ℕ). with_entry (page_pairs old parent) key (middle old x, taken)) page_there;
-    cut = subst (λ (x : ℕ). IsCut old cut x x taken) page_there is_cut;
+    kind = ap kind_said written.third ∙ written_kind (level + 1) 0 (inserted entries (key_at pairs (cut_for level pairs key)) taken) named_few (omega (arith, above_read.level_most)) ∙ ap kind_for one_more;
+    level = ap level_said written.third ∙ written_level (level + 1) 0 (inserted entries (key_at pairs (cut_for level pairs key)) taken) named_few (omega (arith, above_read.level_most)) ∙ one_more ∙ sym level_parent;
+    link = ap link_said written.third ∙ written_link (level + 1) 0 (inserted entries (key_at pairs (cut_for level pairs key)) taken) named_few (omega (arith, above_read.level_most));
+    pairs = named_pairs ∙ ap (λ (x : ℕ). with_entry (page_pairs old parent) key (middle old x (cut_for level pairs key), taken)) page_there;
+    cut = subst (λ (x : ℕ). IsCut old cut x x taken (cut_for level pairs key)) page_there is_cut;
     two = taken_in.0;
     other = λ e. fresh root.page (under_self (level_of old root.page) old root.page) (sym e);
     given = omega (arith, lists_now.pages_next, taken_in.2);
@@ -305,12 +312,12 @@ module _ (shape : Shape) (old : List ℕ) (half : ℕ) (long : length old ≡ da
       (λ e. tables_apart old two root x sound is table differ u (subst (λ (y : ℕ). IsPageOfTree old root.page y) (sym e) page_under))
       (λ e. due_apart old two x 0 laid.whole.pages t u (e ∙ due))
 
-  pub cut_sound : AreSoundTrees (applied (cutting_parts after page level pairs taken parent entries) old)
+  pub cut_sound : AreSoundTrees (applied (cutting_parts after page level pairs key taken parent entries) old)
   unfolding cut
   cut_sound = one_changed old cut root sound table says_all.1 lists_now.slots lists_now.pages says_all.2 keeps cut_tree.0 tables_others
 
   -- what splitting a page does to the data
-  pub cutting_grows : Grows tree root.page old (applied (cutting_parts after page level pairs taken parent entries) old) × Rests tree root.page old (applied (cutting_parts after page level pairs taken parent entries) old)
+  pub cutting_grows : Grows tree root.page old (applied (cutting_parts after page level pairs key taken parent entries) old) × Rests tree root.page old (applied (cutting_parts after page level pairs key taken parent entries) old)
   unfolding cut
   cutting_grows = (
     record {
@@ -345,15 +352,15 @@ module _ (shape : Shape) (old : List ℕ) (half : ℕ) (long : length old ≡ da
           let f = due_next old laid.whole.pages 0 none in
           omega (arith, due, f, lists_now.pages_next, from, to)
 
-  pub cut_after : IsAfter old (applied (cutting_parts after page level pairs taken parent entries) old) 1
+  pub cut_after : IsAfter old (applied (cutting_parts after page level pairs key taken parent entries) old) 1
   unfolding cut
   cut_after = lists_now
 
-  pub cut_says : SaysSuper (page_bytes (applied (cutting_parts after page level pairs taken parent entries) old) 0) after
+  pub cut_says : SaysSuper (page_bytes (applied (cutting_parts after page level pairs key taken parent entries) old) 0) after
   unfolding cut
   cut_says = says_all.0
 
-  pub cut_size : length (applied (cutting_parts after page level pairs taken parent entries) old) ≡ length old
+  pub cut_size : length (applied (cutting_parts after page level pairs key taken parent entries) old) ≡ length old
   unfolding cut
   cut_size = written.size
 
@@ -362,36 +369,43 @@ module _ (shape : Shape) (old : List ℕ) (half : ℕ) (long : length old ≡ da
   cut_due = due
 
   -- one page less is left
-  pub cut_used : used_pages (applied (cutting_parts after page level pairs taken parent entries) old) ≡ used_pages old + 1
+  pub cut_used : used_pages (applied (cutting_parts after page level pairs key taken parent entries) old) ≡ used_pages old + 1
   unfolding cut
   cut_used = after_pages old cut 1 lists_now (omega (arith, laid.free_few))
 
   -- the root keeps its level
-  pub cut_level : level_of (applied (cutting_parts after page level pairs taken parent entries) old) root.page ≡ level_of old root.page
+  pub cut_level : level_of (applied (cutting_parts after page level pairs key taken parent entries) old) root.page ≡ level_of old root.page
   unfolding cut
   cut_level = stays.level
 
+  side : nat_lt key (key_at (page_pairs old page) (cut_for level pairs key)) ≡ nat_lt key (key_at (page_pairs old page) 15)
+  side =
+      let r = rises_of root level old page child.from child.to page_tree in
+      subst (λ (ps : List Pair). nat_lt key (key_at ps (cut_for level pairs key)) ≡ nat_lt key (key_at ps 15)) pairs_are
+      (cut_side level key r.0 r.1 pairs full (subst (λ (ps : List Pair). Rise r.0 r.1 ps) (sym pairs_are) r.2))
+
   -- the half that has the key is now on its way, and has room
-  pub half_there : half_for (page_pairs old page) page taken key ≡ page_for (suc d) (applied (cutting_parts after page level pairs taken parent entries) old) root.page key
+  pub half_there : half_for (page_pairs old page) page taken key ≡ page_for (suc d) (applied (cutting_parts after page level pairs key taken parent entries) old) root.page key
   unfolding cut
   half_there =
       ap (λ (x : ℕ). if nat_lt key (key_at (page_pairs old page) 15) then x else taken) page_there
+      ∙ ap (λ (b : Bool). if b then child_for (page_pairs old parent) key else taken) (sym side)
       ∙ sym (page_for_last d cut root.page key ∙ ap (λ (q : ℕ). child_for (page_pairs cut q) key) (stays.way ∙ sym way.page_is) ∙ ap (λ (ps : List Pair). child_for ps key) named_pairs
-      ∙ entry_child (page_pairs old parent) key (middle old page) taken entries_some)
+      ∙ entry_child (page_pairs old parent) key (middle old page (cut_for level pairs key)) taken entries_some)
 
-  pub half_says : page_pairs (applied (cutting_parts after page level pairs taken parent entries) old) (half_for (page_pairs old page) page taken key) ≡ half_pairs (page_pairs old page) key
+  pub half_says : page_pairs (applied (cutting_parts after page level pairs key taken parent entries) old) (half_for (page_pairs old page) page taken key) ≡ half_pairs level (page_pairs old page) key
   unfolding cut
   half_says = elim (leb_tells (suc key) (key_at (page_pairs old page) 15)) [
-    | inl h ↦ let b : nat_lt key (key_at (page_pairs old page) 15) ≡ true = h.0 in rw b lower_half.pairs_are
-    | inr h ↦ let b : nat_lt key (key_at (page_pairs old page) 15) ≡ false = h.0 in rw b upper_half.pairs_are
+    | inl h ↦ let b : nat_lt key (key_at (page_pairs old page) 15) ≡ true = h.0 in rw b (lower_half.pairs_are ∙ ap (λ (ps : List Pair). take (cut_for level ps key) (page_pairs old page)) pairs_are)
+    | inr h ↦ let b : nat_lt key (key_at (page_pairs old page) 15) ≡ false = h.0 in rw b (upper_half.pairs_are ∙ ap (λ (ps : List Pair). drop (cut_for level ps key) (page_pairs old page)) pairs_are)
   ]
 
   -- what is left to do after the split is what is to do from that half on
-  pub half_left : actions_below level (applied (cutting_parts after page level pairs taken parent entries) old) (half_for (page_pairs old page) page taken key)
+  pub half_left : actions_below level (applied (cutting_parts after page level pairs key taken parent entries) old) (half_for (page_pairs old page) page taken key)
       (half_for (page_pairs old page) page taken key) 0 key
       ≡ actions_below level old page (half_for (page_pairs old page) page taken key) 1 key
   unfolding cut
   half_left =
-      half_actions root old cut 1 (after_due old cut 1 lists_now) written.size lists_now.due page page taken key is_cut level child.from child.to page_tree child.from_key child.key_to (below_page child.from child.to page_tree)
+      half_actions root old cut 1 (after_due old cut 1 lists_now) written.size lists_now.due page page taken (cut_for level pairs key) key is_cut side level child.from child.to page_tree child.from_key child.key_to (below_page child.from child.to page_tree)
       (half_for (page_pairs old page) page taken key) 0
       ∙ ap (λ (n : ℕ). actions_below level old page (half_for (page_pairs old page) page taken key) n key) (let z : 1 + 0 ≡ 1 = omega arith in z)

@@ -1,5 +1,6 @@
 -- What splitting the root does to the data.
 use Rattle.std.proofs.Common.{◌≡◌, ◌≢◌, ℕ, zero, suc, ◌+◌, ◌-◌, ◌*◌, ◌^◌, ◌<◌, ◌≤◌, true, false, nat_lt, inl, inr, List, [], ◌∷◌, length, take, drop, refl, sym, ◌∙◌, ap, subst, arith}
+use Rattle.std.specs.Prelude.{if◌then◌else◌, Bool}
 use Rattle.std.proofs.lemmas.Bool.{cases_lt}
 use Rattle.std.proofs.lemmas.Bool.Decides.{leb_tells}
 use Rattle.std.proofs.lemmas.List.{length-take-le, length-drop}
@@ -12,7 +13,7 @@ use Rattle.record_slots.specs.Super.{SaysSuper, part_bytes}
 use Rattle.record_slots.specs.declared.super_page.Super.{Super}
 use Rattle.record_slots.specs.Places.{page_bytes, page_count, slot_at, slot_of, next_slot, next_page, free_pages, used_pages, slot_due, page_due, tables_of, IsSuper}
 use Rattle.page_store.specs.Index.{IsTable, index_pages_of, Grows, Rests}
-use Rattle.page_store.specs.Pairs.{Pair}
+use Rattle.page_store.specs.Pairs.{Pair, Rise}
 use Rattle.page_store.specs.Shown.{address}
 use Rattle.index_pages.specs.Adding.{TakesPage}
 use Rattle.index_pages.specs.Keys.{key_at, key_end}
@@ -32,11 +33,13 @@ use Rattle.btree_laws.specs.TreeFacts.{under_own}
 use Rattle.btree_laws.specs.declared.root.Root.{Root}
 use Rattle.btree_laws.proofs.Belonging.{StaysGrown, tree_stays_grown}
 use Rattle.btree_laws.proofs.Splitting.{sound_tree_grows, under_self}
-use Rattle.btree_pages.specs.Writes.{IsRead, growing_parts}
-use Rattle.btree_pages.specs.Index.{tree, AreSoundTrees, half_pairs, actions_below}
+use Rattle.btree_pages.specs.Writes.{IsRead, cut_for, half_pairs, growing_parts}
+use Rattle.btree_pages.specs.Index.{tree, AreSoundTrees, actions_below}
 use Rattle.index_pages.specs.Actions.{half_for}
 use Rattle.btree_pages.specs.Trees.{table_sound}
 use Rattle.btree_pages.proofs.Actions.{half_actions}
+use Rattle.btree_pages.proofs.Children.{rises_of}
+use Rattle.btree_pages.proofs.CutPlace.{cut_inside, cut_side}
 use Rattle.btree_pages.proofs.Halving.{AreWritten, are_written, is_half, takes_due, taken_says}
 use Rattle.btree_pages.proofs.LaidOut.{LaidOut, laid_out}
 use Rattle.btree_pages.proofs.Others.{due_apart, free_apart, tables_apart, one_changed, others_untouched}
@@ -82,38 +85,42 @@ module _ (shape : Shape) (old : List ℕ) (half : ℕ) (long : length old ≡ da
   differ : left ≢ right
   differ same = dues_differ old laid.whole.pages 0 1 (omega arith) (sym left_due ∙ same ∙ right_due)
 
+  -- both pages have some of the pairs
+  inside : (1 ≤ cut_for level pairs key) × (cut_for level pairs key < 30)
+  inside = cut_inside level pairs key
+
   lower : List ℕ
-  lower = written_page level 0 (take 15 pairs)
+  lower = written_page level 0 (take (cut_for level pairs key) pairs)
 
   upper : List ℕ
-  upper = written_page level 0 (drop 15 pairs)
+  upper = written_page level 0 (drop (cut_for level pairs key) pairs)
 
   named : List ℕ
-  named = written_page (level + 1) 0 ((0, left) ∷ (key_at pairs 15, right) ∷ [])
+  named = written_page (level + 1) 0 ((0, left) ∷ (key_at pairs (cut_for level pairs key), right) ∷ [])
 
   part : List ℕ
   part = part_bytes after
 
-  lower_few : length (take 15 pairs) ≤ 30
-  lower_few = omega (arith, length-take-le 15 pairs (omega (arith, full)))
+  lower_few : length (take (cut_for level pairs key) pairs) ≤ 30
+  lower_few = omega (arith, inside, length-take-le (cut_for level pairs key) pairs (omega (arith, full, inside)))
 
-  upper_few : length (drop 15 pairs) ≤ 30
-  upper_few = omega (arith, length-drop 15 pairs, full)
+  upper_few : length (drop (cut_for level pairs key) pairs) ≤ 30
+  upper_few = omega (arith, length-drop (cut_for level pairs key) pairs, full)
 
-  named_few : length {A = Pair} ((0, left) ∷ (key_at pairs 15, right) ∷ []) ≤ 30
+  named_few : length {A = Pair} ((0, left) ∷ (key_at pairs (cut_for level pairs key), right) ∷ []) ≤ 30
   named_few = omega arith
 
   len1 : length lower ≡ 512
   unfolding lower
-  len1 = length-written_page level 0 (take 15 pairs) lower_few (omega arith)
+  len1 = length-written_page level 0 (take (cut_for level pairs key) pairs) lower_few (omega arith)
 
   len2 : length upper ≡ 512
   unfolding upper
-  len2 = length-written_page level 0 (drop 15 pairs) upper_few (omega arith)
+  len2 = length-written_page level 0 (drop (cut_for level pairs key) pairs) upper_few (omega arith)
 
   len3 : length named ≡ 512
   unfolding named
-  len3 = length-written_page (level + 1) 0 ((0, left) ∷ (key_at pairs 15, right) ∷ []) named_few (omega arith)
+  len3 = length-written_page (level + 1) 0 ((0, left) ∷ (key_at pairs (cut_for level pairs key), right) ∷ []) named_few (omega arith)
 
   after_long : length after.entries ≡ 256
   after_long = ap (λ (es : List ℕ). length es) (took.entries_are ∙ sym says.entries) ∙ entries_long
@@ -139,11 +146,11 @@ module _ (shape : Shape) (old : List ℕ) (half : ℕ) (long : length old ≡ da
   not_right x u same = due_apart old root x 1 laid.whole.pages laid.root_sound u (same ∙ right_due)
 
   grown : List ℕ
-  grown = applied (growing_parts after left right root.page level pairs) old
+  grown = applied (growing_parts after left right root.page level pairs key) old
 
   written : AreWritten old grown half left right root.page lower upper named part
   unfolding grown lower upper named part
-  written = are_written old half laid.size left right root.page (written_page level 0 (take 15 pairs)) (written_page level 0 (drop 15 pairs)) (written_page (level + 1) 0 ((0, left) ∷ (key_at pairs 15, right) ∷ [])) (part_bytes after)
+  written = are_written old half laid.size left right root.page (written_page level 0 (take (cut_for level pairs key) pairs)) (written_page level 0 (drop (cut_for level pairs key) pairs)) (written_page (level + 1) 0 ((0, left) ∷ (key_at pairs (cut_for level pairs key), right) ∷ [])) (part_bytes after)
       (omega (arith, left_in), left_in.1) (omega (arith, right_in), right_in.1) (root_in.0, omega (arith, root_in, laid.given_most)) differ (λ e. not_left root.page root_under (sym e)) (λ e. not_right root.page root_under (sym e)) len1 len2 len3 len4
 
   grown_long : length grown ≡ length old
@@ -178,37 +185,38 @@ module _ (shape : Shape) (old : List ℕ) (half : ℕ) (long : length old ≡ da
     carried = λ t p lt carries. carries_on old grown t p (written.slots p.1) carries;
   }
 
-  lower_half : IsHalf old grown root.page left (take 15 (page_pairs old root.page))
+  lower_half : IsHalf old grown root.page left (take (cut_for level pairs key) (page_pairs old root.page))
   unfolding lower
-  lower_half = is_half old grown root.page left level (take 15 pairs) (take 15 (page_pairs old root.page)) written.first lower_few (omega (arith, less)) (small_take 15 pairs read.small).0
-      (tree_kind root level old root.page 0 key_end root_tree) level_is (ap (take 15) pairs_are)
+  lower_half = is_half old grown root.page left level (take (cut_for level pairs key) pairs) (take (cut_for level pairs key) (page_pairs old root.page)) written.first lower_few (omega (arith, less)) (small_take (cut_for level pairs key) pairs read.small).0
+      (tree_kind root level old root.page 0 key_end root_tree) level_is (ap (take (cut_for level pairs key)) pairs_are)
 
-  upper_half : IsHalf old grown root.page right (drop 15 (page_pairs old root.page))
+  upper_half : IsHalf old grown root.page right (drop (cut_for level pairs key) (page_pairs old root.page))
   unfolding upper
-  upper_half = is_half old grown root.page right level (drop 15 pairs) (drop 15 (page_pairs old root.page)) written.second upper_few (omega (arith, less)) (small_take 15 pairs read.small).1
-      (tree_kind root level old root.page 0 key_end root_tree) level_is (ap (drop 15) pairs_are)
+  upper_half = is_half old grown root.page right level (drop (cut_for level pairs key) pairs) (drop (cut_for level pairs key) (page_pairs old root.page)) written.second upper_few (omega (arith, less)) (small_take (cut_for level pairs key) pairs read.small).1
+      (tree_kind root level old root.page 0 key_end root_tree) level_is (ap (drop (cut_for level pairs key)) pairs_are)
 
-  is_cut : IsCut old grown root.page left right
-  is_cut = record { full = ap (λ (ps : List Pair). length ps) (sym pairs_are) ∙ full; left_is = lower_half; right_is = upper_half }
+  is_cut : IsCut old grown root.page left right (cut_for level pairs key)
+  is_cut = record { full = ap (λ (ps : List Pair). length ps) (sym pairs_are) ∙ full; some = inside.0; less = inside.1; left_is = lower_half; right_is = upper_half }
 
   one_more : level + 1 ≡ suc level
   one_more = omega arith
 
-  named_small : AreSmall ((0, left) ∷ (key_at pairs 15, right) ∷ [])
-  named_small = (omega arith, omega (arith, left_in, few), (small_at 15 pairs (omega (arith, full)) read.small, omega (arith, right_in, few), tt))
+  named_small : AreSmall ((0, left) ∷ (key_at pairs (cut_for level pairs key), right) ∷ [])
+  named_small = (omega arith, omega (arith, left_in, few), (small_at (cut_for level pairs key) pairs (omega (arith, full, inside)) read.small, omega (arith, right_in, few), tt))
 
-  named_pairs : page_pairs grown root.page ≡ (0, left) ∷ (middle old root.page, right) ∷ []
+  named_pairs : page_pairs grown root.page ≡ (0, left) ∷ (middle old root.page (cut_for level pairs key), right) ∷ []
   unfolding named
   named_pairs =
-      ap pairs_said written.third ∙ written_pairs (level + 1) 0 ((0, left) ∷ (key_at pairs 15, right) ∷ []) named_few (omega arith) named_small
-      ∙ ap (λ (ps : List Pair). (0, left) ∷ (key_at ps 15, right) ∷ []) pairs_are
+      ap pairs_said written.third ∙ written_pairs (level + 1) 0 ((0, left) ∷ (key_at pairs (cut_for level pairs key), right) ∷ []) named_few (omega arith) named_small
+      ∙ ap (λ (ps : List Pair). (0, left) ∷ (key_at ps (cut_for level pairs key), right) ∷ []) pairs_are
 
   splits : SplitsRoot root old grown left right
   unfolding named
   splits = record {
-    kind = ap kind_said written.third ∙ written_kind (level + 1) 0 ((0, left) ∷ (key_at pairs 15, right) ∷ []) named_few (omega arith) ∙ ap kind_for one_more;
-    level = ap level_said written.third ∙ written_level (level + 1) 0 ((0, left) ∷ (key_at pairs 15, right) ∷ []) named_few (omega arith) ∙ one_more ∙ ap suc (sym level_is);
-    link = ap link_said written.third ∙ written_link (level + 1) 0 ((0, left) ∷ (key_at pairs 15, right) ∷ []) named_few (omega arith);
+    place = (cut_for level pairs key);
+    kind = ap kind_said written.third ∙ written_kind (level + 1) 0 ((0, left) ∷ (key_at pairs (cut_for level pairs key), right) ∷ []) named_few (omega arith) ∙ ap kind_for one_more;
+    level = ap level_said written.third ∙ written_level (level + 1) 0 ((0, left) ∷ (key_at pairs (cut_for level pairs key), right) ∷ []) named_few (omega arith) ∙ one_more ∙ ap suc (sym level_is);
+    link = ap link_said written.third ∙ written_link (level + 1) 0 ((0, left) ∷ (key_at pairs (cut_for level pairs key), right) ∷ []) named_few (omega arith);
     pairs = named_pairs;
     cut = is_cut;
     two = left_in.0;
@@ -241,7 +249,7 @@ module _ (shape : Shape) (old : List ℕ) (half : ℕ) (long : length old ≡ da
       (λ e. due_apart old two x 1 laid.whole.pages t u (e ∙ right_due))
 
   -- the root is one level up
-  pub grown_level : level_of (applied (growing_parts after left right root.page level pairs) old) root.page ≡ suc level
+  pub grown_level : level_of (applied (growing_parts after left right root.page level pairs key) old) root.page ≡ suc level
   unfolding grown
   grown_level = splits.level ∙ ap suc level_is
 
@@ -252,7 +260,7 @@ module _ (shape : Shape) (old : List ℕ) (half : ℕ) (long : length old ≡ da
   due_named (suc (suc i)) lt x is = absurd (omega arith)
 
   -- what splitting the root does to the data
-  pub growing_grows : Grows tree root.page old (applied (growing_parts after left right root.page level pairs) old) × Rests tree root.page old (applied (growing_parts after left right root.page level pairs) old)
+  pub growing_grows : Grows tree root.page old (applied (growing_parts after left right root.page level pairs key) old) × Rests tree root.page old (applied (growing_parts after left right root.page level pairs key) old)
   unfolding grown
   growing_grows = (
     record {
@@ -284,7 +292,7 @@ module _ (shape : Shape) (old : List ℕ) (half : ℕ) (long : length old ≡ da
     },
   )
 
-  pub grown_says : SaysSuper (page_bytes (applied (growing_parts after left right root.page level pairs) old) 0) after
+  pub grown_says : SaysSuper (page_bytes (applied (growing_parts after left right root.page level pairs key) old) 0) after
   unfolding grown
   grown_says = says_all.0
 
@@ -292,33 +300,39 @@ module _ (shape : Shape) (old : List ℕ) (half : ℕ) (long : length old ≡ da
   pub grown_dues : (left ≡ page_due old 0) × (right ≡ page_due old 1)
   grown_dues = (left_due, right_due)
 
-  pub grown_slots : (next_slot (applied (growing_parts after left right root.page level pairs) old) ≡ next_slot old) × (next_page (applied (growing_parts after left right root.page level pairs) old) ≤ next_page old + 2)
+  pub grown_slots : (next_slot (applied (growing_parts after left right root.page level pairs key) old) ≡ next_slot old) × (next_page (applied (growing_parts after left right root.page level pairs key) old) ≤ next_page old + 2)
   unfolding grown
   grown_slots = (lists_now.slots_next, omega (arith, lists_now.pages_next))
 
   -- two pages less are left
-  pub grown_used : used_pages (applied (growing_parts after left right root.page level pairs) old) ≡ used_pages old + 2
+  pub grown_used : used_pages (applied (growing_parts after left right root.page level pairs key) old) ≡ used_pages old + 2
   unfolding grown
   grown_used = after_pages old grown 2 lists_now (omega (arith, laid.free_few))
 
-  -- the half that has the key is the root's child for it, and has what is left to do
-  pub grown_half : half_for (page_pairs old root.page) left right key ≡ page_for 1 (applied (growing_parts after left right root.page level pairs) old) root.page key
-  unfolding grown
-  grown_half = sym (ap (λ (ps : List Pair). child_for ps key) named_pairs)
+  side : nat_lt key (key_at (page_pairs old root.page) (cut_for level pairs key)) ≡ nat_lt key (key_at (page_pairs old root.page) 15)
+  side =
+      let r = rises_of root level old root.page 0 key_end root_tree in
+      subst (λ (ps : List Pair). nat_lt key (key_at ps (cut_for level pairs key)) ≡ nat_lt key (key_at ps 15)) pairs_are
+      (cut_side level key r.0 r.1 pairs full (subst (λ (ps : List Pair). Rise r.0 r.1 ps) (sym pairs_are) r.2))
 
-  pub grown_pairs : page_pairs (applied (growing_parts after left right root.page level pairs) old) (half_for (page_pairs old root.page) left right key) ≡ half_pairs (page_pairs old root.page) key
+  -- the half that has the key is the root's child for it, and has what is left to do
+  pub grown_half : half_for (page_pairs old root.page) left right key ≡ page_for 1 (applied (growing_parts after left right root.page level pairs key) old) root.page key
+  unfolding grown
+  grown_half = ap (λ (b : Bool). if b then left else right) (sym side) ∙ sym (ap (λ (ps : List Pair). child_for ps key) named_pairs)
+
+  pub grown_pairs : page_pairs (applied (growing_parts after left right root.page level pairs key) old) (half_for (page_pairs old root.page) left right key) ≡ half_pairs level (page_pairs old root.page) key
   unfolding grown
   grown_pairs = elim (leb_tells (suc key) (key_at (page_pairs old root.page) 15)) [
-    | inl h ↦ let b : nat_lt key (key_at (page_pairs old root.page) 15) ≡ true = h.0 in rw b lower_half.pairs_are
-    | inr h ↦ let b : nat_lt key (key_at (page_pairs old root.page) 15) ≡ false = h.0 in rw b upper_half.pairs_are
+    | inl h ↦ let b : nat_lt key (key_at (page_pairs old root.page) 15) ≡ true = h.0 in rw b (lower_half.pairs_are ∙ ap (λ (ps : List Pair). take (cut_for level ps key) (page_pairs old root.page)) pairs_are)
+    | inr h ↦ let b : nat_lt key (key_at (page_pairs old root.page) 15) ≡ false = h.0 in rw b (upper_half.pairs_are ∙ ap (λ (ps : List Pair). drop (cut_for level ps key) (page_pairs old root.page)) pairs_are)
   ]
 
-  pub grown_left : actions_below level (applied (growing_parts after left right root.page level pairs) old) (half_for (page_pairs old root.page) left right key)
+  pub grown_left : actions_below level (applied (growing_parts after left right root.page level pairs key) old) (half_for (page_pairs old root.page) left right key)
       (half_for (page_pairs old root.page) left right key) 0 key
       ≡ actions_below level old root.page (half_for (page_pairs old root.page) left right key) 2 key
   unfolding grown
   grown_left =
-      half_actions root old grown 2 (after_due old grown 2 lists_now) written.size lists_now.due root.page left right key is_cut level 0 key_end root_tree (omega arith) (omega (arith, fits))
+      half_actions root old grown 2 (after_due old grown 2 lists_now) written.size lists_now.due root.page left right (cut_for level pairs key) key is_cut side level 0 key_end root_tree (omega arith) (omega (arith, fits))
       (λ x u ne. tree_others x (subst (λ (n : ℕ). IsUnder n old x root.page) (sym level_is) u) ne)
       (half_for (page_pairs old root.page) left right key) 0
       ∙ ap (λ (n : ℕ). actions_below level old root.page (half_for (page_pairs old root.page) left right key) n key) (let z : 2 + 0 ≡ 2 = omega arith in z)

@@ -3,6 +3,7 @@ pub mod Descending
 pub mod Given
 pub mod Checks
 pub mod Cutting
+pub mod CutPlace
 pub mod Actions
 pub mod Entries
 pub mod Others

@@ -40,14 +40,8 @@ slot_there shape half front all is other none = (let ne : front.next_slot ≡ 8 
 pub below_most : (level : ℕ) → (level ≡ 7 → ⊥) → level ≤ 7 → level < 7
 below_most level other most = omega arith
 
-pub half_some : (half : List Pair) → length half ≡ 15 → 1 ≤ length half
-half_some half many = omega arith
-
-pub half_room : (half : List Pair) → length half ≡ 15 → length half < 30
-half_room half many = omega arith
-
 pub read_half : (shape : Shape) (level was page level2 : ℕ) (pairs half : List Pair) → IsRead shape was level pairs → IsHalfRead shape page half → level2 ≡ level → IsRead shape page level2 half
-read_half shape level was page level2 pairs half read is same = record { some = is.some; inside = is.inside; level_most = subst (λ (n : ℕ). n ≤ 7) (sym same) read.level_most; most = omega (arith, is.many); small = is.small }
+read_half shape level was page level2 pairs half read is same = record { some = is.some; inside = is.inside; level_most = subst (λ (n : ℕ). n ≤ 7) (sym same) read.level_most; most = omega (arith, is.few); small = is.small }
 
 -- a page that is to be taken cannot be read
 pub take_err : (tells : Bool) (E : Shape → List ℕ → List ℕ → Type 0) (t : ℕ) (root : Root) (key : ℕ) (v0 : PagesView) → (IsTrue tells → AreSoundTrees v0.store.state.bytes) → (v1 : PagesView) → Looks tells (E v0.store.shape) false v0 v1

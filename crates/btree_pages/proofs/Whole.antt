@@ -33,12 +33,12 @@ use Rattle.index_pages.proofs.PageFacts.{length-page_pairs}
 use Rattle.index_pages.proofs.Sizes.{index_pages_are}
 use Rattle.btree_laws.specs.Tree.{pairs_of_tree}
 use Rattle.btree_laws.specs.declared.root.Root.{Root}
-use Rattle.btree_pages.specs.Index.{tree, tree_below, growing, half_pairs, tree_actions, actions_below, AreSoundTrees, IsOpenLeaf}
+use Rattle.btree_pages.specs.Index.{tree, tree_below, growing, tree_actions, actions_below, AreSoundTrees, IsOpenLeaf}
 use Rattle.index_pages.specs.Actions.{half_for}
 use Rattle.btree_pages.specs.Node.{IsNode}
 use Rattle.btree_pages.specs.OnWay.{IsReached}
 use Rattle.btree_pages.specs.Trees.{table_sound, trees_count}
-use Rattle.btree_pages.specs.Writes.{IsRead, growing_pages, growing_parts}
+use Rattle.btree_pages.specs.Writes.{IsRead, half_pairs, growing_pages, growing_parts}
 use Rattle.btree_pages.specs.declared.node.Node.{Node}
 use Rattle.index_pages.proofs.Claims.{entries_long, slots_few}
 use Rattle.btree_pages.proofs.Actions.{half_same}
@@ -220,10 +220,10 @@ module _ (tells : Bool) (E : Shape → List ℕ → List ℕ → Type 0) (t : �
       living2 : IsAlive v2.store
       living2 = alive_now tree tells (E v0.store.shape) t root.page root.table key v0 v2 going2 alive
 
-      grow_data : IsTrue tells → Grows tree root.page v0.store.state.bytes (applied (growing_parts after left right root.page level pairs) v2.store.state.bytes) × Rests tree root.page v0.store.state.bytes (applied (growing_parts after left right root.page level pairs) v2.store.state.bytes)
-      grow_data told = subst (λ (b : List ℕ). Grows tree root.page b (applied (growing_parts after left right root.page level pairs) v2.store.state.bytes) × Rests tree root.page b (applied (growing_parts after left right root.page level pairs) v2.store.state.bytes)) (same2 told) (growing_grows v0.store.shape v2.store.state.bytes half (long2 told) half_is all few root front mid after left right key level pairs fits (entries_long v2.store.state.bytes front (omega (arith, long2 told, all, two)) (says2 told)) read (sound2 told) (named2 told) (says2 told) (one told) (other told) (level2_is told) (are2 told) full less (enough2 told))
+      grow_data : IsTrue tells → Grows tree root.page v0.store.state.bytes (applied (growing_parts after left right root.page level pairs key) v2.store.state.bytes) × Rests tree root.page v0.store.state.bytes (applied (growing_parts after left right root.page level pairs key) v2.store.state.bytes)
+      grow_data told = subst (λ (b : List ℕ). Grows tree root.page b (applied (growing_parts after left right root.page level pairs key) v2.store.state.bytes) × Rests tree root.page b (applied (growing_parts after left right root.page level pairs key) v2.store.state.bytes)) (same2 told) (growing_grows v0.store.shape v2.store.state.bytes half (long2 told) half_is all few root front mid after left right key level pairs fits (entries_long v2.store.state.bytes front (omega (arith, long2 told, all, two)) (says2 told)) read (sound2 told) (named2 told) (says2 told) (one told) (other told) (level2_is told) (are2 told) full less (enough2 told))
 
-      grow_may : IsTrue tells → IsAlive v0.store → MayBecome tree root.page root.table key v0.store.state.bytes (applied (growing_parts after left right root.page level pairs) v2.store.state.bytes)
+      grow_may : IsTrue tells → IsAlive v0.store → MayBecome tree root.page root.table key v0.store.state.bytes (applied (growing_parts after left right root.page level pairs key) v2.store.state.bytes)
       grow_may told running = let d = grow_data told in (d.0, inl d.1)
 
       grow_pages : IsTrue tells → (growing_pages left right root.page) ≡ (growing v2.store.state.bytes root.page).pages
@@ -243,15 +243,15 @@ module _ (tells : Bool) (E : Shape → List ℕ → List ℕ → Type 0) (t : �
           ap (λ (b : List ℕ). tree_actions b root.page key) (sym (same2 told)) ∙ root_split root.page key v2.store.state.bytes (many2 told)
           ∙ ap (λ (a : Action). a ∷ actions_below (level_of v2.store.state.bytes root.page) v2.store.state.bytes root.page (half_for (page_pairs v2.store.state.bytes root.page) (page_due v2.store.state.bytes 0) (page_due v2.store.state.bytes 1) key) 2 key) (grow_is told)
 
-      grow_start : (v3 : PagesView) (r : Result (Unit {0}) PageFault) → Acts tells (E v2.store.shape) t (growing_pages left right root.page) (growing_parts after left right root.page level pairs) v2 v3 r → Acts tells (E v0.store.shape) t (growing_pages left right root.page) (growing_parts after left right root.page level pairs) v2 v3 r
-      grow_start v3 r acts = subst (λ (sh : Shape). Acts tells (E sh) t (growing_pages left right root.page) (growing_parts after left right root.page level pairs) v2 v3 r) looks.shape acts
+      grow_start : (v3 : PagesView) (r : Result (Unit {0}) PageFault) → Acts tells (E v2.store.shape) t (growing_pages left right root.page) (growing_parts after left right root.page level pairs key) v2 v3 r → Acts tells (E v0.store.shape) t (growing_pages left right root.page) (growing_parts after left right root.page level pairs key) v2 v3 r
+      grow_start v3 r acts = subst (λ (sh : Shape). Acts tells (E sh) t (growing_pages left right root.page) (growing_parts after left right root.page level pairs key) v2 v3 r) looks.shape acts
 
       -- the split was refused
-      pub grow_err : (v3 : PagesView) (fault : PageFault) → (let r : Result (Unit {0}) PageFault = Err fault in Acts tells (E v2.store.shape) t (growing_pages left right root.page) (growing_parts after left right root.page level pairs) v2 v3 r)
+      pub grow_err : (v3 : PagesView) (fault : PageFault) → (let r : Result (Unit {0}) PageFault = Err fault in Acts tells (E v2.store.shape) t (growing_pages left right root.page) (growing_parts after left right root.page level pairs key) v2 v3 r)
           → (let r : Result ℕ IndexFault = Err (as_index fault) in Inserts tells (E v0.store.shape) tree t root.page root.table key v0 v3 r)
       grow_err v3 fault acts' =
           let r : Result (Unit {0}) PageFault = Err fault in
-          inserts_act_err tree tells (E v0.store.shape) t root.page root.table key v0 v2 v3 going2 (growing_pages left right root.page) (growing_parts after left right root.page level pairs) grow_may alive
+          inserts_act_err tree tells (E v0.store.shape) t root.page root.table key v0 v2 v3 going2 (growing_pages left right root.page) (growing_parts after left right root.page level pairs key) grow_may alive
           (λ g h n lacks. let lacks' = lacks_same v0.store v2.store t going2.shape (going2.logs.ranges t) (growing_pages left right root.page) g h n lacks in (
             alive,
             ((growing_pages left right root.page), omega arith, lacks'),
@@ -264,14 +264,14 @@ module _ (tells : Bool) (E : Shape → List ℕ → List ℕ → Type 0) (t : �
           ))
           fault (grow_start v3 r acts')
 
-      module _ (v3 : PagesView) (acts' : (let r : Result (Unit {0}) PageFault = Ok tt in Acts tells (E v2.store.shape) t (growing_pages left right root.page) (growing_parts after left right root.page level pairs) v2 v3 r)) where
-        grow_acts : (let r : Result (Unit {0}) PageFault = Ok tt in Acts tells (E v0.store.shape) t (growing_pages left right root.page) (growing_parts after left right root.page level pairs) v2 v3 r)
+      module _ (v3 : PagesView) (acts' : (let r : Result (Unit {0}) PageFault = Ok tt in Acts tells (E v2.store.shape) t (growing_pages left right root.page) (growing_parts after left right root.page level pairs key) v2 v3 r)) where
+        grow_acts : (let r : Result (Unit {0}) PageFault = Ok tt in Acts tells (E v0.store.shape) t (growing_pages left right root.page) (growing_parts after left right root.page level pairs key) v2 v3 r)
         grow_acts = (let r : Result (Unit {0}) PageFault = Ok tt in grow_start v3 r acts')
 
         pub going3 : Going tree tells (E v0.store.shape) t root.page root.table key v0 v3
-        going3 = going_act tree tells (E v0.store.shape) t root.page root.table key v0 v2 v3 going2 (growing_pages left right root.page) (growing_parts after left right root.page level pairs) grow_may grow_acts (λ told running. grow_data told)
+        going3 = going_act tree tells (E v0.store.shape) t root.page root.table key v0 v2 v3 going2 (growing_pages left right root.page) (growing_parts after left right root.page level pairs key) grow_may grow_acts (λ told running. grow_data told)
 
-        bytes3 : IsTrue tells → v3.store.state.bytes ≡ (applied (growing_parts after left right root.page level pairs) v2.store.state.bytes)
+        bytes3 : IsTrue tells → v3.store.state.bytes ≡ (applied (growing_parts after left right root.page level pairs key) v2.store.state.bytes)
         bytes3 told = grow_acts.made told living2
 
         pub living3 : IsAlive v3.store
@@ -295,7 +295,7 @@ module _ (tells : Bool) (E : Shape → List ℕ → List ℕ → Type 0) (t : �
         grow_fits : IsTrue tells → ActionFits v0.store t (index_pages_of v0.store.shape - used_pages v2.store.state.bytes) (growing v2.store.state.bytes root.page)
         grow_fits told = (enough told, subst (λ (ps : List ℕ). FitAll v0.store t ps) (grow_pages told) (fits_same v0.store v2.store t going2.shape (going2.logs.ranges t) (growing_pages left right root.page) grow_acts.cause.1))
 
-        module _ (page2 : ℕ) (pairs2 : List Pair) (page2_is : page2 ≡ half_for pairs left right key) (pairs2_are : pairs2 ≡ half_pairs pairs key) where
+        module _ (page2 : ℕ) (pairs2 : List Pair) (page2_is : page2 ≡ half_for pairs left right key) (pairs2_are : pairs2 ≡ half_pairs level pairs key) where
           half_is2 : IsTrue tells → page2 ≡ half_for (page_pairs v2.store.state.bytes root.page) left right key
           half_is2 told = page2_is ∙ ap (λ (ps : List Pair). half_for ps left right key) (are2 told)
 
@@ -306,13 +306,13 @@ module _ (tells : Bool) (E : Shape → List ℕ → List ℕ → Type 0) (t : �
                 record {
                   page_is = half_is2 told ∙ grown_half v0.store.shape v2.store.state.bytes half (long2 told) half_is all few root front mid after left right key level pairs fits (entries_long v2.store.state.bytes front (omega (arith, long2 told, all, two)) (says2 told)) read (sound2 told) (named2 told) (says2 told) (one told) (other told) (level2_is told) (are2 told) full less (enough2 told);
                   level_is = grown_level v0.store.shape v2.store.state.bytes half (long2 told) half_is all few root front mid after left right key level pairs fits (entries_long v2.store.state.bytes front (omega (arith, long2 told, all, two)) (says2 told)) read (sound2 told) (named2 told) (says2 told) (one told) (other told) (level2_is told) (are2 told) full less (enough2 told) ∙ ap (λ (n : ℕ). suc n) (sym level2_is');
-                  pairs_are = pairs2_are ∙ ap (λ (ps : List Pair). half_pairs ps key) (are2 told) ∙ sym (grown_pairs v0.store.shape v2.store.state.bytes half (long2 told) half_is all few root front mid after left right key level pairs fits (entries_long v2.store.state.bytes front (omega (arith, long2 told, all, two)) (says2 told)) read (sound2 told) (named2 told) (says2 told) (one told) (other told) (level2_is told) (are2 told) full less (enough2 told))
-                      ∙ ap (λ (x : ℕ). page_pairs (applied (growing_parts after left right root.page level pairs) v2.store.state.bytes) x) (sym (half_is2 told));
+                  pairs_are = pairs2_are ∙ ap (λ (ps : List Pair). half_pairs level ps key) (are2 told) ∙ sym (grown_pairs v0.store.shape v2.store.state.bytes half (long2 told) half_is all few root front mid after left right key level pairs fits (entries_long v2.store.state.bytes front (omega (arith, long2 told, all, two)) (says2 told)) read (sound2 told) (named2 told) (says2 told) (one told) (other told) (level2_is told) (are2 told) full less (enough2 told))
+                      ∙ ap (λ (x : ℕ). page_pairs (applied (growing_parts after left right root.page level pairs key) v2.store.state.bytes) x) (sym (half_is2 told));
                 },
               )
 
-          grown_rest : IsTrue tells → actions_below level (applied (growing_parts after left right root.page level pairs) v2.store.state.bytes) page2 page2 0 key ≡ actions_below level v2.store.state.bytes root.page page2 2 key
-          grown_rest told = subst (λ (x : ℕ). actions_below level (applied (growing_parts after left right root.page level pairs) v2.store.state.bytes) x x 0 key ≡ actions_below level v2.store.state.bytes root.page x 2 key) (sym (half_is2 told)) (grown_left v0.store.shape v2.store.state.bytes half (long2 told) half_is all few root front mid after left right key level pairs fits (entries_long v2.store.state.bytes front (omega (arith, long2 told, all, two)) (says2 told)) read (sound2 told) (named2 told) (says2 told) (one told) (other told) (level2_is told) (are2 told) full less (enough2 told))
+          grown_rest : IsTrue tells → actions_below level (applied (growing_parts after left right root.page level pairs key) v2.store.state.bytes) page2 page2 0 key ≡ actions_below level v2.store.state.bytes root.page page2 2 key
+          grown_rest told = subst (λ (x : ℕ). actions_below level (applied (growing_parts after left right root.page level pairs key) v2.store.state.bytes) x x 0 key ≡ actions_below level v2.store.state.bytes root.page x 2 key) (sym (half_is2 told)) (grown_left v0.store.shape v2.store.state.bytes half (long2 told) half_is all few root front mid after left right key level pairs fits (entries_long v2.store.state.bytes front (omega (arith, long2 told, all, two)) (says2 told)) read (sound2 told) (named2 told) (says2 told) (one told) (other told) (level2_is told) (are2 told) full less (enough2 told))
 
           half_due : IsTrue tells → page2 ≡ half_for (page_pairs v2.store.state.bytes root.page) (page_due v2.store.state.bytes 0) (page_due v2.store.state.bytes 1) key
           half_due told = let d = grown_dues v0.store.shape v2.store.state.bytes half (long2 told) half_is all few root front mid after left right key level pairs fits (entries_long v2.store.state.bytes front (omega (arith, long2 told, all, two)) (says2 told)) read (sound2 told) (named2 told) (says2 told) (one told) (other told) (level2_is told) (are2 told) full less (enough2 told) in
@@ -321,15 +321,15 @@ module _ (tells : Bool) (E : Shape → List ℕ → List ℕ → Type 0) (t : �
           decides3 : IsTrue tells → DecidesAll v0.store t (index_pages_of v0.store.shape - used_pages v0.store.state.bytes) (tree_actions v0.store.state.bytes root.page key) (index_pages_of v0.store.shape - used_pages v3.store.state.bytes) (actions_below level v3.store.state.bytes page2 page2 0 key)
           decides3 told =
               subst (λ (b : List ℕ). DecidesAll v0.store t (index_pages_of v0.store.shape - used_pages v0.store.state.bytes) (tree_actions v0.store.state.bytes root.page key) (index_pages_of v0.store.shape - used_pages b) (actions_below level b page2 page2 0 key)) (sym (bytes3 told))
-              (subst (λ (b : List ℕ). DecidesAll v0.store t (index_pages_of v0.store.shape - used_pages b) (tree_actions b root.page key) (index_pages_of v0.store.shape - used_pages (applied (growing_parts after left right root.page level pairs) v2.store.state.bytes)) (actions_below level (applied (growing_parts after left right root.page level pairs) v2.store.state.bytes) page2 page2 0 key)) (same2 told)
-              (grown_decides v0.store t (index_pages_of v0.store.shape) root.page key v2.store.state.bytes (many2 told) (applied (growing_parts after left right root.page level pairs) v2.store.state.bytes) page2 level (level2_is told) less (half_due told) (grow_fits told) (grown_used v0.store.shape v2.store.state.bytes half (long2 told) half_is all few root front mid after left right key level pairs fits (entries_long v2.store.state.bytes front (omega (arith, long2 told, all, two)) (says2 told)) read (sound2 told) (named2 told) (says2 told) (one told) (other told) (level2_is told) (are2 told) full less (enough2 told)) (grown_rest told)))
+              (subst (λ (b : List ℕ). DecidesAll v0.store t (index_pages_of v0.store.shape - used_pages b) (tree_actions b root.page key) (index_pages_of v0.store.shape - used_pages (applied (growing_parts after left right root.page level pairs key) v2.store.state.bytes)) (actions_below level (applied (growing_parts after left right root.page level pairs key) v2.store.state.bytes) page2 page2 0 key)) (same2 told)
+              (grown_decides v0.store t (index_pages_of v0.store.shape) root.page key v2.store.state.bytes (many2 told) (applied (growing_parts after left right root.page level pairs key) v2.store.state.bytes) page2 level (level2_is told) less (half_due told) (grow_fits told) (grown_used v0.store.shape v2.store.state.bytes half (long2 told) half_is all few root front mid after left right key level pairs fits (entries_long v2.store.state.bytes front (omega (arith, long2 told, all, two)) (says2 told)) read (sound2 told) (named2 told) (says2 told) (one told) (other told) (level2_is told) (are2 told) full less (enough2 told)) (grown_rest told)))
 
           -- the half that has the key has the root's child for it
           pub root_leads : IsTrue tells → child_for pairs2 key ≡ child_for pairs key
           root_leads told =
               let tree' = table_sound v0.store.state.bytes root (sound told) (named told) in
               let rises = rises_of root (level_of v0.store.state.bytes root.page) v0.store.state.bytes root.page 0 key_end tree'.2 in
-              ap (λ (ps : List Pair). child_for ps key) pairs2_are ∙ half_same key rises.0 rises.1 pairs full (subst (λ (ps : List Pair). Rise rises.0 rises.1 ps) (sym (are told)) rises.2)
+              ap (λ (ps : List Pair). child_for ps key) pairs2_are ∙ half_same level key rises.0 rises.1 pairs full (subst (λ (ps : List Pair). Rise rises.0 rises.1 ps) (sym (are told)) rises.2)
 
           pub root_rest : (level2 : ℕ) → level2 ≡ level → IsTrue tells → tree_actions v0.store.state.bytes root.page key ≡ (let a : Action = record { pages = growing_pages left right root.page; takes = 2 } in a) ∷ actions_below level2 v3.store.state.bytes page2 page2 0 key
           root_rest level2 same told =

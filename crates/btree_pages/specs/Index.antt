@@ -1,5 +1,5 @@
 -- Trees as an index: the tree of each table, its pages, and the actions of an insertion and of a removal.
-use Rattle.std.specs.Prelude.{ℕ, zero, suc, ◌≡◌, nat_eq, nat_lt, nat_le, ◌||◌, if◌then◌else◌, List, [], ◌∷◌, take, drop, Option, Some, None}
+use Rattle.std.specs.Prelude.{ℕ, zero, suc, ◌≡◌, nat_eq, nat_lt, nat_le, ◌||◌, if◌then◌else◌, List, [], ◌∷◌, Option, Some, None}
 use Rattle.std.specs.Option.{unwrap_or}
 use Rattle.mars_base.specs.Check.{Check}
 use Rattle.record_slots.specs.Places.{first_slot_page, slot_page, slot_due, page_due}
@@ -31,21 +31,17 @@ AreSoundTrees bytes = trees_check bytes None
 abbrev pub IsFirstDamagedOfTrees : List ℕ → ℕ → Type 0
 IsFirstDamagedOfTrees bytes page = trees_check bytes (Some page)
 
--- splitting a full page: the page, the page that is taken for its upper half, the parent, the super page
+-- splitting a full page: the page, the page that is taken for its upper part, the parent, the super page
 abbrev pub cutting : ℕ → ℕ → ℕ → Action
 cutting page taken parent = record { pages = page ∷ taken ∷ parent ∷ 0 ∷ []; takes = 1 }
 
--- Splitting a full root: the two pages that are taken for its halves, the root, the super page. A root of level 7 cannot be split: the action
+-- Splitting a full root: the two pages that are taken for its parts, the root, the super page. A root of level 7 cannot be split: the action
 -- counts as taking more pages than are left.
 abbrev pub growing : List ℕ → ℕ → Action
 growing bytes root = record {
   pages = page_due bytes 0 ∷ page_due bytes 1 ∷ root ∷ 0 ∷ [];
   takes = if nat_lt (level_of bytes root) 7 then 2 else first_slot_page bytes;
 }
-
--- the pairs of that half
-abbrev pub half_pairs : List Pair → ℕ → List Pair
-half_pairs pairs key = half_for pairs (take 15 pairs) (drop 15 pairs) key
 
 -- The actions on the way down to a key, from a page with room that is this many levels above the leaves. What that page said before the
 -- insertion is now in page `now`, and so many pages were taken before.

@@ -1,5 +1,5 @@
 -- The parts that the actions of an insertion and of a removal write.
-use Rattle.std.specs.Prelude.{ℕ, ◌+◌, ◌*◌, ◌/◌, ◌%◌, ◌<◌, ◌≤◌, List, [], ◌∷◌, length, take, drop}
+use Rattle.std.specs.Prelude.{ℕ, ◌+◌, ◌*◌, ◌/◌, ◌%◌, ◌<◌, ◌≤◌, nat_eq, nat_lt, ◌&&◌, if◌then◌else◌, List, [], ◌∷◌, length, take, drop}
 use Rattle.array_shape.specs.declared.shape.Shape.{Shape}
 use Rattle.array_shape.specs.Logged.{Part}
 use Rattle.record_slots.specs.Free.{free_slot_bytes, free_page_bytes}
@@ -10,6 +10,7 @@ use Rattle.record_slots.specs.declared.super_page.Super.{Super}
 use Rattle.page_store.specs.Index.{index_pages_of}
 use Rattle.page_store.specs.Pairs.{Pair, inserted}
 use Rattle.page_store.specs.Shown.{address}
+use Rattle.index_pages.specs.Actions.{half_for}
 use Rattle.index_pages.specs.Giving.{GivesSlot}
 use Rattle.index_pages.specs.Keys.{key_at}
 use Rattle.index_pages.specs.Written.{AreSmall, written_page}
@@ -22,27 +23,37 @@ pub record IsRead (shape : Shape) (page level : ℕ) (pairs : List Pair) : Type 
   pub most : length pairs ≤ 30
   pub small : AreSmall pairs
 
--- splitting a full page: the page, which keeps the lower half; the page that is taken, with the upper half; the parent, which names that; the
--- super page as it is then
+-- How many of 30 pairs the left page keeps where a page of this level is split for a key: half of them. Of a leaf it keeps all but the last, if
+-- the key is behind that.
+unfoldable pub cut_for : ℕ → List Pair → ℕ → ℕ
+cut_for level pairs key = if nat_eq level 0 && nat_lt (key_at pairs 29) key then 29 else 15
+
+-- the pairs of the page that takes the key: one behind all pairs goes to the right, wherever they are cut
+abbrev pub half_pairs : ℕ → List Pair → ℕ → List Pair
+half_pairs level pairs key = half_for pairs (take (cut_for level pairs key) pairs) (drop (cut_for level pairs key) pairs) key
+
+-- splitting a full page for a key: the page, which keeps the lower part; the page that is taken, with the upper part; the parent, which names
+-- that; the super page as it is then
 abbrev pub cutting_pages : ℕ → ℕ → ℕ → List ℕ
 cutting_pages page taken parent = page ∷ taken ∷ parent ∷ 0 ∷ []
 
-abbrev pub cutting_parts : Super → ℕ → ℕ → List Pair → ℕ → ℕ → List Pair → List Part
-cutting_parts after page level pairs taken parent above =
-    (address page 0, written_page level 0 (take 15 pairs))
-    ∷ (address taken 0, written_page level 0 (drop 15 pairs))
-    ∷ (address parent 0, written_page (level + 1) 0 (inserted above (key_at pairs 15) taken))
+abbrev pub cutting_parts : Super → ℕ → ℕ → List Pair → ℕ → ℕ → ℕ → List Pair → List Part
+cutting_parts after page level pairs key taken parent above =
+    (address page 0, written_page level 0 (take (cut_for level pairs key) pairs))
+    ∷ (address taken 0, written_page level 0 (drop (cut_for level pairs key) pairs))
+    ∷ (address parent 0, written_page (level + 1) 0 (inserted above (key_at pairs (cut_for level pairs key)) taken))
     ∷ (address 0 8, part_bytes after) ∷ []
 
--- splitting the root: the two pages that are taken, with its halves; the root, one level up, which names both; the super page as it is then
+-- splitting the root for a key: the two pages that are taken, with its parts; the root, one level up, which names both; the super page as it is
+-- then
 abbrev pub growing_pages : ℕ → ℕ → ℕ → List ℕ
 growing_pages left right root = left ∷ right ∷ root ∷ 0 ∷ []
 
-abbrev pub growing_parts : Super → ℕ → ℕ → ℕ → ℕ → List Pair → List Part
-growing_parts after left right root level pairs =
-    (address left 0, written_page level 0 (take 15 pairs))
-    ∷ (address right 0, written_page level 0 (drop 15 pairs))
-    ∷ (address root 0, written_page (level + 1) 0 ((0, left) ∷ (key_at pairs 15, right) ∷ []))
+abbrev pub growing_parts : Super → ℕ → ℕ → ℕ → ℕ → List Pair → ℕ → List Part
+growing_parts after left right root level pairs key =
+    (address left 0, written_page level 0 (take (cut_for level pairs key) pairs))
+    ∷ (address right 0, written_page level 0 (drop (cut_for level pairs key) pairs))
+    ∷ (address root 0, written_page (level + 1) 0 ((0, left) ∷ (key_at pairs (cut_for level pairs key), right) ∷ []))
     ∷ (address 0 8, part_bytes after) ∷ []
 
 -- A leaf takes the pairs of the page to its right: the slot, which is free; the leaf; the parent, with the entries that are left; that page,

@@ -25,8 +25,8 @@ use std::alloc::Global;
 /// Indexes that are B+ trees of pages, one for each table. A look-up reads the pages from the root down to the leaf of its key, eight at
 /// most. A look for the next pairs from a key on goes on to the next leaf if the key's has none: from the page below the one where both ways
 /// part, without those above. An insertion splits each full page on its way down and then adds the pair. A split is one nested top action of
-/// four parts: both halves, the page that names them, and the super page. Adding the pair takes three: the slot, the leaf and the super
-/// page. Free pages and free slots are taken first.
+/// four parts: both pages, the one that names them, and the super page. A leaf that rising keys fill is split at its end, any other page in
+/// the middle. Adding the pair takes three parts: the slot, the leaf and the super page. Free pages and free slots are taken first.
 ///
 /// A removal takes the pair out of its leaf. A leaf that has no other is joined with the leaf to its right under the same parent, or else
 /// with the one to its left, and the right one of the two is freed; an only child keeps its last pair. All of it is one nested top action:

@@ -50,7 +50,7 @@ pub fn insert_above<S: EawStore>(
     }
     let left = take_page(pages, &front)?;
     let right = take_page(pages, &left.front)?;
-    grow_root(pages, change.tid, left.number, &right, &top)?;
+    grow_root(pages, change.tid, left.number, &right, &top, change.key)?;
     let half = half_of(&top, left.number, right.number, change.key);
     insert_below(pages, change, right.front, half)
 }
@@ -128,7 +128,7 @@ pub fn insert_below<S: EawStore>(
             return Err(IndexFault::PagesFull { pages: count - 1 });
         }
         let taken = take_page(pages, &front)?;
-        cut_page(pages, change.tid, &taken, &child, node)?;
+        cut_page(pages, change.tid, &taken, &child, node, change.key)?;
         node = half_of(&child, child.page, taken.number, change.key);
         front = taken.front;
     }

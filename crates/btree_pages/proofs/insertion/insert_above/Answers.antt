@@ -33,7 +33,7 @@ use Rattle.index_pages.proofs.Claims.{free_pages_pass, next_pass}
 use Rattle.btree_pages.specs.Trees.{whole_of}
 use Rattle.btree_pages.proofs.Below.{half_read}
 use Rattle.index_pages.proofs.Faulting.{look_of_index, act_of_index, dead_fault, dead_act, not_full, two_some}
-use Rattle.btree_pages.proofs.Rooted.{below_most, half_some, half_room, read_half, take_err}
+use Rattle.btree_pages.proofs.Rooted.{below_most, read_half, take_err}
 use Rattle.btree_pages.proofs.Whole.{root_high, root_full, grow_err, going3, living3, sound3, named3, absent3, says3, reached3, grown_then, takes_two, root_due, root_leads, root_rest}
 use Rattle.std.proofs.lemmas.Result.{err_from_is_err_and}
 use Rattle.btree_pages.proofs.insertion.insert_above.Goals as goal
@@ -247,9 +247,9 @@ returns-in_err-grow_root-clause-inserts g c =
     let one = λ (told : IsTrue g.S.EawStore.tells). subst (λ (st : State). TakesPage st.bytes c.args.front c.in_ok-left.left.number c.in_ok-left.left.front) (sym ((c.in_ok-left.ensures.looks.still refl).state told) ∙ sym ((c.in_ok-right.ensures.looks.still refl).state told)) (c.in_ok-left.ensures.takes told) in
     let other = λ (told : IsTrue g.S.EawStore.tells). subst (λ (st : State). TakesPage st.bytes c.in_ok-left.left.front c.in_ok-right.right.number c.in_ok-right.right.front) (sym ((c.in_ok-right.ensures.looks.still refl).state told)) (c.in_ok-right.ensures.takes told) in
     let v3 = pages_of (V c.grow_root.new.pages.store) c.grow_root.new.pages in
-    let acts = λ (r : Result (Unit {0}) PageFault) (a : Acts g.S.EawStore.tells (g.S.EawStore.opens (g.S.EawStore.view c.take_page-2.new.pages.store).shape) c.args.change.tid (growing_pages c.in_ok-left.left.number c.in_ok-right.right.number c.args.top.page) (growing_parts c.in_ok-right.right.front c.in_ok-left.left.number c.in_ok-right.right.number c.args.top.page c.args.top.level c.args.top.pairs.items)
+    let acts = λ (r : Result (Unit {0}) PageFault) (a : Acts g.S.EawStore.tells (g.S.EawStore.opens (g.S.EawStore.view c.take_page-2.new.pages.store).shape) c.args.change.tid (growing_pages c.in_ok-left.left.number c.in_ok-right.right.number c.args.top.page) (growing_parts c.in_ok-right.right.front c.in_ok-left.left.number c.in_ok-right.right.number c.args.top.page c.args.top.level c.args.top.pairs.items c.args.change.key)
     (pages_of (g.S.EawStore.view c.take_page-2.new.pages.store) c.take_page-2.new.pages) (pages_of (g.S.EawStore.view c.grow_root.new.pages.store) c.grow_root.new.pages) r).
-    subst (λ (p : ℕ). Acts g.S.EawStore.tells (g.S.EawStore.opens (g.S.EawStore.view c.take_page-2.new.pages.store).shape) c.args.change.tid (growing_pages c.in_ok-left.left.number c.in_ok-right.right.number p) (growing_parts c.in_ok-right.right.front c.in_ok-left.left.number c.in_ok-right.right.number p c.args.top.level c.args.top.pairs.items)
+    subst (λ (p : ℕ). Acts g.S.EawStore.tells (g.S.EawStore.opens (g.S.EawStore.view c.take_page-2.new.pages.store).shape) c.args.change.tid (growing_pages c.in_ok-left.left.number c.in_ok-right.right.number p) (growing_parts c.in_ok-right.right.front c.in_ok-left.left.number c.in_ok-right.right.number p c.args.top.level c.args.top.pairs.items c.args.change.key)
     (pages_of (g.S.EawStore.view c.take_page-2.new.pages.store) c.take_page-2.new.pages) (pages_of (g.S.EawStore.view c.grow_root.new.pages.store) c.grow_root.new.pages) r) c.requires.page a in
     subst (λ (f : IndexFault). (let r : Result ℕ IndexFault = Err f in Inserts T (E v0.store.shape) tree t root.page root.table key v0 v3 r)) (sym exit.2)
     (grow_err T E t root key v0 c.index_page_count-count.result n.count n.all n.most n.some small c.requires.may.act.sound c.requires.may.act.named c.requires.may.absent long c.requires.may.act.alive front c.requires.may.front_is c.requires.may.slot c.requires.may.says top.level top.pairs.items read c.requires.level c.requires.pairs c.requires.full c.if-top-eq-LEVEL_MAX.false (c.if-not-are_pages_left.ensures.0 refl) v2 looks left.number right.number left.front right.front one other v3 c.in_err-grow_root.field-0.0 (acts (Err c.in_err-grow_root.field-0.0) c.in_err-grow_root.ensures.acts)))
@@ -309,15 +309,15 @@ insert_below-requires g c =
     let one = λ (told : IsTrue g.S.EawStore.tells). subst (λ (st : State). TakesPage st.bytes c.args.front c.in_ok-left.left.number c.in_ok-left.left.front) (sym ((c.in_ok-left.ensures.looks.still refl).state told) ∙ sym ((c.in_ok-right.ensures.looks.still refl).state told)) (c.in_ok-left.ensures.takes told) in
     let other = λ (told : IsTrue g.S.EawStore.tells). subst (λ (st : State). TakesPage st.bytes c.in_ok-left.left.front c.in_ok-right.right.number c.in_ok-right.right.front) (sym ((c.in_ok-right.ensures.looks.still refl).state told)) (c.in_ok-right.ensures.takes told) in
     let v3 = pages_of (V c.grow_root.new.pages.store) c.grow_root.new.pages in
-    let acts = λ (r : Result (Unit {0}) PageFault) (a : Acts g.S.EawStore.tells (g.S.EawStore.opens (g.S.EawStore.view c.take_page-2.new.pages.store).shape) c.args.change.tid (growing_pages c.in_ok-left.left.number c.in_ok-right.right.number c.args.top.page) (growing_parts c.in_ok-right.right.front c.in_ok-left.left.number c.in_ok-right.right.number c.args.top.page c.args.top.level c.args.top.pairs.items)
+    let acts = λ (r : Result (Unit {0}) PageFault) (a : Acts g.S.EawStore.tells (g.S.EawStore.opens (g.S.EawStore.view c.take_page-2.new.pages.store).shape) c.args.change.tid (growing_pages c.in_ok-left.left.number c.in_ok-right.right.number c.args.top.page) (growing_parts c.in_ok-right.right.front c.in_ok-left.left.number c.in_ok-right.right.number c.args.top.page c.args.top.level c.args.top.pairs.items c.args.change.key)
     (pages_of (g.S.EawStore.view c.take_page-2.new.pages.store) c.take_page-2.new.pages) (pages_of (g.S.EawStore.view c.grow_root.new.pages.store) c.grow_root.new.pages) r).
-    subst (λ (p : ℕ). Acts g.S.EawStore.tells (g.S.EawStore.opens (g.S.EawStore.view c.take_page-2.new.pages.store).shape) c.args.change.tid (growing_pages c.in_ok-left.left.number c.in_ok-right.right.number p) (growing_parts c.in_ok-right.right.front c.in_ok-left.left.number c.in_ok-right.right.number p c.args.top.level c.args.top.pairs.items)
+    subst (λ (p : ℕ). Acts g.S.EawStore.tells (g.S.EawStore.opens (g.S.EawStore.view c.take_page-2.new.pages.store).shape) c.args.change.tid (growing_pages c.in_ok-left.left.number c.in_ok-right.right.number p) (growing_parts c.in_ok-right.right.front c.in_ok-left.left.number c.in_ok-right.right.number p c.args.top.level c.args.top.pairs.items c.args.change.key)
     (pages_of (g.S.EawStore.view c.take_page-2.new.pages.store) c.take_page-2.new.pages) (pages_of (g.S.EawStore.view c.grow_root.new.pages.store) c.grow_root.new.pages) r) c.requires.page a in
     let half = c.half_of-half in
     let shape3 = c.in_ok-grow_root.ensures.acts.shape ∙ looks.shape in
     let left_in = c.in_ok-left.ensures.inside in
     let right_in = subst (λ (sh : Shape). c.in_ok-right.right.number < index_pages_of sh) c.in_ok-left.ensures.looks.shape c.in_ok-right.ensures.inside.1 in
-    let half_is = half_read v0.store.shape top.pairs.items left.number right.number key half.result.page half.result.pairs.items c.requires.full read.small (two_some left.number left_in.0) left_in.1 (two_some right.number c.in_ok-right.ensures.inside.0) right_in half.ensures.page half.ensures.pairs in
+    let half_is = half_read v0.store.shape top.level top.pairs.items left.number right.number key half.result.page half.result.pairs.items c.requires.full read.small (two_some left.number left_in.0) left_in.1 (two_some right.number c.in_ok-right.ensures.inside.0) right_in half.ensures.page half.ensures.pairs in
     let slots = c.in_ok-left.ensures.slots in
     let slots2 = c.in_ok-right.ensures.slots in
     record {
@@ -337,8 +337,8 @@ insert_below-requires g c =
         says = says3 T E t root key v0 c.index_page_count-count.result n.count n.all n.most n.some small c.requires.may.act.sound c.requires.may.act.named c.requires.may.absent long c.requires.may.act.alive front c.requires.may.front_is c.requires.may.slot c.requires.may.says top.level top.pairs.items read c.requires.level c.requires.pairs c.requires.full c.if-top-eq-LEVEL_MAX.false (c.if-not-are_pages_left.ensures.0 refl) v2 looks left.number right.number left.front right.front one other v3 (acts (Ok tt) c.in_ok-grow_root.ensures.acts);
       };
       read = subst (λ (sh : Shape). IsRead sh half.result.page half.result.level half.result.pairs.items) (sym shape3) (read_half v0.store.shape top.level root.page half.result.page half.result.level top.pairs.items half.result.pairs.items read half_is half.ensures.level);
-      some = λ inner. half_some half.result.pairs.items half_is.many;
-      room = half_room half.result.pairs.items half_is.many;
+      some = λ inner. half_is.many;
+      room = half_is.few;
       reached = reached3 T E t root key v0 c.index_page_count-count.result n.count n.all n.most n.some small c.requires.may.act.sound c.requires.may.act.named c.requires.may.absent long c.requires.may.act.alive front c.requires.may.front_is c.requires.may.slot c.requires.may.says top.level top.pairs.items read c.requires.level c.requires.pairs c.requires.full c.if-top-eq-LEVEL_MAX.false (c.if-not-are_pages_left.ensures.0 refl) v2 looks left.number right.number left.front right.front one other v3 (acts (Ok tt) c.in_ok-grow_root.ensures.acts) half.result.page half.result.pairs.items half.ensures.page half.ensures.pairs half.result.level half.ensures.level;
     }
 
@@ -365,9 +365,9 @@ returns-clause-inserts g c =
     let one = λ (told : IsTrue g.S.EawStore.tells). subst (λ (st : State). TakesPage st.bytes c.args.front c.in_ok-left.left.number c.in_ok-left.left.front) (sym ((c.in_ok-left.ensures.looks.still refl).state told) ∙ sym ((c.in_ok-right.ensures.looks.still refl).state told)) (c.in_ok-left.ensures.takes told) in
     let other = λ (told : IsTrue g.S.EawStore.tells). subst (λ (st : State). TakesPage st.bytes c.in_ok-left.left.front c.in_ok-right.right.number c.in_ok-right.right.front) (sym ((c.in_ok-right.ensures.looks.still refl).state told)) (c.in_ok-right.ensures.takes told) in
     let v3 = pages_of (V c.grow_root.new.pages.store) c.grow_root.new.pages in
-    let acts = λ (r : Result (Unit {0}) PageFault) (a : Acts g.S.EawStore.tells (g.S.EawStore.opens (g.S.EawStore.view c.take_page-2.new.pages.store).shape) c.args.change.tid (growing_pages c.in_ok-left.left.number c.in_ok-right.right.number c.args.top.page) (growing_parts c.in_ok-right.right.front c.in_ok-left.left.number c.in_ok-right.right.number c.args.top.page c.args.top.level c.args.top.pairs.items)
+    let acts = λ (r : Result (Unit {0}) PageFault) (a : Acts g.S.EawStore.tells (g.S.EawStore.opens (g.S.EawStore.view c.take_page-2.new.pages.store).shape) c.args.change.tid (growing_pages c.in_ok-left.left.number c.in_ok-right.right.number c.args.top.page) (growing_parts c.in_ok-right.right.front c.in_ok-left.left.number c.in_ok-right.right.number c.args.top.page c.args.top.level c.args.top.pairs.items c.args.change.key)
     (pages_of (g.S.EawStore.view c.take_page-2.new.pages.store) c.take_page-2.new.pages) (pages_of (g.S.EawStore.view c.grow_root.new.pages.store) c.grow_root.new.pages) r).
-    subst (λ (p : ℕ). Acts g.S.EawStore.tells (g.S.EawStore.opens (g.S.EawStore.view c.take_page-2.new.pages.store).shape) c.args.change.tid (growing_pages c.in_ok-left.left.number c.in_ok-right.right.number p) (growing_parts c.in_ok-right.right.front c.in_ok-left.left.number c.in_ok-right.right.number p c.args.top.level c.args.top.pairs.items)
+    subst (λ (p : ℕ). Acts g.S.EawStore.tells (g.S.EawStore.opens (g.S.EawStore.view c.take_page-2.new.pages.store).shape) c.args.change.tid (growing_pages c.in_ok-left.left.number c.in_ok-right.right.number p) (growing_parts c.in_ok-right.right.front c.in_ok-left.left.number c.in_ok-right.right.number p c.args.top.level c.args.top.pairs.items c.args.change.key)
     (pages_of (g.S.EawStore.view c.take_page-2.new.pages.store) c.take_page-2.new.pages) (pages_of (g.S.EawStore.view c.grow_root.new.pages.store) c.grow_root.new.pages) r) c.requires.page a in
     let half = c.half_of-half in
     let v4 = pages_of (V c.insert_below.new.pages.store) c.insert_below.new.pages in
@@ -480,16 +480,16 @@ returns-in_err-grow_root-clause-works g c =
     let one = λ (told : IsTrue g.S.EawStore.tells). subst (λ (st : State). TakesPage st.bytes c.args.front c.in_ok-left.left.number c.in_ok-left.left.front) (sym ((c.in_ok-left.ensures.looks.still refl).state told) ∙ sym ((c.in_ok-right.ensures.looks.still refl).state told)) (c.in_ok-left.ensures.takes told) in
     let other = λ (told : IsTrue g.S.EawStore.tells). subst (λ (st : State). TakesPage st.bytes c.in_ok-left.left.front c.in_ok-right.right.number c.in_ok-right.right.front) (sym ((c.in_ok-right.ensures.looks.still refl).state told)) (c.in_ok-right.ensures.takes told) in
     let v3 = pages_of (V c.grow_root.new.pages.store) c.grow_root.new.pages in
-    let acts = λ (r : Result (Unit {0}) PageFault) (a : Acts g.S.EawStore.tells (g.S.EawStore.opens (g.S.EawStore.view c.take_page-2.new.pages.store).shape) c.args.change.tid (growing_pages c.in_ok-left.left.number c.in_ok-right.right.number c.args.top.page) (growing_parts c.in_ok-right.right.front c.in_ok-left.left.number c.in_ok-right.right.number c.args.top.page c.args.top.level c.args.top.pairs.items)
+    let acts = λ (r : Result (Unit {0}) PageFault) (a : Acts g.S.EawStore.tells (g.S.EawStore.opens (g.S.EawStore.view c.take_page-2.new.pages.store).shape) c.args.change.tid (growing_pages c.in_ok-left.left.number c.in_ok-right.right.number c.args.top.page) (growing_parts c.in_ok-right.right.front c.in_ok-left.left.number c.in_ok-right.right.number c.args.top.page c.args.top.level c.args.top.pairs.items c.args.change.key)
     (pages_of (g.S.EawStore.view c.take_page-2.new.pages.store) c.take_page-2.new.pages) (pages_of (g.S.EawStore.view c.grow_root.new.pages.store) c.grow_root.new.pages) r).
-    subst (λ (p : ℕ). Acts g.S.EawStore.tells (g.S.EawStore.opens (g.S.EawStore.view c.take_page-2.new.pages.store).shape) c.args.change.tid (growing_pages c.in_ok-left.left.number c.in_ok-right.right.number p) (growing_parts c.in_ok-right.right.front c.in_ok-left.left.number c.in_ok-right.right.number p c.args.top.level c.args.top.pairs.items)
+    subst (λ (p : ℕ). Acts g.S.EawStore.tells (g.S.EawStore.opens (g.S.EawStore.view c.take_page-2.new.pages.store).shape) c.args.change.tid (growing_pages c.in_ok-left.left.number c.in_ok-right.right.number p) (growing_parts c.in_ok-right.right.front c.in_ok-left.left.number c.in_ok-right.right.number p c.args.top.level c.args.top.pairs.items c.args.change.key)
     (pages_of (g.S.EawStore.view c.take_page-2.new.pages.store) c.take_page-2.new.pages) (pages_of (g.S.EawStore.view c.grow_root.new.pages.store) c.grow_root.new.pages) r) c.requires.page a in
-    let runs = λ (r : Result (Unit {0}) PageFault) (a : Runs T V g.S.EawStore.calls (acting_of c.args.change.tid (log_len (V c.take_page-2.new.pages.store) c.args.change.tid) (growing_parts c.in_ok-right.right.front c.in_ok-left.left.number c.in_ok-right.right.number c.args.top.page c.args.top.level c.args.top.pairs.items)) (V c.take_page-2.new.pages.store) (V c.grow_root.new.pages.store) r).
-    subst (λ (p : ℕ). Runs T V g.S.EawStore.calls (acting_of c.args.change.tid (log_len (V c.take_page-2.new.pages.store) c.args.change.tid) (growing_parts c.in_ok-right.right.front c.in_ok-left.left.number c.in_ok-right.right.number p c.args.top.level c.args.top.pairs.items)) (V c.take_page-2.new.pages.store) (V c.grow_root.new.pages.store) r) c.requires.page a in
+    let runs = λ (r : Result (Unit {0}) PageFault) (a : Runs T V g.S.EawStore.calls (acting_of c.args.change.tid (log_len (V c.take_page-2.new.pages.store) c.args.change.tid) (growing_parts c.in_ok-right.right.front c.in_ok-left.left.number c.in_ok-right.right.number c.args.top.page c.args.top.level c.args.top.pairs.items c.args.change.key)) (V c.take_page-2.new.pages.store) (V c.grow_root.new.pages.store) r).
+    subst (λ (p : ℕ). Runs T V g.S.EawStore.calls (acting_of c.args.change.tid (log_len (V c.take_page-2.new.pages.store) c.args.change.tid) (growing_parts c.in_ok-right.right.front c.in_ok-left.left.number c.in_ok-right.right.number p c.args.top.level c.args.top.pairs.items c.args.change.key)) (V c.take_page-2.new.pages.store) (V c.grow_root.new.pages.store) r) c.requires.page a in
     subst (λ (f : IndexFault). (let r : Result ℕ IndexFault = Err f in WorksFrom (0 ∷ root.page ∷ []) (IsTrue T) T (is_done r) V g.S.EawStore.calls t (below key top.level top.pairs.items) (limits_above top.level) (tree_actions v0.store.state.bytes root.page key) (blamed_index r) v0.store v3.store)) (sym exit.2)
     (works_grow_err T V g.S.EawStore.calls t key root.page top.level top.pairs.items (tree_actions v0.store.state.bytes root.page key) c.args.pages.now.store Claim c.take_page.new.pages.store left c.in_ok-left.ensures.peeks c.in_ok-left.ensures.looks.shape (takes_two T E t root key v0 c.index_page_count-count.result n.count n.all n.most n.some small c.requires.may.act.sound c.requires.may.act.named c.requires.may.absent long c.requires.may.act.alive front c.requires.may.front_is c.requires.may.slot c.requires.may.says top.level top.pairs.items read c.requires.level c.requires.pairs c.requires.full c.if-top-eq-LEVEL_MAX.false) c.grow_root.new.pages.store c.take_page-2.new.pages right c.in_ok-right.ensures.peeks (record { pages = growing_pages left.number right.number root.page; takes = 2 })
-    (acting_of t (log_len v2.store t) (growing_parts right.front left.number right.number root.page top.level top.pairs.items))
-    (log_len v2.store t, growing_parts right.front left.number right.number root.page top.level top.pairs.items, refl, growing_in right.front left.number right.number root.page top.level top.pairs.items) refl c.in_err-grow_root.field-0.0 (runs (Err c.in_err-grow_root.field-0.0) c.in_err-grow_root.ensures.runs)
+    (acting_of t (log_len v2.store t) (growing_parts right.front left.number right.number root.page top.level top.pairs.items key))
+    (log_len v2.store t, growing_parts right.front left.number right.number root.page top.level top.pairs.items key, refl, growing_in right.front left.number right.number root.page top.level top.pairs.items key) refl c.in_err-grow_root.field-0.0 (runs (Err c.in_err-grow_root.field-0.0) c.in_err-grow_root.ensures.runs)
     (blamed_same ℕ (Unit {0}) c.in_err-grow_root.field-0.0 ∙ act_blames (Unit {0}) v2.store t (growing_pages left.number right.number top.page) c.in_err-grow_root.field-0.0 c.in_err-grow_root.ensures.acts.cause)
     (actions_below (level_of v2.store.state.bytes root.page) v2.store.state.bytes root.page (half_for (page_pairs v2.store.state.bytes root.page) (page_due v2.store.state.bytes 0) (page_due v2.store.state.bytes 1) key) 2 key)
     (root_due T E t root key v0 c.index_page_count-count.result n.count n.all n.most n.some small c.requires.may.act.sound c.requires.may.act.named c.requires.may.absent long c.requires.may.act.alive front c.requires.may.front_is c.requires.may.slot c.requires.may.says top.level top.pairs.items read c.requires.level c.requires.pairs c.requires.full c.if-top-eq-LEVEL_MAX.false (c.if-not-are_pages_left.ensures.0 refl) v2 looks left.number right.number left.front right.front one other)))
@@ -517,17 +517,17 @@ returns-clause-works g c =
     let one = λ (told : IsTrue g.S.EawStore.tells). subst (λ (st : State). TakesPage st.bytes c.args.front c.in_ok-left.left.number c.in_ok-left.left.front) (sym ((c.in_ok-left.ensures.looks.still refl).state told) ∙ sym ((c.in_ok-right.ensures.looks.still refl).state told)) (c.in_ok-left.ensures.takes told) in
     let other = λ (told : IsTrue g.S.EawStore.tells). subst (λ (st : State). TakesPage st.bytes c.in_ok-left.left.front c.in_ok-right.right.number c.in_ok-right.right.front) (sym ((c.in_ok-right.ensures.looks.still refl).state told)) (c.in_ok-right.ensures.takes told) in
     let v3 = pages_of (V c.grow_root.new.pages.store) c.grow_root.new.pages in
-    let acts = λ (r : Result (Unit {0}) PageFault) (a : Acts g.S.EawStore.tells (g.S.EawStore.opens (g.S.EawStore.view c.take_page-2.new.pages.store).shape) c.args.change.tid (growing_pages c.in_ok-left.left.number c.in_ok-right.right.number c.args.top.page) (growing_parts c.in_ok-right.right.front c.in_ok-left.left.number c.in_ok-right.right.number c.args.top.page c.args.top.level c.args.top.pairs.items)
+    let acts = λ (r : Result (Unit {0}) PageFault) (a : Acts g.S.EawStore.tells (g.S.EawStore.opens (g.S.EawStore.view c.take_page-2.new.pages.store).shape) c.args.change.tid (growing_pages c.in_ok-left.left.number c.in_ok-right.right.number c.args.top.page) (growing_parts c.in_ok-right.right.front c.in_ok-left.left.number c.in_ok-right.right.number c.args.top.page c.args.top.level c.args.top.pairs.items c.args.change.key)
     (pages_of (g.S.EawStore.view c.take_page-2.new.pages.store) c.take_page-2.new.pages) (pages_of (g.S.EawStore.view c.grow_root.new.pages.store) c.grow_root.new.pages) r).
-    subst (λ (p : ℕ). Acts g.S.EawStore.tells (g.S.EawStore.opens (g.S.EawStore.view c.take_page-2.new.pages.store).shape) c.args.change.tid (growing_pages c.in_ok-left.left.number c.in_ok-right.right.number p) (growing_parts c.in_ok-right.right.front c.in_ok-left.left.number c.in_ok-right.right.number p c.args.top.level c.args.top.pairs.items)
+    subst (λ (p : ℕ). Acts g.S.EawStore.tells (g.S.EawStore.opens (g.S.EawStore.view c.take_page-2.new.pages.store).shape) c.args.change.tid (growing_pages c.in_ok-left.left.number c.in_ok-right.right.number p) (growing_parts c.in_ok-right.right.front c.in_ok-left.left.number c.in_ok-right.right.number p c.args.top.level c.args.top.pairs.items c.args.change.key)
     (pages_of (g.S.EawStore.view c.take_page-2.new.pages.store) c.take_page-2.new.pages) (pages_of (g.S.EawStore.view c.grow_root.new.pages.store) c.grow_root.new.pages) r) c.requires.page a in
     let half = c.half_of-half in
     let v4 = pages_of (V c.insert_below.new.pages.store) c.insert_below.new.pages in
-    let runs = λ (r : Result (Unit {0}) PageFault) (a : Runs T V g.S.EawStore.calls (acting_of c.args.change.tid (log_len (V c.take_page-2.new.pages.store) c.args.change.tid) (growing_parts c.in_ok-right.right.front c.in_ok-left.left.number c.in_ok-right.right.number c.args.top.page c.args.top.level c.args.top.pairs.items)) (V c.take_page-2.new.pages.store) (V c.grow_root.new.pages.store) r).
-    subst (λ (p : ℕ). Runs T V g.S.EawStore.calls (acting_of c.args.change.tid (log_len (V c.take_page-2.new.pages.store) c.args.change.tid) (growing_parts c.in_ok-right.right.front c.in_ok-left.left.number c.in_ok-right.right.number p c.args.top.level c.args.top.pairs.items)) (V c.take_page-2.new.pages.store) (V c.grow_root.new.pages.store) r) c.requires.page a in
+    let runs = λ (r : Result (Unit {0}) PageFault) (a : Runs T V g.S.EawStore.calls (acting_of c.args.change.tid (log_len (V c.take_page-2.new.pages.store) c.args.change.tid) (growing_parts c.in_ok-right.right.front c.in_ok-left.left.number c.in_ok-right.right.number c.args.top.page c.args.top.level c.args.top.pairs.items c.args.change.key)) (V c.take_page-2.new.pages.store) (V c.grow_root.new.pages.store) r).
+    subst (λ (p : ℕ). Runs T V g.S.EawStore.calls (acting_of c.args.change.tid (log_len (V c.take_page-2.new.pages.store) c.args.change.tid) (growing_parts c.in_ok-right.right.front c.in_ok-left.left.number c.in_ok-right.right.number p c.args.top.level c.args.top.pairs.items c.args.change.key)) (V c.take_page-2.new.pages.store) (V c.grow_root.new.pages.store) r) c.requires.page a in
     works_grown T V g.S.EawStore.calls t key root.page top.level top.pairs.items (tree_actions v0.store.state.bytes root.page key) c.args.pages.now.store Claim c.take_page.new.pages.store left c.in_ok-left.ensures.peeks c.in_ok-left.ensures.looks.shape (takes_two T E t root key v0 c.index_page_count-count.result n.count n.all n.most n.some small c.requires.may.act.sound c.requires.may.act.named c.requires.may.absent long c.requires.may.act.alive front c.requires.may.front_is c.requires.may.slot c.requires.may.says top.level top.pairs.items read c.requires.level c.requires.pairs c.requires.full c.if-top-eq-LEVEL_MAX.false) c.grow_root.new.pages.store c.take_page-2.new.pages right c.in_ok-right.ensures.peeks (record { pages = growing_pages left.number right.number root.page; takes = 2 })
-    (acting_of t (log_len v2.store t) (growing_parts right.front left.number right.number root.page top.level top.pairs.items))
-    (log_len v2.store t, growing_parts right.front left.number right.number root.page top.level top.pairs.items, refl, growing_in right.front left.number right.number root.page top.level top.pairs.items) refl (runs (Ok tt) c.in_ok-grow_root.ensures.runs) (c.in_ok-grow_root.ensures.acts.shape ∙ looks.shape) half.result.page half.result.level half.result.pairs.items
+    (acting_of t (log_len v2.store t) (growing_parts right.front left.number right.number root.page top.level top.pairs.items key))
+    (log_len v2.store t, growing_parts right.front left.number right.number root.page top.level top.pairs.items key, refl, growing_in right.front left.number right.number root.page top.level top.pairs.items key) refl (runs (Ok tt) c.in_ok-grow_root.ensures.runs) (c.in_ok-grow_root.ensures.acts.shape ∙ looks.shape) half.result.page half.result.level half.result.pairs.items
     (actions_below half.result.level v3.store.state.bytes half.result.page half.result.page 0 key) half.ensures.level
     (root_leads T E t root key v0 c.index_page_count-count.result n.count n.all n.most n.some small c.requires.may.act.sound c.requires.may.act.named c.requires.may.absent long c.requires.may.act.alive front c.requires.may.front_is c.requires.may.slot c.requires.may.says top.level top.pairs.items read c.requires.level c.requires.pairs c.requires.full c.if-top-eq-LEVEL_MAX.false (c.if-not-are_pages_left.ensures.0 refl) v2 looks left.number right.number left.front right.front one other v3 (acts (Ok tt) c.in_ok-grow_root.ensures.acts) half.result.page half.result.pairs.items half.ensures.page half.ensures.pairs) (root_half_among left.number right.number root.page key half.result.page top.pairs.items half.ensures.page)
     (root_rest T E t root key v0 c.index_page_count-count.result n.count n.all n.most n.some small c.requires.may.act.sound c.requires.may.act.named c.requires.may.absent long c.requires.may.act.alive front c.requires.may.front_is c.requires.may.slot c.requires.may.says top.level top.pairs.items read c.requires.level c.requires.pairs c.requires.full c.if-top-eq-LEVEL_MAX.false (c.if-not-are_pages_left.ensures.0 refl) v2 looks left.number right.number left.front right.front one other v3 (acts (Ok tt) c.in_ok-grow_root.ensures.acts) half.result.page half.result.pairs.items half.ensures.page half.ensures.pairs half.result.level half.ensures.level) c.insert_below.new.pages.store c.insert_below.result c.insert_below.ensures.works

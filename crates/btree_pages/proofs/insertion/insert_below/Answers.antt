@@ -181,14 +181,14 @@ loop-node-preserved g c =
     let s1 = stepped_child T V g.S.EawStore.calls t key node.page node.level node.pairs.items (actions_below node.level v0.store.state.bytes node.page node.page 0 key) c.args.pages.now.store c.loop-node.pages.store c.fetch_child.new.pages.store
     at.page at.level at.pairs.items (actions_below at.level v1.store.state.bytes at.page at.page 0 key) c.loop-node.invariant.stepped child c.in_ok-child.ensures.reads c.in_ok-child.ensures.looks.shape (not_zero _ c.loop-node-test.true) c.in_ok-child.ensures.child c.in_ok-child.ensures.level in
     let child_is = subst (λ (sh : Shape). IsRead sh c.in_ok-child.child.page c.in_ok-child.child.level c.in_ok-child.child.pairs.items) c.loop-node.invariant.stands.going.shape c.in_ok-child.ensures.read in
-    let half_in = half_read v0.store.shape child.pairs.items child.page taken.number key half.result.page half.result.pairs.items full child_is.small
+    let half_in = half_read v0.store.shape child.level child.pairs.items child.page taken.number key half.result.page half.result.pairs.items full child_is.small
     child_is.some child_is.inside (two_some taken.number c.in_ok-taken.ensures.inside.0) inside half.ensures.page half.ensures.pairs in
     record {
       stands = stands_cut T E t root key v0 node.page node.level (c.args.front.next_page + node.level) c.index_page_count-count.result n.count n.all n.most n.some small c.requires.may.act.one_of c.requires.may.act.sound c.requires.may.act.named c.requires.may.absent long c.requires.may.act.alive limit v1 c.loop-node.front at.page at.level at.pairs.items c.loop-node.invariant.stands v3 looks3 child.page child.level child.pairs.items c.in_ok-child.ensures.child c.in_ok-child.ensures.level c.in_ok-child.ensures.read c.in_ok-child.ensures.some c.in_ok-child.ensures.pairs full (c.if-not-are_pages_left.ensures.0 refl) taken.number taken.front takes (two_some taken.number c.in_ok-taken.ensures.inside.0) inside after_is c.in_ok-taken.ensures.slots.0 c.in_ok-taken.ensures.slots.1 v4 c.in_ok-cut_page.ensures.acts half.result.page half.result.pairs.items half.ensures.page half.ensures.pairs half.result.level half.ensures.level;
       stepped = stepped_cut T V g.S.EawStore.calls t key node.page node.level node.pairs.items (actions_below node.level v0.store.state.bytes node.page node.page 0 key) c.args.pages.now.store c.fetch_child.new.pages.store c.take_page.new.pages.store c.cut_page.new.pages.store c.take_page.new.pages child.page child.level child.pairs.items
           (actions_below at.level v1.store.state.bytes at.page at.page 0 key) s1 Claim taken c.in_ok-taken.ensures.peeks (record { pages = cutting_pages child.page taken.number at.page; takes = 1 })
-          (acting_of t (log_len v3.store t) (cutting_parts taken.front child.page child.level child.pairs.items taken.number at.page at.pairs.items))
-          (log_len v3.store t, cutting_parts taken.front child.page child.level child.pairs.items taken.number at.page at.pairs.items, refl, cutting_in taken.front child.page child.level child.pairs.items taken.number at.page at.pairs.items)
+          (acting_of t (log_len v3.store t) (cutting_parts taken.front child.page child.level child.pairs.items key taken.number at.page at.pairs.items))
+          (log_len v3.store t, cutting_parts taken.front child.page child.level child.pairs.items key taken.number at.page at.pairs.items, refl, cutting_in taken.front child.page child.level child.pairs.items key taken.number at.page at.pairs.items)
           c.in_ok-cut_page.ensures.runs (c.in_ok-cut_page.ensures.acts.shape ∙ c.in_ok-taken.ensures.looks.shape ∙ shape2) refl half.result.page half.result.level half.result.pairs.items
           (actions_below half.result.level v4.store.state.bytes half.result.page half.result.page 0 key) (page_there v0.store.shape half.result.page half_in.inside) (half_among child.page taken.number at.page key half.result.page child.pairs.items half.ensures.page) half.ensures.level
           (λ told inner. half_leads T E t root key v0 node.page node.level (c.args.front.next_page + node.level) c.index_page_count-count.result n.count n.all n.most n.some small c.requires.may.act.one_of c.requires.may.act.sound c.requires.may.act.named c.requires.may.absent long c.requires.may.act.alive limit v1 c.loop-node.front at.page at.level at.pairs.items c.loop-node.invariant.stands v3 looks3 child.page child.level child.pairs.items c.in_ok-child.ensures.child c.in_ok-child.ensures.level c.in_ok-child.ensures.read c.in_ok-child.ensures.some c.in_ok-child.ensures.pairs full half.result.pairs.items half.ensures.pairs told)
@@ -584,8 +584,8 @@ returns-in_err-cut_page-clause-works g c =
     let q : Result ℕ IndexFault = Err (as_index c.in_err-cut_page.field-0.0) in
     subst (λ (f : IndexFault). (let r : Result ℕ IndexFault = Err f in WorksFrom (known_from node.level node.page) (IsTrue T) T (is_done r) V g.S.EawStore.calls t (below key node.level node.pairs.items) (limits_below node.level) (actions_below node.level v0.store.state.bytes node.page node.page 0 key) (blamed_index r) v0.store v4.store)) (sym exit.2)
     (works_act T V g.S.EawStore.calls t key node.page node.level node.pairs.items (actions_below node.level v0.store.state.bytes node.page node.page 0 key) c.args.pages.now.store 1 c.fetch_child.new.pages.store c.cut_page.new.pages.store child.page child.level child.pairs.items (actions_below at.level v1.store.state.bytes at.page at.page 0 key) s1 Claim c.take_page.new.pages.store c.take_page.new.pages refl taken c.in_ok-taken.ensures.peeks
-    (record { pages = cutting_pages child.page taken.number at.page; takes = 1 }) (acting_of t (log_len v3.store t) (cutting_parts taken.front child.page child.level child.pairs.items taken.number at.page at.pairs.items))
-    (log_len v3.store t, cutting_parts taken.front child.page child.level child.pairs.items taken.number at.page at.pairs.items, refl, cutting_in taken.front child.page child.level child.pairs.items taken.number at.page at.pairs.items)
+    (record { pages = cutting_pages child.page taken.number at.page; takes = 1 }) (acting_of t (log_len v3.store t) (cutting_parts taken.front child.page child.level child.pairs.items key taken.number at.page at.pairs.items))
+    (log_len v3.store t, cutting_parts taken.front child.page child.level child.pairs.items key taken.number at.page at.pairs.items, refl, cutting_in taken.front child.page child.level child.pairs.items key taken.number at.page at.pairs.items)
     (actions_below child.level v3.store.state.bytes child.page (half_for (page_pairs v3.store.state.bytes child.page) child.page taken.number key) 1 key)
     (rest_due T E t root key v0 node.page node.level (c.args.front.next_page + node.level) c.index_page_count-count.result n.count n.all n.most n.some small c.requires.may.act.one_of c.requires.may.act.sound c.requires.may.act.named c.requires.may.absent long c.requires.may.act.alive limit v1 c.loop-node.front at.page at.level at.pairs.items c.loop-node.invariant.stands v3 looks3 child.page child.level child.pairs.items c.in_ok-child.ensures.child c.in_ok-child.ensures.level c.in_ok-child.ensures.read c.in_ok-child.ensures.some c.in_ok-child.ensures.pairs full (c.if-not-are_pages_left.ensures.0 refl) taken.number taken.front takes (two_some taken.number c.in_ok-taken.ensures.inside.0) inside after_is c.in_ok-taken.ensures.slots.0 c.in_ok-taken.ensures.slots.1) q r refl (blamed_same ℕ (Unit {0}) c.in_err-cut_page.field-0.0 ∙ act_blames (Unit {0}) v3.store t (cutting_pages child.page taken.number at.page) c.in_err-cut_page.field-0.0 c.in_err-cut_page.ensures.acts.cause) (λ told yes. absurd (false≢true yes)) c.in_err-cut_page.ensures.runs))
 

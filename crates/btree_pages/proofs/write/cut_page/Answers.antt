@@ -1,11 +1,12 @@
-use Rattle.std.proofs.Common.{◌≡◌, ◌+◌, ◌<◌, ℕ, List, [], ◌∷◌, take, drop, ◌∙◌, ap, subst, arith}
+use Rattle.std.proofs.Common.{◌≡◌, ◌+◌, ◌<◌, ℕ, List, [], ◌∷◌, get_or, take, drop, ◌∙◌, ap, subst, arith}
 use Rattle.array_shape.specs.Logged.{Part}
 use Rattle.page_store.specs.Pairs.{Pair, inserted}
 use Rattle.page_store.specs.Shown.{pages_of}
 use Rattle.index_pages.specs.Acts.{Acts}
+use Rattle.index_pages.proofs.Halved.{get_key}
 use Rattle.index_pages.specs.Keys.{key_at}
 use Rattle.index_pages.specs.Written.{written_page}
-use Rattle.btree_pages.specs.Writes.{cutting_parts}
+use Rattle.btree_pages.specs.Writes.{cut_for, cutting_parts}
 use Rattle.index_pages.proofs.Parting.{all_behind, same_part, same_four, page_there, part_in}
 use Rattle.array_shape.specs.Places.{page_count}
 use Rattle.btree_pages.proofs.write.cut_page.Goals as goal
@@ -19,14 +20,15 @@ returns-clause-acts g c =
     let v1 = pages_of (V c.act_all.new.pages.store) c.act_all.new.pages in
     let taken = c.args.taken.now in
     let node = c.args.node.now in
-    let lower : c.whole_page.result.bytes.now ≡ written_page node.level 0 (take 15 node.pairs.items) =
-    c.whole_page.ensures.bytes ∙ c.write_page.ensures ∙ ap (λ (ps : List Pair). written_page node.level 0 (take 15 ps)) c.as_slice-pairs.ensures.value in
-    let upper : c.whole_page-2.result.bytes.now ≡ written_page node.level 0 (drop 15 node.pairs.items) =
-    c.whole_page-2.ensures.bytes ∙ c.write_page-2.ensures ∙ ap (λ (ps : List Pair). written_page node.level 0 ps) (all_behind c.as_slice-pairs.result.now 15) ∙ ap (λ (ps : List Pair). written_page node.level 0 (drop 15 ps)) c.as_slice-pairs.ensures.value in
-    let named : c.whole_page-3.result.bytes.now ≡ written_page (node.level + 1) 0 (inserted c.args.parent.pairs.items (key_at node.pairs.items 15) taken.number) =
-    c.whole_page-3.ensures.bytes ∙ c.write_page-3.ensures ∙ ap (λ (ps : List Pair). written_page (node.level + 1) 0 ps) (c.as_slice.ensures.value ∙ c.with_pair-above.ensures ∙ ap (λ (k : ℕ). inserted c.args.parent.pairs.items k taken.number) c.middle_of.ensures) in
+    let lower : c.whole_page.result.bytes.now ≡ written_page node.level 0 (take (cut_for node.level node.pairs.items c.args.key) node.pairs.items) =
+    c.whole_page.ensures.bytes ∙ c.write_page.ensures ∙ (λ i. written_page c.args.node.now.level 0 (take (c.cut_of-cut.ensures.cut i) (c.as_slice-pairs.ensures.value i))) in
+    let upper : c.whole_page-2.result.bytes.now ≡ written_page node.level 0 (drop (cut_for node.level node.pairs.items c.args.key) node.pairs.items) =
+    c.whole_page-2.ensures.bytes ∙ c.write_page-2.ensures ∙ ap (λ (ps : List Pair). written_page c.args.node.now.level 0 ps) (all_behind c.as_slice-pairs.result.now c.cut_of-cut.result) ∙ (λ i. written_page c.args.node.now.level 0 (drop (c.cut_of-cut.ensures.cut i) (c.as_slice-pairs.ensures.value i))) in
+    let first = (λ i. (get_or (c.as_slice-pairs.ensures.value i) (c.cut_of-cut.ensures.cut i) (0, 0)).0) ∙ get_key c.args.node.now.pairs.items (cut_for c.args.node.now.level c.args.node.now.pairs.items c.args.key) in
+    let named : c.whole_page-3.result.bytes.now ≡ written_page (node.level + 1) 0 (inserted c.args.parent.pairs.items (key_at node.pairs.items (cut_for node.level node.pairs.items c.args.key)) taken.number) =
+    c.whole_page-3.ensures.bytes ∙ c.write_page-3.ensures ∙ ap (λ (ps : List Pair). written_page (node.level + 1) 0 ps) (c.as_slice.ensures.value ∙ c.with_pair-above.ensures ∙ ap (λ (k : ℕ). inserted c.args.parent.pairs.items k taken.number) first) in
     let counts = c.front_part.ensures.bytes ∙ c.write_super_part.ensures in
-    subst (λ (ps : List ℕ). Acts T O c.args.tid ps (cutting_parts taken.front node.page node.level node.pairs.items taken.number c.args.parent.page c.args.parent.pairs.items) v0 v1 c.act_all.result)
+    subst (λ (ps : List ℕ). Acts T O c.args.tid ps (cutting_parts taken.front node.page node.level node.pairs.items c.args.key taken.number c.args.parent.page c.args.parent.pairs.items) v0 v1 c.act_all.result)
     (same_four _ _ _ _ _ _ _ _ c.whole_page.ensures.page c.whole_page-2.ensures.page c.whole_page-3.ensures.page c.front_part.ensures.page)
     (subst (λ (l : List Part). Acts T O c.args.tid (c.whole_page.result.page ∷ c.whole_page-2.result.page ∷ c.whole_page-3.result.page ∷ c.front_part.result.page ∷ []) l v0 v1 c.act_all.result)
     (same_four _ _ _ _ _ _ _ _

@@ -1,4 +1,4 @@
-use Rattle.std.proofs.Common.{◌≡◌, ◌+◌, ◌<◌, ℕ, List, [], ◌∷◌, take, drop, ◌∙◌, ap, subst, arith}
+use Rattle.std.proofs.Common.{◌≡◌, ◌+◌, ◌<◌, ℕ, List, [], ◌∷◌, get_or, take, drop, ◌∙◌, ap, subst, arith}
 use Rattle.array_shape.specs.Logged.{Part}
 use Rattle.array_shape.specs.Places.{page_count}
 use Rattle.page_store.specs.Pairs.{Pair}
@@ -6,9 +6,11 @@ use Rattle.eaw_face.specs.StoreView.{log_len}
 use Rattle.page_store.specs.Runs.{Runs, acting_of}
 use Rattle.page_store.specs.Shown.{pages_of, address}
 use Rattle.index_pages.specs.Acts.{Acts}
+use Rattle.index_pages.proofs.Halved.{get_key}
 use Rattle.index_pages.specs.Keys.{key_at}
 use Rattle.index_pages.specs.Written.{written_page}
 use Rattle.index_pages.proofs.Parting.{all_behind, page_there, part_in}
+use Rattle.btree_pages.specs.Writes.{cut_for}
 use Rattle.btree_pages.proofs.write.grow_root.Goals as goal
 
 pub act_all-requires : goal.act_all-requires
@@ -25,12 +27,13 @@ returns g c =
     let O = g.S.EawStore.opens (V c.args.pages.now.store).shape in
     let v0 = pages_of (V c.args.pages.now.store) c.args.pages.now in
     let v1 = pages_of (V c.act_all.new.pages.store) c.act_all.new.pages in
-    let lower : c.whole_page.result.bytes.now ≡ written_page c.args.root.now.level 0 (take 15 c.args.root.now.pairs.items) =
-    c.whole_page.ensures.bytes ∙ c.write_page.ensures ∙ ap (λ (ps : List Pair). written_page c.args.root.now.level 0 (take 15 ps)) c.as_slice-pairs.ensures.value in
-    let upper : c.whole_page-2.result.bytes.now ≡ written_page c.args.root.now.level 0 (drop 15 c.args.root.now.pairs.items) =
-    c.whole_page-2.ensures.bytes ∙ c.write_page-2.ensures ∙ ap (λ (ps : List Pair). written_page c.args.root.now.level 0 ps) (all_behind c.as_slice-pairs.result.now 15) ∙ ap (λ (ps : List Pair). written_page c.args.root.now.level 0 (drop 15 ps)) c.as_slice-pairs.ensures.value in
-    let named : c.whole_page-3.result.bytes.now ≡ written_page (c.args.root.now.level + 1) 0 ((0, c.args.left) ∷ (key_at c.args.root.now.pairs.items 15, c.args.right.now.number) ∷ []) =
-    c.whole_page-3.ensures.bytes ∙ c.write_page-3.ensures ∙ (λ i. written_page (c.args.root.now.level + 1) 0 ((0, c.from.ensures i) ∷ (c.middle_of.ensures i, c.from-2.ensures i) ∷ [])) in
+    let lower : c.whole_page.result.bytes.now ≡ written_page c.args.root.now.level 0 (take (cut_for c.args.root.now.level c.args.root.now.pairs.items c.args.key) c.args.root.now.pairs.items) =
+    c.whole_page.ensures.bytes ∙ c.write_page.ensures ∙ (λ i. written_page c.args.root.now.level 0 (take (c.cut_of-cut.ensures.cut i) (c.as_slice-pairs.ensures.value i))) in
+    let upper : c.whole_page-2.result.bytes.now ≡ written_page c.args.root.now.level 0 (drop (cut_for c.args.root.now.level c.args.root.now.pairs.items c.args.key) c.args.root.now.pairs.items) =
+    c.whole_page-2.ensures.bytes ∙ c.write_page-2.ensures ∙ ap (λ (ps : List Pair). written_page c.args.root.now.level 0 ps) (all_behind c.as_slice-pairs.result.now c.cut_of-cut.result) ∙ (λ i. written_page c.args.root.now.level 0 (drop (c.cut_of-cut.ensures.cut i) (c.as_slice-pairs.ensures.value i))) in
+    let first = (λ i. (get_or (c.as_slice-pairs.ensures.value i) (c.cut_of-cut.ensures.cut i) (0, 0)).0) ∙ get_key c.args.root.now.pairs.items (cut_for c.args.root.now.level c.args.root.now.pairs.items c.args.key) in
+    let named : c.whole_page-3.result.bytes.now ≡ written_page (c.args.root.now.level + 1) 0 ((0, c.args.left) ∷ (key_at c.args.root.now.pairs.items (cut_for c.args.root.now.level c.args.root.now.pairs.items c.args.key), c.args.right.now.number) ∷ []) =
+    c.whole_page-3.ensures.bytes ∙ c.write_page-3.ensures ∙ (λ i. written_page (c.args.root.now.level + 1) 0 ((0, c.from.ensures i) ∷ (first i, c.from-2.ensures i) ∷ [])) in
     let counts = c.front_part.ensures.bytes ∙ c.write_super_part.ensures in
     record {
       acts = subst (λ (x : List ℕ × List Part). Acts g.S.EawStore.tells O c.args.tid x.0 x.1 v0 v1 c.act_all.result) (λ i. (
