@@ -19,12 +19,15 @@ use Rattle.history.specs.declared.call.Control.TheVariants.{Commit, Settle}
 use Rattle.history.specs.declared.call.Reply.{Reply}
 use Rattle.history.specs.declared.call.Reply.TheVariants as says
 use Rattle.caller_steps.specs.State as state
-use Rattle.caller_steps.specs.State.{State, unoffered, view_of}
-use Rattle.caller_steps.specs.Room.{Limits, Lacks, LacksAt}
-use Rattle.caller_steps.specs.Step.{Asks, AsksTable, AsksWithin, StepAt, StepBy, StepIf, Step, Runs}
+use Rattle.caller_steps.specs.State.{State, Index, unoffered, view_of}
+use Rattle.caller_steps.specs.Room.{Limits}
+use Rattle.caller_steps.specs.Step.{Asks, StepOf, Step, Runs}
 use Rattle.caller_steps.specs.Fate.{is_refusal, is_busy, is_committed}
 use Rattle.caller_steps.specs.Run.{Turn, Heard, turns_of}
 use Rattle.caller_steps.specs.Own.{Own, own_after, live_in, KnowsLive}
+use Rattle.caller_steps.proofs.Able.{refusal_of, ask_refusal}
+use Rattle.caller_steps.proofs.Lacking.{Lacking, room_lacks}
+use Rattle.caller_steps.proofs.Lacking.Lacking.{no_slot, no_page, no_entry}
 use Rattle.caller_steps.proofs.Fates.{Fate as Moved, step_fate, refusal_none, answer_plain}
 use Rattle.caller_steps.proofs.Fates.Fate.{refused, failed, began, granted, committed, doubted, aborted, given, settled, unsure, told as numbered, purged}
 use Rattle.caller_steps.proofs.Running.{line_here, line_apart, goes_of_step}
@@ -89,41 +92,28 @@ answered_done work (Scan name low high) reply answers = ap is_refusal answers
 answered_done work Save reply answers = ap is_refusal answers
 answered_done work (Back n) reply answers = ap is_refusal answers.1
 
--- the refusals of an array that is full
-lacks_at_final : (limits : Limits) (old : State) (caller : ℕ) (key : Key) (slot : Option ℕ) (reply : Reply) → LacksAt limits old caller key slot reply → is_final reply ≡ true
-lacks_at_final limits old caller key (Some slot) (says.LogFull g h n) lacks = refl
-lacks_at_final limits old caller key None (says.SlotsFull n) lacks = refl
-lacks_at_final limits old caller key None (says.PagesFull n) lacks = refl
-lacks_at_final limits old caller key None (says.LogFull g h n) lacks = refl
-lacks_at_final limits old caller key _ _ lacks = absurd lacks
+-- the refusals of an array that is full, and those of a call that its transaction or its table does not let be
+lack_final : (limits : Limits) (index : Index) (slot : Option ℕ) (reply : Reply) → Lacking limits index slot reply → is_final reply ≡ true
+lack_final limits index slot reply (no_slot none full e) = ap is_final e
+lack_final limits index slot reply (no_page none e) = ap is_final e
+lack_final limits index slot reply (no_entry g h n e) = ap is_final e
 
-lacks_final : (limits : Limits) (old : State) (caller : ℕ) (call : TableCall) (reply : Reply) → Lacks limits old caller call reply → is_final reply ≡ true
-lacks_final limits old caller (Put name key value) reply lacks = lacks_at_final limits old caller (of_table name key) (old.index.slot_of (of_table name key)) reply lacks
-lacks_final limits old caller (Del name key) reply lacks = lacks_at_final limits old caller (of_table name key) (Some lacks.1) reply lacks.3
-lacks_final limits old caller _ reply lacks = absurd lacks
+ask_final : (call : TableCall) → is_final (refusal_of call) ≡ true
+ask_final Save = refl
+ask_final (Back n) = refl
+ask_final call = refl
 
-module _ (limits : Limits) (old new : State) (caller : ℕ) (reply : Reply) (refusal : is_refusal reply ≡ true) where
-  kind_asks : (calls : Granted) (asked : TableCall) → Asks limits calls old caller asked reply new → IsKind reply
-  kind_asks calls asked (inl short) = inl (ap is_last short.0)
-  kind_asks calls asked (inr (inl held)) = inr (inl (ap is_busy held.2.0))
-  kind_asks calls asked (inr (inr (free, inl (answers, fits, index, indexes, e)))) = absurd (true≢false (sym refusal ∙ answered_done (view_of old caller) asked reply answers))
-  kind_asks calls asked (inr (inr (free, inr (inl (lacks, index, indexes, e))))) = inr (inr (lacks_final limits old caller asked reply lacks))
-  kind_asks calls asked (inr (inr (free, inr (inr (uses, (re, index, e)))))) = inl (ap is_last re)
-
-  kind_table : (calls : Granted) (asked : TableCall) → AsksTable limits calls old caller asked reply new → IsKind reply
-  kind_table calls asked (inl (none, s)) = inr (inr (ap is_final s.0))
-  kind_table calls asked (inr (some, a)) = kind_asks calls asked a
-
-  kind_within : (calls : Granted) (asked : TableCall) → AsksWithin limits calls old caller asked reply new → IsKind reply
-  kind_within calls Save (inl (full, s)) = inr (inr (ap is_final s.0))
-  kind_within calls Save (inr (room, a)) = kind_asks calls Save a
-  kind_within calls (Back n) (inl (none, s)) = inr (inr (ap is_final s.0))
-  kind_within calls (Back n) (inr (some, a)) = kind_asks calls (Back n) a
-  kind_within calls asked a = kind_table calls asked a
+kind_asks : (limits : Limits) (old new : State) (caller : ℕ) (reply : Reply) → is_refusal reply ≡ true → (calls : Granted) (asked : TableCall) → Asks limits calls old caller asked reply new → IsKind reply
+kind_asks limits old new caller reply refusal calls asked (inl short) = inl (ap is_last short.0)
+kind_asks limits old new caller reply refusal calls asked (inr (inl held)) = inr (inl (ap is_busy held.2.0))
+kind_asks limits old new caller reply refusal calls asked (inr (inr (free, inl (answers, fits, index, indexes, e)))) = absurd (true≢false (sym refusal ∙ answered_done (view_of old caller) asked reply answers))
+kind_asks limits old new caller reply refusal calls asked (inr (inr (free, inr (inl (lacks, index, indexes, e))))) =
+    let why = room_lacks limits old caller asked reply lacks in inr (inr (lack_final limits old.index why.0 reply why.1))
+kind_asks limits old new caller reply refusal calls asked (inr (inr (free, inr (inr (uses, (re, index, e)))))) = inl (ap is_last re)
 
 module _ (limits : Limits) (old new : State) (caller : ℕ) (own : Own) (call : Call) (reply : Reply) (step : Step limits old caller call reply new) (knows : KnowsLive caller own old) where
   -- of a caller that has offered nothing: the medium has failed, or it is a step by what is live of it
-  by_live : (live : Option Granted) → own.live ≡ live → own.waits ≡ false → (reply ≡ says.Dead) ⊎ StepAt limits live old caller call reply new
+  by_live : (live : Option Granted) → own.live ≡ live → own.waits ≡ false → (reply ≡ says.Dead) ⊎ StepOf limits false unoffered live old caller call reply new
   by_live live is idle = go old.is_dead step.acts
     where
       open_is : old.offers caller ≡ unoffered
@@ -132,26 +122,29 @@ module _ (limits : Limits) (old new : State) (caller : ℕ) (own : Own) (call : 
       live_is : old.live caller ≡ live
       live_is = knows.live ∙ ap (live_in own) open_is ∙ pick_false own.waits None own.live idle ∙ is
 
-      go : (dead : Bool) → StepIf limits dead old caller call reply new → (reply ≡ says.Dead) ⊎ StepAt limits live old caller call reply new
+      go : (dead : Bool) → StepOf limits dead (old.offers caller) (old.live caller) old caller call reply new → (reply ≡ says.Dead) ⊎ StepOf limits false unoffered live old caller call reply new
       go true said = inl said.0
-      go false by =
-          inr (subst (λ (l : Option Granted). StepAt limits l old caller call reply new) live_is (subst (λ (o : state.Offer). StepBy limits o old caller call reply new) open_is by))
+      go false acts = inr (subst (λ (x : state.Offer × Option Granted). StepOf limits false x.0 x.1 old caller call reply new) (λ i. (open_is i, live_is i)) acts)
 
   begun : call ≡ Begin → own.live ≡ None → own.waits ≡ false → is_refusal reply ≡ true → is_last reply ≡ true
   begun same none idle refusal = go (by_live None none idle)
     where
-      go : (reply ≡ says.Dead) ⊎ StepAt limits None old caller call reply new → is_last reply ≡ true
+      go : (reply ≡ says.Dead) ⊎ StepOf limits false unoffered None old caller call reply new → is_last reply ≡ true
       go (inl dead) = ap is_last dead
       go (inr at) =
-          let fine : reply ≡ says.Fine = (subst (λ (c : Call). StepAt limits None old caller c reply new) same at).0 in
+          let fine : reply ≡ says.Fine = (subst (λ (c : Call). StepOf limits false unoffered None old caller c reply new) same at).0 in
           absurd (true≢false (sym refusal ∙ ap is_refusal fine))
 
   asked_so : (asked : TableCall) (all : Granted) → call ≡ Table asked → own.live ≡ Some all → own.waits ≡ false → is_refusal reply ≡ true → IsKind reply
   asked_so asked all same live idle refusal = go (by_live (Some all) live idle)
     where
-      go : (reply ≡ says.Dead) ⊎ StepAt limits (Some all) old caller call reply new → IsKind reply
+      within : StepOf limits false unoffered (Some all) old caller (Table asked) reply new → IsKind reply
+      within (inl (bad, e)) = inr (inr (ap is_final (ask_refusal old caller asked reply bad) ∙ ask_final asked))
+      within (inr (fine, a)) = kind_asks limits old new caller reply refusal all asked a
+
+      go : (reply ≡ says.Dead) ⊎ StepOf limits false unoffered (Some all) old caller call reply new → IsKind reply
       go (inl dead) = inl (ap is_last dead)
-      go (inr at) = kind_within limits old new caller reply refusal all asked (subst (λ (c : Call). StepAt limits (Some all) old caller c reply new) same at)
+      go (inr at) = within (subst (λ (c : Call). StepOf limits false unoffered (Some all) old caller c reply new) same at)
 
   lawful_step : IsLawful own (call, reply)
   lawful_step = record { commits = step_commits limits old new caller call reply step; begins = begun; asks = asked_so }
