@@ -1,5 +1,5 @@
 -- A run whose array is not opened.
-use Rattle.std.proofs.Common.{◌≡◌, ℕ, ◌+◌, ◌⊎◌, inl, inr, ⊎_elim, List, [], Bool, true, false, refl, arith}
+use Rattle.std.proofs.Common.{ℕ, ◌⊎◌, inl, inr, ⊎_elim, List, [], Bool, true, false, refl, arith}
 use Rattle.std.specs.Prelude.{IsTrue}
 use Rattle.pcm_media.specs.Images.{MayLeave, Touched}
 use Rattle.pcm_media.specs.View.{View}

@@ -1,12 +1,11 @@
 -- Lines that are followed one after another.
 use Rattle.std.proofs.Common.{◌≡◌, ℕ, suc, ◌+◌, ◌≤◌, ◌⊎◌, inl, inr, ⊎_elim, Bool, true, false, List, [], ◌∷◌, ◌++◌, length, Result, Err, refl, sym, ◌∙◌, ap, subst, arith, append_assoc}
-use Rattle.std.specs.Prelude.{IsTrue, All}
+use Rattle.std.specs.Prelude.{IsTrue}
 use Rattle.std.proofs.lemmas.List.{append-nil, length-append}
-use Rattle.std.proofs.lemmas.List.Elements.{All-nil, All-cons, All-append}
 use Rattle.array_shape.specs.declared.shape.Shape.{Shape}
 use Rattle.array_shape.specs.Logged.{applied}
 use Rattle.eaw_face.specs.StoreView.{StoreView, LeavesOnly}
-use Rattle.eaw_face.specs.Frame.{Frame, IsFrameIn, written_by}
+use Rattle.eaw_face.specs.Frame.{Frame, written_by}
 use Rattle.eaw_face.specs.Mirroring.{AreInSequence, followed}
 use Rattle.eaw_face.proofs.Mirroring.{sequence_append, followed_append}
 use Rattle.mirror.specs.Following.{HasFollowed, IsGap}

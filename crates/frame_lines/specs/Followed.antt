@@ -1,9 +1,9 @@
 -- What comes of lines that say frames.
-use Rattle.std.specs.Prelude.{ℕ, ◌≡◌, ◌⊎◌, ◌+◌, Bool, true, false, IsTrue, List, [], ◌∷◌, ◌++◌, length, All}
+use Rattle.std.specs.Prelude.{ℕ, ◌≡◌, ◌⊎◌, ◌+◌, Bool, true, false, IsTrue, List, [], ◌∷◌, ◌++◌, length}
 use Rattle.mars_base.specs.Causes.{Rose}
 use Rattle.array_shape.specs.declared.shape.Shape.{Shape}
 use Rattle.eaw_face.specs.StoreView.{StoreView}
-use Rattle.eaw_face.specs.Frame.{Frame, IsFrameIn}
+use Rattle.eaw_face.specs.Frame.{Frame}
 use Rattle.eaw_face.specs.Mirroring.{AreInSequence, followed}
 use Rattle.mirror.specs.Following.{IsGap}
 use Rattle.texts.specs.Written.{IsWritten}

@@ -6,9 +6,6 @@ use Rattle.array_shape.specs.declared.shape.Shape.{Shape}
 use Rattle.eaw_face.specs.State.{State}
 use Rattle.eaw_face.specs.StoreView.{StoreView, LeavesOnly}
 use Rattle.page_store.specs.Index.{Index}
-use Rattle.record_table.specs.Names.{names_of}
-use Rattle.record_table.specs.Shown.{table_of}
-use Rattle.record_table.specs.Upgrading.{upgraded}
 use Rattle.caller_steps.specs.State as face
 use Rattle.caller_steps.specs.Room.{Limits}
 use Rattle.caller_steps.specs.Run.{Turn}

@@ -23,7 +23,6 @@ use Rattle.mars_shell.specs.Follow.{LeavesFollowed, Follows, follow_status}
 use Rattle.array_runs.specs.Input.{InputSays}
 use Rattle.array_runs.specs.Statuses.{Counts, IsEarly, IsRefusal}
 use Rattle.array_runs.specs.declared.status.Status.{Status}
-use Rattle.array_runs.specs.declared.status.Status.TheVariants.{NoMemory}
 use Rattle.array_runs.proofs.Completing.{complete_of}
 use Rattle.array_runs.proofs.Opened.{array, at_entry}
 

@@ -11,9 +11,6 @@ use Rattle.commit_queue.specs.Deferred.{deferred_orders}
 use Rattle.eaw_face.specs.StoreView.{StoreView}
 use Rattle.eaw_device.specs.Opens.{Opens, AllOpen, OpensLike, KeepsData, Attached}
 use Rattle.page_store.specs.Index.{Index}
-use Rattle.record_table.specs.Names.{names_of}
-use Rattle.record_table.specs.Shown.{table_of}
-use Rattle.record_table.specs.Upgrading.{upgraded}
 use Rattle.caller_steps.specs.State.{State}
 use Rattle.caller_steps.specs.Room.{Limits}
 use Rattle.caller_steps.specs.Run.{Turn}

@@ -10,14 +10,13 @@ use Rattle.eaw_face.specs.StoreView.{StoreView}
 use Rattle.eaw_device.specs.Opens.{Opens}
 use Rattle.record_slots.specs.Places.{next_page}
 use Rattle.page_store.specs.Index.{Index, index_pages_of}
-use Rattle.record_table.specs.Names.{names_of, IsNew}
+use Rattle.record_table.specs.Names.{IsNew}
 use Rattle.record_table.specs.Upgrading.{upgraded}
 use Rattle.record_table.specs.declared.making.MakeFault.{MakeFault}
 use Rattle.record_table.specs.declared.making.MakeFault.TheVariants as make
 use Rattle.mars_core.specs.Making as making
 use Rattle.texts.specs.Written.{IsWritten}
 use Rattle.script_run.specs.declared.ended.Ended.{Ended}
-use Rattle.array_runs.specs.Forms.{index_in}
 use Rattle.array_runs.specs.declared.status.Refusal.{Refusal}
 use Rattle.array_runs.specs.declared.status.Refusal.TheVariants.{Exists, TablesFull, PagesFull}
 use Rattle.array_runs.specs.declared.status.Status.{Status}
