@@ -1,7 +1,6 @@
 use crate::fault::LineFault;
 use crate::fields::{choices, numbers, size, word_and_rest};
-use crate::page_call::{PageLine, take_page_line};
-use crate::run::{Placed, Run};
+use crate::run::Run;
 use std::alloc::Global;
 
 /// What there is before a case is played.
@@ -19,23 +18,6 @@ pub enum Image {
     },
 }
 
-/// What a case plays over its image.
-#[derive(Drop)]
-pub enum Play {
-    /// Runs, each over what the one before it left.
-    Runs {
-        is_over_file: bool,
-        runs: Vec<Run>,
-    },
-    /// Calls of pages, and bytes that the array has behind them.
-    Pages {
-        /// How many commits of the array may wait for their write-back.
-        depth: u8,
-        lines: Vec<PageLine>,
-        has: Vec<Placed>,
-    },
-}
-
 #[derive(Drop)]
 pub struct Case {
     pub name: String,
@@ -44,7 +26,9 @@ pub struct Case {
     /// What the case is to be refused for, if it is wrong.
     pub wrong: Option<String>,
     pub image: Image,
-    pub play: Play,
+    pub is_over_file: bool,
+    /// Each goes over what the one before it left.
+    pub runs: Vec<Run>,
 }
 
 impl Case {
@@ -62,10 +46,8 @@ impl Case {
                 entries: 16,
                 pages: 64,
             },
-            play: Play::Runs {
-                is_over_file: false,
-                runs,
-            },
+            is_over_file: false,
+            runs,
         })
     }
 
@@ -75,37 +57,10 @@ impl Case {
         match word {
             "wrong" => self.wrong = Some(String::from_str(alloc, rest)?),
             "image" => self.image = read_image(alloc, rest)?,
-            "pages" => {
-                self.play = Play::Pages {
-                    depth: 0,
-                    lines: Vec::new(alloc),
-                    has: Vec::new(alloc),
-                };
-            }
-            _ => self.play.take(alloc, word, rest)?,
+            "file" => self.is_over_file = true,
+            _ => take_run_line(alloc, &mut self.runs, word, rest)?,
         }
         Ok(())
-    }
-}
-
-impl Play {
-    fn take(&mut self, alloc: Global, word: &str, rest: &str) -> Result<(), LineFault> {
-        match self {
-            Play::Runs { is_over_file, .. } if word == "file" => {
-                *is_over_file = true;
-                Ok(())
-            }
-            Play::Runs { runs, .. } => take_run_line(alloc, runs, word, rest),
-            Play::Pages { has, .. } if word == "has" => {
-                has.push(Placed::read(alloc, rest)?)?;
-                Ok(())
-            }
-            Play::Pages { depth, .. } if word == "late" => {
-                *depth = read_depth(rest)?;
-                Ok(())
-            }
-            Play::Pages { lines, .. } => take_page_line(alloc, lines, word, rest),
-        }
     }
 }
 
@@ -123,13 +78,6 @@ fn take_run_line(
     match runs.last_mut() {
         Some(run) => run.take(alloc, word, rest),
         None => Err(LineFault::Word),
-    }
-}
-
-fn read_depth(text: &str) -> Result<u8, LineFault> {
-    match text.parse::<u8>() {
-        Ok(depth) if 0 < depth && depth <= 64 => Ok(depth),
-        Ok(_) | Err(_) => Err(LineFault::Number),
     }
 }
 

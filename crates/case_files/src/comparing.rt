@@ -85,8 +85,8 @@ fn front(text: &[u8], nth: u64) -> &[u8] {
     text
 }
 
-/// Compares bytes behind a run with what is wanted of them.
-pub fn compare_places(has: &[Placed], after: &[u8], report: &mut Report) -> Result<(), CaseFault> {
+// Compares bytes behind a run with what is wanted of them.
+fn compare_places(has: &[Placed], after: &[u8], report: &mut Report) -> Result<(), CaseFault> {
     for placed in has {
         let end = placed.at.saturating_add(placed.bytes.len());
         let was = match after.get(placed.at..end) {

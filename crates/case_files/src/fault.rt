@@ -20,8 +20,6 @@ pub enum LineFault {
     Trouble,
     #[error("a place is `began`, `answered`, `offered`, `ended` or `read`, and six numbers follow")]
     Hold,
-    #[error("this is no call of pages")]
-    PageCall,
     #[error("two words are needed here")]
     Missing,
     #[error("no memory")]

@@ -27,8 +27,8 @@ pub fn size(text: &str) -> Result<usize, LineFault> {
     }
 }
 
-/// A number below 2^32.
-pub fn small(text: &str) -> Result<u32, LineFault> {
+// A number below 2^32.
+fn small(text: &str) -> Result<u32, LineFault> {
     match text.parse::<u32>() {
         Ok(number) => Ok(number),
         Err(_) => Err(LineFault::Number),

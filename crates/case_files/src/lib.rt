@@ -9,8 +9,6 @@
 //! | `image fresh L T E P` | at first there is what `format` makes of these numbers; 4 8 16 64 where no line says it |
 //! | `image zeros N` | at first there are N zeros |
 //! | `file` | each run goes over a file in memory, once for each way in which its calls are answered: wholly, in parts, with interruptions, and a mixture of these. There `fail medium` counts the calls of the file, and no `calls` and no `call` are said. It comes to what the same run over memory does; where a call failed, to what that does whose same call fails |
-//! | `pages` | the case makes calls of pages, as below, and no runs |
-//! | `late D` | behind `pages`: over an array on which D commits may wait for their write-back |
 //!
 //! A run over the image, and what goes wrong in it. Numbers are counted from 1, and `A to B` may be one number alone:
 //!
@@ -46,24 +44,6 @@
 //!
 //! HEX is bytes as digits. `HEX*N` has them N times. In TEXT `\x0d` is a byte, and `{abc*17}` is `abc` 17 times. `>*17 TEXT` is
 //! the line 17 times, and `>| TEXT` the text without a newline; so for `<`.
-//!
-//! In a case of pages `> T CALL` is a call for the number T, and `< ANSWER` what the call before it answers: `ok`, a number, bytes as
-//! digits, why it is refused, or `not now` where it may not be made. Where nothing is said, it answers what it does over plain memory. The
-//! case is played over plain memory, and then over an array, which has to answer the same; there also with each call of the medium failing
-//! once, and with power lost at each. Where that was within a group, or on an array on which commits may wait, its recovery is stopped in the
-//! same way at each of its own calls. A line `has AT HEX` says what the array has behind all calls.
-//!
-//! | call | does |
-//! |---|---|
-//! | `write PAGE AT HEX` | T writes bytes |
-//! | `see PAGE AT LEN` | what T sees |
-//! | `read PAGE AT LEN` | what is committed |
-//! | `len` | how many parts T has logged |
-//! | `save`, `back N` | T saves; T goes back to save N |
-//! | `top`, `endtop` | a top action of T begins, and ends |
-//! | `group N ..` | the numbers N .. are committed at once, whatever T is |
-//! | `commit`, `abort` | T ends |
-//! | `fits PAGE ..` | whether a part more of T in each of these pages has room |
 #![tactic(auto)]
 
 mod calls;
@@ -75,7 +55,6 @@ mod fields;
 mod file;
 mod held;
 mod loads;
-mod page_call;
 mod ran;
 mod report;
 mod run;
@@ -83,13 +62,12 @@ mod text_lines;
 mod traced;
 mod traced_media;
 
-pub use case::{Case, Image, Play};
-pub use comparing::{compare, compare_places, compare_ran};
+pub use case::{Case, Image};
+pub use comparing::{compare, compare_ran};
 pub use draws::Draws;
 pub use fault::{BadLine, LineFault};
 pub use file::read_cases;
 pub use held::{Held, Stop};
-pub use page_call::{PageCall, PageLine};
 pub use ran::Ran;
 pub use report::{CaseFault, Report};
 pub use run::{Left, Made, Placed, Run, Trouble, TroubleKind, Wanted};

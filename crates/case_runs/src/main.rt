@@ -1,14 +1,18 @@
 //! Plays the cases that the files of a folder say, and tells of each that does not come to what it says. The folder is the first
 //! argument, or else the one in which the program runs. How cases are written, in files whose names end in `.cases`, stands at the head
-//! of the crate `case_files`. Begin with `playing`: a case of whole runs makes each run once for each call that is to fail, over memory
-//! (`once`) or over a file (`over_file`); a case of calls of pages is played by the crate `case_pages`.
+//! of the crate `case_files`. Begin with `playing`: a case makes each run once for each call that is to fail, over memory (`once`) or over
+//! a file (`over_file`). The images under all cases are in `image`; raw commands over the plain store, with which a run of them is compared,
+//! in `plain`; and how far a case has come in `progress`.
 #![tactic(auto)]
 
 mod file_bytes;
 mod holds;
+mod image;
 mod once;
 mod over_file;
+mod plain;
 mod playing;
+mod progress;
 mod run_media;
 mod tally;
 mod way;
@@ -33,7 +37,6 @@ fn main(rt: HostRuntime) -> Result<()> {
         plays.runs, plays.over_file
     )?;
     println!(rt; "{} of them over the plain store as well", plays.over_plain)?;
-    println!(rt; "{} plays of calls of pages", plays.of_pages)?;
     println!(rt; "{passed} cases passed")?;
     ensure!(failed == 0, "{failed} cases failed");
     Ok(())

@@ -1,8 +1,8 @@
 // One run of a case.
 use crate::holds::{Holds, holds_of};
+use crate::image::media_of;
 use crate::run_media::played_in_memory;
 use case_files::{CaseFault, Ran, Record, Run, TracedMedia, TroubleKind, has_failed};
-use case_pages::media_of;
 use mars_shell::{Status, fault_text, run};
 use outside::{MemorySink, MemorySource};
 use pcm_media::{FusedMedia, Media, MemoryMedia};

@@ -1,10 +1,10 @@
 // A run over a file.
 use crate::file_bytes::{lengthened, same_as};
+use crate::image::media_of;
 use crate::once::{ANOTHER_MEDIUM, failing_call, ran_with, run_over, run_over_memory, sink_of};
 use crate::run_media::played_over_file;
 use crate::way::{Way, answers};
 use case_files::{CaseFault, Ran, Report, Run, compare_ran};
-use case_pages::media_of;
 use mars_shell::{Status, room};
 use media_file::{CallFault, Calls, FileMedia, HonestCalls};
 use pcm_media::Media;

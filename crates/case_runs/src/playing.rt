@@ -1,11 +1,11 @@
 // The runs of a case, one behind the other.
+use crate::image::{first_media, image_before};
 use crate::once::{failing_call, run_over_memory};
 use crate::over_file::{compare_memory, run_over_file};
+use crate::plain::{compare_plain, has_twin};
+use crate::progress::{Progress, Trial};
 use crate::way::{WAYS, Way};
-use case_files::{Case, CaseFault, Image, Play, Ran, Run, compare};
-use case_pages::{
-    PageCalls, Progress, Trial, compare_plain, first_media, has_twin, image_before, play_pages,
-};
+use case_files::{Case, CaseFault, Ran, Run, compare};
 use pcm_media::MemoryMedia;
 use std::alloc::Global;
 use std::sync::Wait;
@@ -19,41 +19,18 @@ enum Over {
     File(Way),
 }
 
-/// Plays a case, up to what does not come to what it says.
+/// Makes the runs of a case in all its trials, up to what does not come to what it says.
 pub fn play_case<R: AllocGlobal + Threads + Wait + Sync>(
     rt: &R,
     case: &Case,
     progress: &mut Progress,
 ) -> Result<(), CaseFault> {
-    match &case.play {
-        Play::Runs { is_over_file, runs } => {
-            make_runs(rt, case.image, runs, *is_over_file, progress)
-        }
-        Play::Pages { depth, lines, has } => {
-            let calls = PageCalls {
-                depth: *depth,
-                lines,
-                has,
-            };
-            play_pages(rt.alloc(), case.image, calls, progress)
-        }
-    }
-}
-
-// Makes the runs of a case in all its trials.
-fn make_runs<R: AllocGlobal + Threads + Wait + Sync>(
-    rt: &R,
-    image: Image,
-    runs: &[Run],
-    is_over_file: bool,
-    progress: &mut Progress,
-) -> Result<(), CaseFault> {
-    let media = first_media(rt.alloc(), image)?;
-    if !is_over_file {
-        return follow(rt, runs, Over::Memory, &media, progress);
+    let media = first_media(rt.alloc(), case.image)?;
+    if !case.is_over_file {
+        return follow(rt, &case.runs, Over::Memory, &media, progress);
     }
     for way in WAYS {
-        follow(rt, runs, Over::File(way), &media, progress)?;
+        follow(rt, &case.runs, Over::File(way), &media, progress)?;
     }
     Ok(())
 }

@@ -1,8 +1,8 @@
 // All cases of a folder.
 use crate::playing::play_case;
+use crate::progress::{Plays, Progress};
 use anyhow::{Result, bail};
 use case_files::{Case, CaseFault, read_cases};
-use case_pages::{Plays, Progress};
 use std::alloc::{AllocError, Global};
 use std::fs;
 use std::rt::Files;

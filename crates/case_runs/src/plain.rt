@@ -69,8 +69,8 @@ fn answered(
     Ok((sink, plain))
 }
 
-/// The data with which an image opens.
-pub fn data_in<M: Media + Drop>(alloc: Global, image: M) -> Result<Vec<u8>, CaseFault> {
+// The data with which an image opens.
+fn data_in<M: Media + Drop>(alloc: Global, image: M) -> Result<Vec<u8>, CaseFault> {
     let (_shape, bytes) = opened(alloc, image)?;
     Ok(bytes)
 }
@@ -83,8 +83,8 @@ fn opened<M: Media + Drop>(alloc: Global, image: M) -> Result<(Shape, Vec<u8>), 
     Ok((device.shape(), data_of(alloc, &mut device)?))
 }
 
-/// A plain store with the data that an image opens with.
-pub fn plain_store(alloc: Global, image: &[u8]) -> Result<MemoryEaw, CaseFault>
+// A plain store with the data that an image opens with.
+fn plain_store(alloc: Global, image: &[u8]) -> Result<MemoryEaw, CaseFault>
     ensures { IfOk result (λ store. (⟦<MemoryEaw as EawStore>⟧.view store).is_dead ≡ false) }
 {
     let (shape, bytes) = opened(alloc, media_of(alloc, image)?)?;

@@ -17,8 +17,6 @@ pub struct Plays {
     pub over_file: u64,
     /// The runs that went over the plain store as well.
     pub over_plain: u64,
-    /// Calls of pages from the first to the last.
-    pub of_pages: u64,
 }
 
 impl Plays {
@@ -27,7 +25,6 @@ impl Plays {
             runs: 0,
             over_file: 0,
             over_plain: 0,
-            of_pages: 0,
         }
     }
 
@@ -36,7 +33,6 @@ impl Plays {
             runs: self.runs.saturating_add(more.runs),
             over_file: self.over_file.saturating_add(more.over_file),
             over_plain: self.over_plain.saturating_add(more.over_plain),
-            of_pages: self.of_pages.saturating_add(more.of_pages),
         }
     }
 }
