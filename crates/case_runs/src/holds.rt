@@ -1,6 +1,8 @@
 // The gate of all runs: it holds those who work beside each other until others have come to their places.
+ghost use Rattle.std.specs.Prelude.{◌≡◌, true};
+
 use case_files::{CaseFault, Held, Stop};
-use mars_shell::{Gate, Place};
+use mars_shell::{Doorway, Gate, Place};
 use std::alloc::Global;
 use std::sync::atomic::{AtomicBool, AtomicU64, Ordering};
 use std::thread;
@@ -129,10 +131,39 @@ impl<'a> Holds<'a> {
     }
 }
 
-impl Gate for Holds<'_> {
+impl<'a> Gate for &'a Holds<'a> {
     ghost told = { λ holds place. Unit {0} };
 
     fn at(&self, place: Place) {
         self.hold(place);
+    }
+}
+
+/// The way to the holds of a run, which notes whether it was opened.
+#[derive(Drop)]
+pub struct HoldsDoorway<'a> {
+    holds: &'a Holds<'a>,
+    is_opened: bool,
+}
+
+impl<'a> HoldsDoorway<'a> {
+    pub fn new(holds: &'a Holds<'a>) -> Self {
+        HoldsDoorway {
+            holds,
+            is_opened: false,
+        }
+    }
+}
+
+impl<'a> Doorway for HoldsDoorway<'a> {
+    type Behind = &'a Holds<'a>;
+
+    ghost gate = { λ doorway. doorway.holds };
+
+    ghost opened = { λ doorway. doorway.is_opened ≡ true };
+
+    fn open(&mut self) -> &'a Holds<'a> {
+        self.is_opened = true;
+        self.holds
     }
 }

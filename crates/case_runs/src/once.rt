@@ -1,5 +1,5 @@
 // One run of a case.
-use crate::holds::{Holds, holds_of};
+use crate::holds::{Holds, HoldsDoorway, holds_of};
 use crate::image::media_of;
 use crate::run_media::played_in_memory;
 use case_files::{CaseFault, Ran, Record, Run, TracedMedia, TroubleKind, has_failed};
@@ -93,10 +93,11 @@ pub fn run_over<R: AllocGlobal + Threads + Wait + Sync, M: Media + Drop + Send>(
         }
     };
     let holds = holds_of(rt.alloc(), &asked.holds)?;
-    let gate = Holds::new(&holds);
+    let holds = Holds::new(&holds);
+    let mut doorway = HoldsDoorway::new(&holds);
     let media = FusedMedia::wrap(media, passes);
-    let (status, media) = run(rt, &asked.words, &mut source, sink, media, &gate);
-    if gate.given_up() > 0 {
+    let (status, media) = run(rt, &asked.words, &mut source, sink, media, &mut doorway);
+    if holds.given_up() > 0 {
         return Err(CaseFault::Differs { what: "a wait" });
     }
     Ok((status, media.into_inner()))

@@ -8,7 +8,7 @@ ghost use Rattle.array_runs.specs.Statuses.{Counts};
 ghost use Rattle.mars_shell.specs.Asked.{WordsSay, IfReads, OutcomeFor};
 ghost use Rattle.mars.specs.Ending.{IsUnbegun, error_line};
 
-use mars_shell::{OpenGate, Status, fault_text, run};
+use mars_shell::{OpenDoorway, Status, fault_text, run};
 use outside::{Sink, Source};
 use pcm_media::Media;
 use std::sync::Wait;
@@ -46,7 +46,7 @@ pub fn run_told<
     ensures ran { WordsSay (map string_bytes words.now) result.0.status ((source.new ≡ source.old) × (sink.new ≡ sink.old) × (result.1 ≡ media)) (λ asked. Wrote K.tells (K.written sink.old) (K.written sink.new) (K.faults sink.old) (K.faults sink.new)
         (λ cut text. (input : List ℕ) × (IsTrue S.tells → S.left source.old ≡ input) × (IsTrue M.tells → OutcomeFor asked (λ place. Unit {0}) (M.view media) result.0.status (M.view result.1) input cut text))) }
 {
-    let (status, media) = run(rt, words, source, sink, media, &OpenGate);
+    let (status, media) = run(rt, words, source, sink, media, &mut OpenDoorway);
     let number = tell(&status, errors);
     (Told { status, number }, media)
 }

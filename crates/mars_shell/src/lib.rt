@@ -13,6 +13,7 @@
 mod callers;
 mod commands;
 mod core_work;
+mod doorway;
 mod drilling;
 mod following;
 mod formatting;
@@ -35,6 +36,7 @@ mod whole;
 
 pub use array_runs::{Status, fault_text};
 pub use caller_work::{Gate, OpenGate, Place};
+pub use doorway::{Doorway, OpenDoorway};
 pub use images::what_images_hold;
 pub use laws::{runs_compose, what_callers_are_told, what_turns_leave};
 pub use media_room::room;

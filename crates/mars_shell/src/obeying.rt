@@ -13,13 +13,13 @@ ghost use Rattle.array_runs.specs.Statuses.{Counts, IsSilent};
 
 use crate::callers::{Crew, run_callers};
 use crate::commands::run_commands;
+use crate::doorway::Doorway;
 use crate::drilling::DrawnScript;
 use crate::following::run_follow;
 use crate::formatting::run_format;
 use crate::lines::run_lines;
 use crate::records::over_records;
 use array_runs::Status;
-use caller_work::Gate;
 use command_words::Words;
 use noted::KeepsNothing;
 use outside::{Sink, Source};
@@ -36,19 +36,20 @@ pub fn obey<
     S: Source,
     K: Sink,
     M: Media + Drop + Send,
-    G: Gate + Sync,
->(rt: &R, asked: Words, source: &mut S, sink: &mut K, media: M, gate: &G) -> (Status, M)
+    W: Doorway,
+>(rt: &R, asked: Words, source: &mut S, sink: &mut K, media: M, doorway: &mut W) -> (Status, M)
     requires asked { (words : List (List ℕ)) × AsksFor words asked }
     ensures usage { result.0 ≡ Status.Usage → (numbers : CallersNumbers) × (asked ≡ Callers numbers) }
     ensures early { (result.0 ≡ Status.TooLong) ⊎ (result.0 ≡ Status.ReadFault) → result.1 ≡ media }
     ensures silent { IsSilent result.0 → sink.new ≡ sink.old }
+    ensures shut { ((numbers : CallersNumbers) → asked ≡ Callers numbers → ⊥) → doorway.new ≡ doorway.old }
     ensures counts { Counts result.0 (S.faults source.old) (S.faults source.new) (K.faults sink.old) (K.faults sink.new) (M.view media).faults (M.view result.1).faults }
     ensures steady { IsTrue (S.steady source.old) → result.0 ≡ Status.ReadFault → ⊥ }
     ensures input { IfReads asked (source.new ≡ source.old) (IsTrue S.tells → InputSays result.0 (S.left source.old) (S.left source.new)) }
     ensures formats { (numbers : FormatNumbers) → asked ≡ Format numbers → FormatSays numbers (M.view media).size result.0 (sink.new ≡ sink.old) (result.1 ≡ media) }
     ensures untold { TellsLate asked result.0 → sink.new ≡ sink.old }
     ensures ran { Wrote K.tells (K.written sink.old) (K.written sink.new) (K.faults sink.old) (K.faults sink.new)
-        (λ cut text. (input : List ℕ) × (IsTrue S.tells → S.left source.old ≡ input) × (IsTrue M.tells → OutcomeFor asked (G.told gate.now) (M.view media) result.0 (M.view result.1) input cut text)) }
+        (λ cut text. (input : List ℕ) × (IsTrue S.tells → S.left source.old ≡ input) × (IsTrue M.tells → OutcomeFor asked (W.Behind.told (W.gate doorway.old)) (M.view media) result.0 (M.view result.1) input cut text)) }
     ensures complete { IsFit asked S.tells (S.left source.old) M.tells (M.view media)
         → (Rose (S.faults source.old) (S.faults source.new) → ⊥) → (Rose (K.faults sink.old) (K.faults sink.new) → ⊥) → (Rose (M.view media).faults (M.view result.1).faults → ⊥)
         → IsComplete asked result.0 }
@@ -62,8 +63,13 @@ pub fn obey<
             options,
         ),
         Words::Callers(numbers) => {
-            let crew = Crew { rt, numbers, gate };
-            run_callers::<R, S, K, M, Brand, G>(rt.alloc(), source, sink, media, &crew)
+            let gate = doorway.open();
+            let crew = Crew {
+                rt,
+                numbers,
+                gate: &gate,
+            };
+            run_callers::<R, S, K, M, Brand, W::Behind>(rt.alloc(), source, sink, media, &crew)
         }
         Words::Eaw(options) => run_commands(rt.alloc(), source, sink, media, options),
         Words::Follow => run_follow(rt.alloc(), source, sink, media),

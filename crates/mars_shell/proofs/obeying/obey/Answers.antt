@@ -61,6 +61,9 @@ returns-in-Callers-clause-early g c = λ either. c.run_callers.ensures.early (is
 pub returns-in-Callers-clause-silent : goal.returns-in-Callers-clause-silent
 returns-in-Callers-clause-silent g c = λ silent. c.run_callers.ensures.silent (silent_kind c.run_callers.result.0 silent)
 
+pub returns-in-Callers-clause-shut : goal.returns-in-Callers-clause-shut
+returns-in-Callers-clause-shut g c = λ none. absurd (none c.in-Callers.numbers c.in-Callers.is)
+
 pub returns-in-Callers-clause-counts : goal.returns-in-Callers-clause-counts
 returns-in-Callers-clause-counts g c = c.run_callers.ensures.counts
 
@@ -88,7 +91,7 @@ returns-in-Callers-clause-complete g c =
     let said = c.run_callers.ensures in
     let ran = said.ran in
     rw c.in-Callers.is (λ fit no_source no_sink no_media.
-    complete_records false (passes_for numbers.callers numbers.readers) (λ ended. TakesTurns (depth_of numbers.writing) (JointWork (g.G.Gate.told c.args.gate.now) numbers.callers numbers.readers numbers.tries ran.holds.0 ended ran.cut ran.text) old ended new) old c.run_callers.result.0 new ran.cut ran.text given _ _ _ _ _ _ _ fit.0.1 fit.2.0 fit.2.1 fit.2.2 no_source no_sink no_media said.counts (said.input fit.0.0) (ran.holds.2 fit.1))
+    complete_records false (passes_for numbers.callers numbers.readers) (λ ended. TakesTurns (depth_of numbers.writing) (JointWork (g.W.Doorway.Behind.Gate.told (g.W.Doorway.gate c.args.doorway.now)) numbers.callers numbers.readers numbers.tries ran.holds.0 ended ran.cut ran.text) old ended new) old c.run_callers.result.0 new ran.cut ran.text given _ _ _ _ _ _ _ fit.0.1 fit.2.0 fit.2.1 fit.2.2 no_source no_sink no_media said.counts (said.input fit.0.0) (ran.holds.2 fit.1))
 
 pub returns-in-Dump-clause-early : goal.returns-in-Dump-clause-early
 returns-in-Dump-clause-early g c = λ either. absurd (c.run_told.ensures.late (is_early c.run_told.result.0 either))

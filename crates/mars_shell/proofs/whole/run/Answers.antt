@@ -1,5 +1,6 @@
-use Rattle.std.proofs.Common.{inl}
+use Rattle.std.proofs.Common.{inl, subst}
 use Rattle.std.specs.Prelude.{map, string_bytes}
+use Rattle.command_words.specs.Asked.{AsksFor}
 use Rattle.mars_shell.proofs.Saying.{obeyed_say}
 use Rattle.mars_shell.proofs.whole.run.Goals as goal
 
@@ -26,6 +27,9 @@ obey-status-requires-clause-asked g c = λ κs lives. (map string_bytes c.args.w
 
 pub returns-in-Ok-clause-usage : goal.returns-in-Ok-clause-usage
 returns-in-Ok-clause-usage g c = λ nothing. absurd (nothing c.in-Ok.asked c.in-Ok.ensures.asked)
+
+pub returns-in-Ok-clause-shut : goal.returns-in-Ok-clause-shut
+returns-in-Ok-clause-shut g c = λ none. c.obey-status.ensures.shut (λ numbers is. none numbers (subst (AsksFor (map string_bytes c.args.words.now)) is c.in-Ok.ensures.asked))
 
 pub returns-in-Ok-clause-words : goal.returns-in-Ok-clause-words
 returns-in-Ok-clause-words g c = obeyed_say (map string_bytes c.args.words.now) c.obey-status.result.0 _ _ c.in-Ok.asked c.obey-status.ensures.usage c.in-Ok.ensures.asked tt
