@@ -1,8 +1,8 @@
 // A medium over a medium, which serves reads from memory.
-ghost use Rattle.std.specs.Prelude.{◌≡◌, ◌+◌, ◌-◌, ◌/◌, ◌^◌, ◌<◌, ◌≤◌, ◌⊎◌, nat_le, ◌&&◌, [], ◌∷◌, length, ℕ, IsTrue, IsOk, IfOk, IfErr, OnOk};
+ghost use Rattle.std.specs.Prelude.{◌≡◌, ◌+◌, ◌-◌, ◌/◌, ◌^◌, ◌<◌, ◌≤◌, ◌⊎◌, nat_le, ◌&&◌, [], ◌∷◌, length, ℕ, List, IsTrue, IsOk, IfOk, IfErr, OnOk};
 ghost use Rattle.mars_base.specs.Moments.{Ticks};
 ghost use Rattle.mars_base.specs.Bytes.{range};
-ghost use Rattle.pcm_media.specs.Images.{written, settled};
+ghost use Rattle.pcm_media.specs.Images.{MayLeave, written, settled};
 ghost use Rattle.pcm_media.specs.View.{Writes};
 ghost use Rattle.resident_media.specs.Blocks.{Learns, StaysOutside, end_block};
 ghost use Rattle.resident_media.specs.Once.{Does, handed, spared, written_at};
@@ -83,6 +83,13 @@ impl<M: Media> ResidentMedia<M> {
             notes: _,
         } = self;
         inner
+    }
+
+    /// What a loss of power may leave below now, it may leave of what is shown. This does nothing: only clauses need it.
+    pub fn covers_inner(&self)
+        ensures now { IsTrue M.tells → (image : List ℕ) → MayLeave (M.view self.now.inner).content image → MayLeave (shown M.view self.now).content image }
+    {
+        let _ = &self.inner;
     }
 
     // Raises the moment, or fails at its last value.
