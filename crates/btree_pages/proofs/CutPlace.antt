@@ -2,7 +2,7 @@
 use Rattle.std.proofs.Common.{◌≡◌, ℕ, zero, suc, ◌<◌, ◌≤◌, Bool, true, false, nat_eq, nat_lt, inl, inr, List, [], ◌∷◌, length, refl, sym, ◌∙◌, arith}
 use Rattle.std.specs.Prelude.{◌&&◌, if◌then◌else◌}
 use Rattle.std.proofs.lemmas.Bool.{false≢true}
-use Rattle.std.proofs.lemmas.Bool.Decides.{nat_tests, leb_tells}
+use Rattle.std.proofs.lemmas.Bool.Decides.{nat_tests, leb_tells, eqb_tells}
 use Rattle.index_pages.proofs.Rising.{key_at-bounds}
 use Rattle.index_pages.specs.Keys.{key_at}
 use Rattle.page_store.specs.Pairs.{Pair, Rise}
@@ -16,6 +16,27 @@ either_inside false = (omega arith, omega arith)
 pub cut_inside : (level : ℕ) (pairs : List Pair) (key : ℕ) → (1 ≤ cut_for level pairs key) × (cut_for level pairs key < 30)
 unfolding cut_for
 cut_inside level pairs key = either_inside (nat_eq level 0 && nat_lt (key_at pairs 29) key)
+
+-- a leaf is cut at its end for a key behind its last pair, and any other page in the middle
+pub cut_last : (level : ℕ) (pairs : List Pair) (key : ℕ) → level ≡ 0 → key_at pairs 29 < key → 29 ≡ cut_for level pairs key
+unfolding cut_for
+cut_last level pairs key leaf late =
+    let bottom : nat_eq level 0 ≡ true = grind (arith, nat_tests) in
+    let behind : nat_lt (key_at pairs 29) key ≡ true = grind (arith, nat_tests) in
+    rw (bottom, behind) refl
+
+pub cut_half : (level : ℕ) (pairs : List Pair) (key : ℕ) → (level ≡ 0 → key_at pairs 29 < key → ⊥) → 15 ≡ cut_for level pairs key
+unfolding cut_for
+cut_half level pairs key other = elim (eqb_tells level 0) [
+  | inl leaf ↦ elim (leb_tells (suc (key_at pairs 29)) key) [
+    | inl late ↦ absurd (other leaf.1 late.1)
+    | inr among ↦
+        let bottom : nat_eq level 0 ≡ true = leaf.0 in
+        let before : nat_lt (key_at pairs 29) key ≡ false = among.0 in
+        rw (bottom, before) refl
+  ]
+  | inr inner ↦ let high : nat_eq level 0 ≡ false = inner.0 in rw high refl
+]
 
 later_key : (m n low high : ℕ) (ps : List Pair) → m ≤ n → n < length ps → Rise low high ps → key_at ps m ≤ key_at ps n
 later_key m n low high [] le lt rises = absurd (omega arith)

@@ -1,7 +1,9 @@
 use Rattle.std.proofs.Common.{◌≡◌, ◌+◌, ◌<◌, ℕ, List, [], ◌∷◌, get_or, take, drop, ◌∙◌, ap, subst, arith}
 use Rattle.array_shape.specs.Logged.{Part}
 use Rattle.page_store.specs.Pairs.{Pair, inserted}
-use Rattle.page_store.specs.Shown.{pages_of}
+use Rattle.eaw_face.specs.StoreView.{log_len}
+use Rattle.page_store.specs.Runs.{Runs, acting_of}
+use Rattle.page_store.specs.Shown.{pages_of, address}
 use Rattle.index_pages.specs.Acts.{Acts}
 use Rattle.index_pages.proofs.Halved.{get_key}
 use Rattle.index_pages.specs.Keys.{key_at}
@@ -37,6 +39,26 @@ returns-clause-acts g c =
     (same_part _ _ _ _ _ _ c.whole_page-3.ensures.page c.whole_page-3.ensures.at named)
     (same_part _ _ _ _ _ _ c.front_part.ensures.page c.front_part.ensures.at counts))
     c.act_all.ensures.acts)
+
+pub returns-clause-runs : goal.returns-clause-runs
+returns-clause-runs g c =
+    let T = g.S.EawStore.tells in
+    let V = g.S.EawStore.view in
+    let v0 = pages_of (V c.args.pages.now.store) c.args.pages.now in
+    let v1 = pages_of (V c.act_all.new.pages.store) c.act_all.new.pages in
+    let taken = c.args.taken.now in
+    let node = c.args.node.now in
+    let lower : c.whole_page.result.bytes.now ≡ written_page node.level 0 (take (cut_for node.level node.pairs.items c.args.key) node.pairs.items) =
+    c.whole_page.ensures.bytes ∙ c.write_page.ensures ∙ (λ i. written_page c.args.node.now.level 0 (take (c.cut_of-cut.ensures.cut i) (c.as_slice-pairs.ensures.value i))) in
+    let upper : c.whole_page-2.result.bytes.now ≡ written_page node.level 0 (drop (cut_for node.level node.pairs.items c.args.key) node.pairs.items) =
+    c.whole_page-2.ensures.bytes ∙ c.write_page-2.ensures ∙ ap (λ (ps : List Pair). written_page c.args.node.now.level 0 ps) (all_behind c.as_slice-pairs.result.now c.cut_of-cut.result) ∙ (λ i. written_page c.args.node.now.level 0 (drop (c.cut_of-cut.ensures.cut i) (c.as_slice-pairs.ensures.value i))) in
+    let first = (λ i. (get_or (c.as_slice-pairs.ensures.value i) (c.cut_of-cut.ensures.cut i) (0, 0)).0) ∙ get_key c.args.node.now.pairs.items (cut_for c.args.node.now.level c.args.node.now.pairs.items c.args.key) in
+    let named : c.whole_page-3.result.bytes.now ≡ written_page (node.level + 1) 0 (inserted c.args.parent.pairs.items (key_at node.pairs.items (cut_for node.level node.pairs.items c.args.key)) taken.number) =
+    c.whole_page-3.ensures.bytes ∙ c.write_page-3.ensures ∙ ap (λ (ps : List Pair). written_page (node.level + 1) 0 ps) (c.as_slice.ensures.value ∙ c.with_pair-above.ensures ∙ ap (λ (k : ℕ). inserted c.args.parent.pairs.items k taken.number) first) in
+    let counts = c.front_part.ensures.bytes ∙ c.write_super_part.ensures in
+    subst (λ (l : List Part). Runs T V g.S.EawStore.calls (acting_of c.args.tid (log_len v0.store c.args.tid) l) v0.store v1.store c.act_all.result) (λ i.
+        (address (c.whole_page.ensures.page i) (c.whole_page.ensures.at i), lower i) ∷ (address (c.whole_page-2.ensures.page i) (c.whole_page-2.ensures.at i), upper i)
+        ∷ (address (c.whole_page-3.ensures.page i) (c.whole_page-3.ensures.at i), named i) ∷ (address (c.front_part.ensures.page i) (c.front_part.ensures.at i), counts i) ∷ []) c.act_all.ensures.runs
 
 pub act_all-requires : goal.act_all-requires
 act_all-requires g c =
