@@ -1,13 +1,15 @@
 -- What is left for last, once it is done.
-use Rattle.std.proofs.Common.{◌≡◌, ◌⊎◌, inl, inr, ℕ, List, ◌++◌, length, drop, Option, Some, None, refl, sym, ap, ◌∙◌, subst}
+use Rattle.std.proofs.Common.{◌≡◌, ◌⊎◌, inl, inr, ℕ, Bool, true, List, [], ◌∷◌, ◌++◌, append_assoc, length, drop, Option, Some, None, refl, sym, ap, ◌∙◌, subst}
 use Rattle.history.specs.declared.call.Reply.{Reply}
 use Rattle.history.specs.declared.call.Reply.TheVariants as says
-use Rattle.std.specs.Prelude.{option_map}
+use Rattle.std.specs.Prelude.{option_map, is_some, if◌then◌else◌}
+use Rattle.std.proofs.lemmas.List.{append-nil}
 use Rattle.caller_steps.specs.Run.{Heard}
 use Rattle.mars_manager.specs.Pass.{PassView, names_in, names_of}
 use Rattle.mars_manager.specs.declared.view.Met.{Met}
 use Rattle.mars_manager.specs.Locks.{steps_of}
 use Rattle.mars_manager.specs.Sharing.{MarsView}
+use Rattle.caller_work.specs.declared.stop.Stop.{Stop}
 use Rattle.caller_work.specs.declared.stop.Stop.TheVariants as stop
 use Rattle.caller_plans.specs.declared.plan.Plan.{Plan}
 use Rattle.caller_plans.specs.declared.fate.Fate.{Fate}
@@ -20,7 +22,7 @@ use Rattle.caller_work.specs.Standing.{stop_for}
 use Rattle.caller_work.specs.Tries.{Works}
 use Rattle.caller_work.specs.Asked.{IsToldOf}
 use Rattle.caller_work.specs.Worked.{end_of, worse}
-use Rattle.caller_work.specs.Crew.{IsLeft, IsDone, WentOn}
+use Rattle.caller_work.specs.Crew.{IsLeft, IsDone, WentOn, WentInOrder, left_over}
 use Rattle.caller_work.proofs.Asking.{told_both}
 use Rattle.caller_work.proofs.Adding.{steps_both}
 use Rattle.caller_work.proofs.TriesLemmas.{endless}
@@ -37,23 +39,23 @@ none_at : (stopped : Option Reply) → option_map stop_for stopped ≡ None → 
 none_at None is = refl
 none_at (Some reply) is = absurd (cc)
 
-module _ {C : Type 0} (mars : MarsView C) (caller : ℕ) (was now : Worker C) (end next : WorkEnd) (left : IsLeft mars caller was) where
-  pub table_now : WentOn end was now next → now.pass.table ≡ mars.table
-  table_now (inl (why, same, is)) = ap (λ (w : Worker C). w.pass.table) same ∙ left.table
-  table_now (inr (all, some, worked, is)) = worked.works.same.table ∙ left.table
+module _ {C : Type 0} (mars : MarsView C) (caller : ℕ) (was now : Worker C) (end next : WorkEnd) (order longer : List ℕ) (left : IsLeft mars caller was) where
+  pub table_now : WentOn end was now next order longer → now.pass.table ≡ mars.table
+  table_now (inl (why, same, is, noted)) = ap (λ (w : Worker C). w.pass.table) same ∙ left.table
+  table_now (inr (all, some, worked, is, noted)) = worked.works.same.table ∙ left.table
 
   -- all work comes to its end only if all had so far
-  pub all_before : WentOn end was now next → next ≡ work.All → end ≡ work.All
-  all_before (inl (why, same, is)) all = sym is ∙ all
-  all_before (inr (before, some, worked, is)) all = before
+  pub all_before : WentOn end was now next order longer → next ≡ work.All → end ≡ work.All
+  all_before (inl (why, same, is, noted)) all = sym is ∙ all
+  all_before (inr (before, some, worked, is, noted)) all = before
 
   module _ (done others : WorkEnd) (worth : end ≡ worse done (worse others (end_of was.stop))) where
-    pub worth_next : WentOn end was now next → next ≡ worse (worse done (end_of now.stop)) others
-    worth_next (inl (why, same, is)) = is ∙ worth_same done others was.stop now.stop end worth (sym (ap (λ (w : Worker C). w.stop) same))
-    worth_next (inr (all, some, worked, is)) = is ∙ worth_now done others was.stop now.stop end worth all
+    pub worth_next : WentOn end was now next order longer → next ≡ worse (worse done (end_of now.stop)) others
+    worth_next (inl (why, same, is, noted)) = is ∙ worth_same done others was.stop now.stop end worth (sym (ap (λ (w : Worker C). w.stop) same))
+    worth_next (inr (all, some, worked, is, noted)) = is ∙ worth_now done others was.stop now.stop end worth all
 
-    pub done_next : WentOn end was now next → (stopped : Option Reply) × (now.stop ≡ option_map stop_for stopped) × IsDone next caller was.tries was.plans now.fates.items stopped now.pass
-    done_next (inl (why, same, is)) = (
+    pub done_next : WentOn end was now next order longer → (stopped : Option Reply) × (now.stop ≡ option_map stop_for stopped) × IsDone next caller was.tries was.plans now.fates.items stopped now.pass
+    done_next (inl (why, same, is, noted)) = (
       left.stopped,
       ap (λ (w : Worker C). w.stop) same ∙ left.stop_is,
       subst (λ (w : Worker C). IsDone next caller was.tries was.plans w.fates.items left.stopped w.pass) (sym same) (record {
@@ -67,7 +69,7 @@ module _ {C : Type 0} (mars : MarsView C) (caller : ℕ) (was now : Worker C) (e
         none : ((end ≡ work.All → ⊥) ⊎ (was.stop ≡ None)) → end ≡ work.All → was.stop ≡ None
         none (inl never) all = absurd (never all)
         none (inr stops) all = stops
-    done_next (inr (all, some, worked, is)) =
+    done_next (inr (all, some, worked, is, noted)) =
         let held = left_busy done others was.stop now.stop end worth all some in
         let late = drop (length was.fates.items) was.plans in (
           worked.stopped,
@@ -99,5 +101,34 @@ module _ {C : Type 0} (mars : MarsView C) (caller : ℕ) (was now : Worker C) (e
         )
 
   -- what was done before stays done
-  pub done_then : WentOn end was now next → (n : ℕ) (tries : Tries) (plans : List Plan) (fates : List Fate) (stopped : Option Reply) (pass : PassView C) → IsDone end n tries plans fates stopped pass → IsDone next n tries plans fates stopped pass
+  pub done_then : WentOn end was now next order longer → (n : ℕ) (tries : Tries) (plans : List Plan) (fates : List Fate) (stopped : Option Reply) (pass : PassView C) → IsDone end n tries plans fates stopped pass → IsDone next n tries plans fates stopped pass
   done_then went n tries plans fates stopped pass done = record { number = done.number; works = done.works; asked = done.asked; whole = λ all. done.whole (all_before went all) }
+
+-- the last workers leave over what comes first
+pub left_parts : {C : Type 0} (xs ys : List (Worker C)) → left_over (xs ++ ys) ≡ left_over ys ++ left_over xs
+left_parts [] ys = sym (append-nil (left_over ys))
+left_parts (worker ∷ xs) ys =
+    ap (λ (l : List ℕ). l ++ (if is_some worker.stop then worker.caller ∷ [] else [])) (left_parts xs ys) ∙ append_assoc (left_over ys) (left_over xs) (if is_some worker.stop then worker.caller ∷ [] else [])
+
+some_is : {A : Type 0} (o : Option A) → (o ≡ None → ⊥) → is_some o ≡ true
+some_is None never = absurd (never refl)
+some_is (Some x) never = refl
+
+-- one more worker
+pub in_order_next : {C : Type 0} (was now : Worker C) (end next : WorkEnd) (order longer : List ℕ) (gone : List (Worker C)) → WentOn end was now next order longer → WentInOrder end gone order → WentInOrder next (was ∷ gone) longer
+in_order_next {C} was now end next order longer gone (inl (why, same, is, noted)) went =
+    let more : List ℕ = if is_some was.stop then was.caller ∷ [] else [] in record {
+      others = went.others ++ more;
+      is = ap (λ (l : List ℕ). l ++ more) went.is ∙ append_assoc order went.others more ∙ ap (λ (l : List ℕ). l ++ (went.others ++ more)) (sym noted);
+      all = λ ended. ap (λ (l : List ℕ). l ++ more) (went.all (sym is ∙ ended)) ∙ none why (sym is ∙ ended);
+    }
+  where
+    none : ((end ≡ work.All → ⊥) ⊎ (was.stop ≡ None)) → end ≡ work.All → (if is_some was.stop then was.caller ∷ [] else []) ≡ []
+    none (inl never) all = absurd (never all)
+    none (inr stops) all = ap (λ (s : Option Stop). if is_some s then was.caller ∷ [] else []) stops
+in_order_next {C} was now end next order longer gone (inr (all, some, worked, is, noted)) went = record {
+  others = [];
+  is = ap (λ (b : Bool). left_over gone ++ (if b then was.caller ∷ [] else [])) (some_is was.stop some)
+      ∙ ap (λ (l : List ℕ). l ++ was.caller ∷ []) (went.is ∙ ap (λ (l : List ℕ). order ++ l) (went.all all) ∙ append-nil order) ∙ sym noted ∙ sym (append-nil longer);
+  all = λ _. refl;
+}

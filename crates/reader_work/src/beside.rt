@@ -23,6 +23,7 @@ use crate::reading::{ReadWorker, read_keys};
 use caller_plans::Plans;
 use caller_steps::Core;
 use caller_work::{Fates, Gate, Rooms, WorkEnd, Worker, finish, hire, prepare, work, work_all};
+use ghost_notes::Notes;
 use history::Answers;
 use mars_base::NoMemory;
 use mars_manager::{Mars, Pass, Passes};
@@ -211,7 +212,8 @@ fn run_beside<R: Threads + Wait + Sync, C: Core + Drop + Send, G: Gate + Sync>(
         rt, alloc, &mars, crew, &mut feed, pass, gate,
     );
     feed.close(rt);
-    let end = finish(rt, &mars, &mut passes, workers, &mut told);
+    let mut order = Notes::new();
+    let end = finish(rt, &mars, &mut passes, workers, &mut told, &mut order);
     passes.put_back(pass);
     (mars.close(passes), told, answers, end)
 }
