@@ -1,6 +1,6 @@
 // What a file has after its calls.
+use crate::image::media_of;
 use case_files::{CaseFault, Record, TracedMedia};
-use case_pages::media_of;
 use media_file::{Done, HonestCalls};
 use pcm_media::{Media, MemoryMedia};
 use std::alloc::Global;

@@ -80,7 +80,7 @@ pub returns-in-Callers-clause-untold : goal.returns-in-Callers-clause-untold
 returns-in-Callers-clause-untold g c = rw c.in-Callers.is c.run_callers.ensures.short
 
 pub returns-in-Callers-clause-ran : goal.returns-in-Callers-clause-ran
-returns-in-Callers-clause-ran g c = rw c.in-Callers.is c.run_callers.ensures.ran
+returns-in-Callers-clause-ran g c = rw c.in-Callers.is (rw c.open-gate.ensures.gate at c.run_callers.ensures.ran)
 
 pub returns-in-Callers-clause-complete : goal.returns-in-Callers-clause-complete
 returns-in-Callers-clause-complete g c =
@@ -89,9 +89,9 @@ returns-in-Callers-clause-complete g c =
     let given = g.S.Source.left c.args.source.now in
     let numbers = c.in-Callers.numbers in
     let said = c.run_callers.ensures in
-    let ran = said.ran in
+    let ran = rw c.open-gate.ensures.gate at said.ran in
     rw c.in-Callers.is (λ fit no_source no_sink no_media.
-    complete_records false (passes_for numbers.callers numbers.readers) (λ ended. TakesTurns (depth_of numbers.writing) (JointWork (g.W.Doorway.Behind.Gate.told (g.W.Doorway.gate c.args.doorway.now)) numbers.callers numbers.readers ran.holds.0 ended ran.cut ran.text) old ended new) old c.run_callers.result.0 new ran.cut ran.text given _ _ _ _ _ _ _ fit.0.1 fit.2.0 fit.2.1 fit.2.2 no_source no_sink no_media said.counts (said.input fit.0.0) (ran.holds.2 fit.1))
+    complete_records false (passes_for numbers.callers numbers.readers) (λ ended. TakesTurns (depth_of numbers.writing) (JointWork (g.W.Behind.Gate.told (g.W.Doorway.gate c.args.doorway.now)) numbers.callers numbers.readers ran.holds.0 ended ran.cut ran.text) old ended new) old c.run_callers.result.0 new ran.cut ran.text given _ _ _ _ _ _ _ fit.0.1 fit.2.0 fit.2.1 fit.2.2 no_source no_sink no_media said.counts (said.input fit.0.0) (ran.holds.2 fit.1))
 
 pub returns-in-Dump-clause-early : goal.returns-in-Dump-clause-early
 returns-in-Dump-clause-early g c = λ either. absurd (c.run_told.ensures.late (is_early c.run_told.result.0 either))
