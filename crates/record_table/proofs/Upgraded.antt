@@ -3,7 +3,6 @@ use Rattle.std.proofs.Common.{◌≡◌, ◌≢◌, ◌^◌, ℕ, zero, suc, ◌
 use Rattle.std.specs.Prelude.{nat_eq, if◌then◌else◌, slice_get, Some}
 use Rattle.std.specs.Option.{option_map}
 use Rattle.std.proofs.lemmas.Bool.{cases_eq}
-use Rattle.byteorder.specs.Endian.{little_from}
 use Rattle.mars_base.specs.Bytes.{range, put}
 use Rattle.mars_base.proofs.Puts.{length-put}
 use Rattle.pcm_media.proofs.Ranges.{range-put}
@@ -131,7 +130,7 @@ module _ (index : Index) (laws : Laws index) (d page : List ℕ) (sound : index.
 
   none_then : (place : ℕ) → free_in place (page_bytes d 0) ≡ 0
   unfolding free_in
-  none_then place = ap (λ (v : ℕ). if nat_eq v 1 then 0 else little_from place 4 (page_bytes d 0)) one
+  none_then place = rw (eq-eqb (version_of d) 1 one) refl
 
   free_slot_same : free_slot e ≡ free_slot d
   free_slot_same = sym now.free_slot ∙ sym (none_then _)
