@@ -1,6 +1,6 @@
 -- Keys without records, tried one after another.
 use Rattle.std.proofs.Common.{◌≡◌, ◌≢◌, ℕ, ◌+◌, ◌*◌, ◌^◌, ◌<◌, ◌≤◌, ◌⊎◌, Bool, true, false, cond, inl, inr, IsTrue, List, [], ◌∷◌, ◌++◌, length, length-append, Result, Ok, Err, refl, sym, ◌∙◌, ap, subst, arith}
-use Rattle.std.specs.Prelude.{Option, Some, None, IsSome, IfOk, slice_get, unwrap_or}
+use Rattle.std.specs.Prelude.{Option, Some, None, IsSome, IfOk, slice_get, unwrap_or, option_map}
 use Rattle.std.specs.FinMap.{get}
 use Rattle.std.specs.List.{list_any}
 use Rattle.std.specs.Map.{update}
@@ -97,12 +97,8 @@ loses_one index a b table key called same loses =
       fewer = lost.fewer;
       one_page = lost.one_page;
       next_page = lost.next_page;
-      levels = λ i name. level_with (lost.levels i) (number_of (same i) name);
+      levels = λ i name. unwrap_or (option_map (lost.levels i) (number_of (same i) name)) 0;
     }
-  where
-    level_with : (ℕ → ℕ) → Option ℕ → ℕ
-    level_with levels None = 0
-    level_with levels (Some table) = levels table
 
 -- 1 for a key that was taken out
 abbrev pub one_if : Bool → ℕ

@@ -158,7 +158,7 @@ module _ (index : below.Index) (table : ℕ) (p : PagesView) (s : State) (indexe
 
       all_fit : (left : ℕ) (actions : List below.Action) → inserts.AllFit p.store t left actions → actions_fit (limits_of index p.store.shape p.store.depth) held_below left (actions_as p.store.shape actions) None
       all_fit left [] fit = tt
-      all_fit left (action ∷ later) (fits, fit) = (fits.0, fits.1, all_fit (left - action.takes) later fit)
+      all_fit left (action ∷ later) (fits, fit) = (fits.0, (fits.1, all_fit (left - action.takes) later fit))
 
       lack_pages : (left : ℕ) (actions : List below.Action) → inserts.LackPages p.store t left actions
           → actions_fit (limits_of index p.store.shape p.store.depth) held_below left (actions_as p.store.shape actions) (Some (reply.PagesFull (index_pages_of p.store.shape - 1)))
@@ -213,8 +213,10 @@ module _ (index : below.Index) (table : ℕ) (p : PagesView) (s : State) (indexe
       fits_at : (key : Key) → number_of (names_of p.store.state.bytes) key.table ≡ Some table → (o : Option ℕ) → table_causes.PutFits index table t key p o → write_fits (limits_of index p.store.shape p.store.depth) s t key o None
       fits_at key number None (comes, room) = (
         slot_left comes.0,
-        moved key number None (all_fit _ (table_causes.actions_in index p.store.state.bytes table key.key) comes.1),
-        subst (λ (slot : ℕ). entry_fits (limits_of index p.store.shape p.store.depth) s t key slot None) (due_is key number) (fits_entry key (slot_due p.store.state.bytes) (has_entry t key (slot_due p.store.state.bytes) room)),
+        (
+          moved key number None (all_fit _ (table_causes.actions_in index p.store.state.bytes table key.key) comes.1),
+          subst (λ (slot : ℕ). entry_fits (limits_of index p.store.shape p.store.depth) s t key slot None) (due_is key number) (fits_entry key (slot_due p.store.state.bytes) (has_entry t key (slot_due p.store.state.bytes) room)),
+        ),
       )
       fits_at key number (Some slot) room = fits_entry key slot (has_entry t key slot room)
 

@@ -49,7 +49,7 @@ use Rattle.mars_core.specs.Works.{HasSaves}
 use Rattle.caller_steps.proofs.Sound.{history_whole}
 use Rattle.mars_core.proofs.Indexing.{slot_after}
 use Rattle.mars_core.proofs.Mirroring.{has_save_is, saves_are, has_saves}
-use Rattle.mars_core.proofs.Rooming.{has_entry, entry_is}
+use Rattle.mars_core.proofs.Rooming.{HasEntry, has_entry, entry_is}
 use Rattle.mars_core.proofs.Entering.{Enters, Returns}
 use Rattle.mars_core.proofs.Prefixes.{prefix_all, opens_tied}
 use Rattle.record_table.specs.Causes as table_causes
