@@ -14,7 +14,7 @@ use Rattle.index_pages.specs.Keys.{key_end}
 use Rattle.index_pages.specs.Page.{count_said, link_said, pairs_said, count_of, link_of, page_pairs}
 use Rattle.key_list.specs.Along.{chain_placing, leaf_said, led_to, stay}
 use Rattle.key_list.specs.Chain.{chain_check, pairs_of_chain, page_of_key}
-use Rattle.key_list.specs.Index.{chain, chain_actions}
+use Rattle.key_list.specs.Index.{chain, chain_access, chain_actions}
 use Rattle.key_list.specs.Located.{IsRoomIn}
 use Rattle.key_list.specs.declared.look.KeyPage.{KeyPage}
 use Rattle.key_list.proofs.Ends.{led_here, led_past}
@@ -41,7 +41,7 @@ room_said key at said (Place leaf) read is link there =
 room_said key at said Split read is link there = tt
 
 -- the page of the key is its place in the data
-pub room_place : (bytes : List ℕ) (root key : ℕ) (at : KeyPage) (said : List ℕ) (s : Sought) → IsRoomIn at said s → at.page ≡ page_of_key bytes root key → said ≡ page_bytes bytes at.page → at.head.link ≡ link_said said → IsSoughtFor chain bytes root key s
+pub room_place : (bytes : List ℕ) (root key : ℕ) (at : KeyPage) (said : List ℕ) (s : Sought) → IsRoomIn at said s → at.page ≡ page_of_key bytes root key → said ≡ page_bytes bytes at.page → at.head.link ≡ link_said said → IsSoughtFor chain chain_access bytes root key s
 room_place bytes root key at said (Slot slot) is page said_is link = tt
 room_place bytes root key at said (Place leaf) is page said_is link = record {
   page_is = is.0 ∙ page;
