@@ -57,8 +57,8 @@ returns-clause-runs g c =
     c.whole_page-3.ensures.bytes ∙ c.write_page-3.ensures ∙ ap (λ (ps : List Pair). written_page (node.level + 1) 0 ps) (c.as_slice.ensures.value ∙ c.with_pair-above.ensures ∙ ap (λ (k : ℕ). inserted c.args.parent.pairs.items k taken.number) first) in
     let counts = c.front_part.ensures.bytes ∙ c.write_super_part.ensures in
     subst (λ (l : List Part). Runs T V g.S.EawStore.calls (acting_of c.args.tid (log_len v0.store c.args.tid) l) v0.store v1.store c.act_all.result) (λ i.
-        (address (c.whole_page.ensures.page i) (c.whole_page.ensures.at i), lower i) ∷ (address (c.whole_page-2.ensures.page i) (c.whole_page-2.ensures.at i), upper i)
-        ∷ (address (c.whole_page-3.ensures.page i) (c.whole_page-3.ensures.at i), named i) ∷ (address (c.front_part.ensures.page i) (c.front_part.ensures.at i), counts i) ∷ []) c.act_all.ensures.runs
+    (address (c.whole_page.ensures.page i) (c.whole_page.ensures.at i), lower i) ∷ (address (c.whole_page-2.ensures.page i) (c.whole_page-2.ensures.at i), upper i)
+    ∷ (address (c.whole_page-3.ensures.page i) (c.whole_page-3.ensures.at i), named i) ∷ (address (c.front_part.ensures.page i) (c.front_part.ensures.at i), counts i) ∷ []) c.act_all.ensures.runs
 
 pub act_all-requires : goal.act_all-requires
 act_all-requires g c =
