@@ -3,7 +3,7 @@ use Rattle.std.proofs.Common.{◌≡◌, ◌⊎◌, inl, inr, ℕ, zero, suc, �
 use Rattle.std.specs.Prelude.{IsFalse, not, if◌then◌else◌, MatchBool, Contains}
 use Rattle.std.specs.List.{fold}
 use Rattle.std.specs.Option.{option_to_list}
-use Rattle.std.proofs.lemmas.Bool.{true≢false, cases_Bool}
+use Rattle.std.proofs.lemmas.Bool.{true≢false}
 use Rattle.std.proofs.lemmas.List.{append-nil, map-append}
 use Rattle.std.proofs.lemmas.List.Sums.{fold-append}
 use Rattle.std.proofs.lemmas.List.Elements.{Contains-append_left, Contains-append_right, Contains-append_cases, Contains-push_cases}
@@ -17,7 +17,7 @@ use Rattle.history.specs.declared.call.Reply.TheVariants as says
 use Rattle.history.specs.declared.transaction.Done.{Done}
 use Rattle.caller_steps.specs.State as state
 use Rattle.caller_steps.specs.State.{State, unoffered, offered, unsettled, commits_of}
-use Rattle.caller_steps.specs.Offers.{is_offered, is_unoffered}
+use Rattle.caller_steps.specs.Offers.{is_offered}
 use Rattle.caller_steps.specs.Room.{Limits}
 use Rattle.caller_steps.specs.Step.{Runs}
 use Rattle.caller_steps.specs.Fate.{is_refusal, is_media, is_busy, is_committed, live_with, offer_with}
@@ -35,7 +35,7 @@ use Rattle.caller_plans.specs.declared.fate.Fate.TheVariants.{Committed, Aborted
 use Rattle.caller_work.specs.declared.tries.Tries.{Tries}
 use Rattle.caller_work.specs.declared.tries.Tries.TheVariants.{NoLimit}
 use Rattle.caller_work.specs.Tries.{is_last, end_outcome, refusal_outcome, IsOne, Ends, GivesUp, Takes, IsTry, AreHeldUp, IsMade, Works, IsWork, IsWorkOf}
-use Rattle.caller_work.specs.Fated.{commits, is_final, IsRefusedAs, IsDoneAs, AreFated}
+use Rattle.caller_work.specs.Fated.{commits, IsRefusedAs, IsDoneAs, AreFated}
 use Rattle.caller_work.specs.Asked.{AreOnTables}
 use Rattle.caller_work.proofs.Lawful.{pick_false, IsKind, IsSaid, AreLawful, AreSaid, both_parts, lawful_run, steps_said}
 

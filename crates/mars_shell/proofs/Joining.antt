@@ -6,7 +6,7 @@ use Rattle.mars_base.specs.declared.NoMemory.{NoMemory}
 use Rattle.history.specs.Writes.{Table}
 use Rattle.history.specs.declared.key.Key.{Key}
 use Rattle.std.specs.List.{flat_map, AllZip}
-use mathlib.Core.Logic.{dite, ¬◌}
+use mathlib.Core.Logic.{dite}
 use native.Mathlib.Decide.{dec_le}
 use Rattle.std.specs.FinMap.{entries}
 use Rattle.std.proofs.lemmas.Bool.{true≢false}
@@ -15,7 +15,6 @@ use Rattle.history.specs.Rows as rows
 use Rattle.history.specs.Rows.{NamedRows}
 use Rattle.history.specs.declared.transaction.Done.{Done}
 use Rattle.history.specs.Legal.{records}
-use Rattle.history.specs.declared.call.Call.{Call}
 use Rattle.history.specs.declared.call.Reply.{Reply}
 use Rattle.history.specs.declared.call.Reply.TheVariants.{Busy}
 use Rattle.caller_steps.specs.Core.{CoreView}
