@@ -1,5 +1,5 @@
 // The lines of callers over the records of an array, with the frames that it sends.
-ghost use Rattle.std.specs.Prelude.{◌≡◌, ℕ, List, None, false, IsTrue, IfErr};
+ghost use Rattle.std.specs.Prelude.{◌≡◌, ℕ, List, None, false, true, IsTrue, IfErr};
 ghost use Rattle.mars_shell.specs.Contract.{IsAlive, Wrote, index_at, InputSays, OverRecords, Counts, depth_of, HasDepth, Serves, ServedCounts, Spares};
 ghost use Rattle.mars_shell.specs.FramedRun.{RunsAs, says_framed};
 
