@@ -1,4 +1,4 @@
-use Rattle.std.proofs.Common.{[], false, refl, sym, subst, ◌∙◌, arith}
+use Rattle.std.proofs.Common.{[], false, true, refl, sym, subst, ◌∙◌, arith}
 use Rattle.std.proofs.lemmas.List.{append-nil}
 use Rattle.array_runs.specs.Records.{OverRecords}
 use Rattle.array_runs.specs.Statuses.{IsEarly, IsRefusal}
