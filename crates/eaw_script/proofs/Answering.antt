@@ -1,10 +1,11 @@
 -- What comes of one line, given what comes of its command.
 use Rattle.std.proofs.Common.{◌≡◌, ◌≤◌, ℕ, lit<, List, [], ◌∷◌, ◌++◌, Option, Some, None, Result, Ok, Err, inl, inr, ⊎_elim, refl, sym, subst, arith}
-use Rattle.std.specs.Prelude.{Bool, IsTrue, Contains}
+use Rattle.std.specs.Prelude.{Bool, IsTrue, Contains, option_map}
 use Rattle.std.proofs.lemmas.List.Elements.{Contains-append_left, Contains-append_right}
 use Rattle.mars_base.proofs.Going as going
 use Rattle.mars_base.specs.declared.Failed.{Failed}
 use Rattle.array_shape.specs.declared.shape.Shape.{Shape}
+use Rattle.array_shape.specs.Logged.{ranges_of}
 use Rattle.eaw_face.specs.StoreView.{StoreView}
 use Rattle.script_text.specs.Eaw.{Raw}
 use Rattle.script_text.specs.EawLines.{nothing, told, bad, Means, ShowsCall, SaysEaw}
@@ -16,7 +17,7 @@ use Rattle.script_text.specs.declared.eaw_line.EawLine.TheVariants.{Nothing, Tol
 use Rattle.script_run.specs.Answers.{Answers}
 use Rattle.script_run.specs.declared.responder.Stop.{Stop}
 use Rattle.script_run.specs.declared.responder.Stop.TheVariants.{Media, NoMemory}
-use Rattle.eaw_script.specs.Tests.{logged_in, asks, Passes}
+use Rattle.eaw_script.specs.Tests.{asks, Passes}
 use Rattle.eaw_script.specs.Answers.{AnswersWith, state_after}
 use Rattle.eaw_script.specs.Lines.{RawLineGives, raw_script}
 use Rattle.eaw_script.specs.Performed.{Performed}
@@ -70,7 +71,7 @@ module _ (Opens : Shape → List ℕ → List ℕ → Type 0) (store : StoreView
   refused_short text says = let means = means_bad store.shape.numbers line says in (at store past, (bad_line n, inr (inr (means.0, means.1, refl, refl))), stays)
 
 module _ (tells : Bool) (tell : IsTrue tells) (Opens : Shape → List ℕ → List ℕ → Type 0) (old new : StoreView) (n : ℕ) (line : List ℕ) (t : ℕ) (raw : Raw)
-    (outline : old.ranges t ≡ logged_in old.state t) (means : Means old.shape.numbers line (told t raw)) (past : List (List ℕ)) where
+    (outline : old.ranges t ≡ option_map ranges_of (old.state.logs t)) (means : Means old.shape.numbers line (told t raw)) (past : List (List ℕ)) where
   module _ (answer : Answer) (did : Performed tells (Opens old.shape) old new t raw (Ok answer)) (only : (image : List ℕ) → new.left_since new.moment image → Opens new.shape image new.state.bytes) where
     -- what a command makes of a script
     moved_on : Comes Opens old (at old past) new (moved (at old past) new.state)
@@ -93,11 +94,10 @@ module _ (tells : Bool) (tell : IsTrue tells) (Opens : Shape → List ℕ → Li
     gives = inr (inl (
       t,
       raw,
-      means,
       answer,
-      new.state,
-      subst (λ (log : Option (List (ℕ × ℕ))). AnswersWith old.shape log old.state t raw answer new.state) outline (did.answers tell),
+      means,
       refl,
+      subst (λ (log : Option (List (ℕ × ℕ))). AnswersWith old.shape log old.state t raw answer new.state) outline (did.answers tell),
       refl,
     ))
 
@@ -124,8 +124,10 @@ module _ (tells : Bool) (tell : IsTrue tells) (Opens : Shape → List ℕ → Li
           (
             raw,
             means,
-            subst (λ (log : Option (List (ℕ × ℕ))). Passes old.shape (asks old.shape log raw)) outline did.fails.0,
-            subst (λ (log : Option (List (ℕ × ℕ))). (asks old.shape log raw).media) outline did.fails.1,
+            (
+              subst (λ (log : Option (List (ℕ × ℕ))). Passes old.shape (asks old.shape log raw)) outline did.fails.0,
+              subst (λ (log : Option (List (ℕ × ℕ))). (asks old.shape log raw).media) outline did.fails.1,
+            ),
             refl,
           ),
           record {

@@ -1,8 +1,8 @@
 -- What a number's raw command is answered and leaves.
-use Rattle.std.specs.Prelude.{ℕ, ◌≡◌, ◌++◌, List, length, Option}
+use Rattle.std.specs.Prelude.{ℕ, ◌≡◌, ◌++◌, List, [], length, slice_index_or, Option, unwrap_or}
 use Rattle.mars_base.specs.Bytes.{range}
 use Rattle.array_shape.specs.declared.shape.Shape.{Shape}
-use Rattle.eaw_face.specs.State.{State, listed, range_at, part_at, count_on}
+use Rattle.eaw_face.specs.State.{State, count_on}
 use Rattle.eaw_face.specs.Command.{log_write, read, after}
 use Rattle.script_text.specs.Eaw.{Raw, does, read_log, log_len, held}
 use Rattle.script_text.specs.declared.answer.Answer.{Answer}
@@ -16,11 +16,11 @@ state_after _ old = old
 
 -- the answer to a command that was done: the length of the log after a write, the bytes that were asked for, or a count
 abbrev pub answer_to : Shape → Option (List (ℕ × ℕ)) → State → ℕ → Raw → Answer
-answer_to shape log old t (does (log_write u addr bytes)) = Logged (length (listed log ++ (asks shape log (does (log_write u addr bytes))).needed))
+answer_to shape log old t (does (log_write u at bytes)) = Logged (length (unwrap_or log [] ++ (asks shape log (does (log_write u at bytes))).needed))
 answer_to shape log old t (does (read addr len)) = Data (range old.bytes addr len)
-answer_to shape log old t (read_log pos) = Part (range_at (listed log) pos).0 (part_at (listed (old.logs t)) pos).1
-answer_to shape log old t log_len = Len (length (listed log))
-answer_to shape log old t (held logger) = Held (count_on shape logger (listed log))
+answer_to shape log old t (read_log n) = Part (slice_index_or (unwrap_or log []) n (0, 0)).0 (slice_index_or (unwrap_or (old.logs t) []) n (0, [])).1
+answer_to shape log old t log_len = Len (length (unwrap_or log []))
+answer_to shape log old t (held logger) = Held (count_on shape logger (unwrap_or log []))
 answer_to shape log old t _ = Fine
 
 -- Number t, with this log, gets this answer. A refusal comes if its test is the first that fails, and changes nothing.
