@@ -1,5 +1,5 @@
 -- Parts of writes with their bytes, as they stand in a log. No part crosses a page.
-use Rattle.std.specs.Prelude.{ℕ, ◌≡◌, ◌+◌, ◌≤◌, nat_eq, if◌then◌else◌, List, [], ◌∷◌, length}
+use Rattle.std.specs.Prelude.{ℕ, ◌≡◌, ◌+◌, ◌≤◌, nat_eq, if◌then◌else◌, List, [], ◌∷◌, length, map, fold}
 use Rattle.mars_base.specs.Bytes.{put}
 use Rattle.array_shape.specs.declared.shape.Shape.{Shape}
 use Rattle.array_shape.specs.Places.{IsPlaced, logger_of, place_of}
@@ -10,8 +10,7 @@ Part = ℕ × List ℕ
 
 -- the bytes once the parts are written into them in order
 abbrev pub applied : List Part → List ℕ → List ℕ
-applied [] bytes = bytes
-applied (p ∷ ps) bytes = applied ps (put bytes p.0 p.1)
+applied parts bytes = fold (λ (old : List ℕ) (part : Part). put old part.0 part.1) bytes parts
 
 -- each lies within the first `size` bytes
 abbrev pub AllFit : ℕ → List Part → Type 0
@@ -20,8 +19,7 @@ AllFit size (p ∷ ps) = (p.0 + length p.1 ≤ size) × AllFit size ps
 
 -- where they lie in the data
 abbrev pub ranges_of : List Part → List (ℕ × ℕ)
-ranges_of [] = []
-ranges_of (p ∷ ps) = (p.0, length p.1) ∷ ranges_of ps
+ranges_of parts = map (λ (part : Part). (part.0, length part.1)) parts
 
 -- where they lie on the medium
 abbrev pub places_of : Shape → List Part → List (ℕ × ℕ)

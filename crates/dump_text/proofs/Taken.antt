@@ -1,7 +1,7 @@
 -- What is read line by line.
 use Rattle.std.proofs.Common.{◌≡◌, ℕ, suc, ◌+◌, ◌<◌, ◌≤◌, Bool, true, false, inl, inr, List, [], ◌∷◌, ◌++◌, length, map, Err, refl, sym, ap, subst, ◌∙◌, arith, rules}
 use Rattle.std.specs.Prelude.{if◌then◌else◌, IsPermutation, nat_eq}
-use Rattle.std.specs.List.{All, IsDistinct, list_any}
+use Rattle.std.specs.List.{All, IsDistinct, list_any, onto_first}
 use Rattle.std.proofs.lemmas.Cmp.{nat_list_eq_equiv}
 use Rattle.std.proofs.lemmas.List.Elements.{All-append, All-cons}
 use Rattle.std.proofs.lemmas.List.Sorted.{IsPermutation-refl, IsPermutation-sym, IsPermutation-push_more, Contains-permutation}
@@ -10,7 +10,7 @@ use Rattle.history.specs.Key.{main_name}
 use Rattle.history.specs.declared.key.Key.{Key}
 use Rattle.history.specs.Rows.{NamedRows, records_in}
 use Rattle.history.specs.Writes.{Row}
-use Rattle.script_run.specs.Lines.{lines_of, onto_first}
+use Rattle.script_run.specs.Lines.{lines_of}
 use Rattle.dump_text.specs.Dump.{IsRecord, AreTables, AreRising, record_words, is_same_name, with_name, met}
 use Rattle.dump_text.specs.Causes.{SaysNothing, IsShort, IsRefused, HasCause}
 use Rattle.dump_text.specs.Gathering.{Adds, names_of}

@@ -2,7 +2,8 @@
 use Rattle.std.proofs.Common.{◌≡◌, ℕ, ◌+◌, ◌-◌, ◌<◌, List, [], ◌∷◌, ◌++◌, length, take, drop, get_or, refl, sym, ap, ◌∙◌, cond, arith}
 use Rattle.std.proofs.lemmas.List.{take_rest, take-append-drop, drop_more, length-drop}
 use Rattle.std.proofs.lemmas.Bool.{ne_eqb}
-use Rattle.script_run.specs.Lines.{lines_of, onto_first, IsOneLine}
+use Rattle.std.specs.List.{onto_first}
+use Rattle.script_run.specs.Lines.{lines_of, IsOneLine}
 
 pub IsOneLine-push : (line : List ℕ) (b : ℕ) → IsOneLine line → (b ≡ 10 → ⊥) → IsOneLine (line ++ b ∷ [])
 IsOneLine-push [] b is other = (other, tt)
