@@ -1,6 +1,5 @@
 -- What a medium holds, and what a loss of power may leave of it.
 use Rattle.std.specs.Prelude.{ℕ, ◌+◌, ◌<◌, ◌≤◌, ◌≡◌, List, [], ◌∷◌, ◌++◌, length, slice_index}
-use Rattle.std.specs.List.{AllByRecursion}
 use Rattle.mars_base.specs.Bytes.{put}
 
 -- the bytes that a read gives, and each range (place and length) that was written since the last barrier that succeeded
@@ -14,7 +13,8 @@ no_content = record { bytes = []; unsettled = [] }
 
 -- the place lies in none of the ranges
 abbrev pub IsOutside : List (ℕ × ℕ) → ℕ → Type 0
-IsOutside ranges i = AllByRecursion (λ (range : ℕ × ℕ). range.0 ≤ i → i < range.0 + range.1 → ⊥) ranges
+IsOutside [] i = Unit {0}
+IsOutside (r ∷ rs) i = (r.0 ≤ i → i < r.0 + r.1 → ⊥) × IsOutside rs i
 
 -- the same length, and the same bytes outside the ranges
 pub record SameOutside (ranges : List (ℕ × ℕ)) (old new : List ℕ) : Type 0 where
