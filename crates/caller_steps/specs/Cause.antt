@@ -13,7 +13,7 @@ use Rattle.caller_steps.specs.State.{State, unoffered, offered, unsettled, view_
 use Rattle.caller_steps.specs.Offers.{may_do, offerers, number_among}
 use Rattle.caller_steps.specs.Locked.{IsFree, IsBusyWith}
 use Rattle.caller_steps.specs.Room.{Limits}
-use Rattle.caller_steps.specs.Step.{most_saves, uses_index}
+use Rattle.caller_steps.specs.Step.{uses_index}
 
 -- how many saves a caller's live transaction has
 abbrev pub saves_of : State → ℕ → ℕ
@@ -27,7 +27,7 @@ misplaced call = NoTransaction
 
 -- the refusal of one more save than there may be, or of a way back to a save that is not there
 abbrev pub save_refusal : ℕ → TableCall → Option Reply
-save_refusal saves Save = if nat_lt saves most_saves then None else Some SavesFull
+save_refusal saves Save = if nat_lt saves 32 then None else Some SavesFull
 save_refusal saves (Back n) = if nat_lt 0 n && nat_le n saves then None else Some (NoSave n)
 save_refusal saves call = None
 

@@ -1,6 +1,6 @@
 -- What comes of transactions that several callers have offered: they are committed together, all or none.
 use Rattle.std.specs.Prelude.{ℕ, ◌+◌, Bool, true, false, ◌&&◌, ◌||◌, not, nat_eq, if◌then◌else◌, List, [], ◌∷◌, ◌++◌, length, filter, flat_map, None, is_some}
-use Rattle.std.specs.List.{range_with_len}
+use Rattle.std.specs.List.{fold, scan, range_with_len}
 use Rattle.history.specs.Log.{log_of}
 use Rattle.history.specs.Writes.{Write}
 use Rattle.history.specs.declared.call.Call.{Call}
@@ -47,13 +47,11 @@ with_done state last caller = record (with_offer (with_live state caller None) c
 
 -- the state once those of these callers are committed, one after another
 abbrev pub with_group : State → ℕ → List ℕ → State
-with_group state last [] = state
-with_group state last (caller ∷ callers) = with_group (with_done state last caller) last callers
+with_group state last callers = fold (λ was caller. with_done was last caller) state callers
 
 -- those transactions
 abbrev pub group_in : State → ℕ → List ℕ → List Done
-group_in state last [] = []
-group_in state last (caller ∷ callers) = done_in state last caller ∷ group_in (with_done state last caller) last callers
+group_in state last callers = scan (λ was caller. with_done was last caller) (λ was caller. done_in was last caller) state callers
 
 -- The number of the last of them: a group comes behind all that was committed before.
 abbrev pub group_end : State → List ℕ → ℕ
@@ -72,10 +70,9 @@ group_done state callers caller = record { caller = caller; calls = calls_of sta
 abbrev pub group_writes : State → List ℕ → List Write
 group_writes state callers = flat_map (λ caller. (log_of (calls_of state caller)).writes) callers
 
--- The state once they have ended without it.
+-- the state once they have ended without it
 abbrev pub without : State → List ℕ → State
-without state [] = state
-without state (caller ∷ callers) = without (with_offer (with_live state caller None) caller unoffered) callers
+without state callers = fold (λ was caller. with_offer (with_live was caller None) caller unoffered) state callers
 
 -- they were committed together
 abbrev pub committed_group : State → List ℕ → State

@@ -1,8 +1,7 @@
 -- What a loss of power leaves of a history.
-use Rattle.std.specs.Prelude.{ℕ, ◌≡◌, ◌≤◌, List, ◌++◌, length, take}
+use Rattle.std.specs.Prelude.{ℕ, ◌≡◌, ◌≤◌, List, ◌++◌, All, length, take}
 use Rattle.history.specs.Writes.{Table}
 use Rattle.history.specs.Legal.{records}
-use Rattle.history.specs.Groups.{AreWhole}
 use Rattle.history.specs.declared.transaction.Done.{Done}
 use Rattle.caller_steps.specs.State.{State}
 
@@ -12,7 +11,7 @@ pub record HasPrefix (Opens : List ℕ → Table → Type 0) (base : Table) (his
   pub count : ℕ
   pub at_least : least ≤ count
   pub at_most : count ≤ length history
-  pub whole : AreWhole count (take count history)
+  pub whole : All (λ done. done.last ≤ count) (take count history)
   pub opens : Opens image (records base (take count history))
 
 -- the same for a state, whose transactions in doubt come last, as a group that may be there or not

@@ -1,5 +1,6 @@
 -- A purge: keys without records, whose stripes no live transaction touches, are taken out of the index.
 use Rattle.std.specs.Prelude.{ℕ, ◌≡◌, ◌<◌, ◌^◌, ◌⊎◌, Bool, true, false, if◌then◌else◌, IsTrue, IsFalse, List, [], ◌∷◌, length, filter, slice_get, Some, None, IsSome}
+use Rattle.std.specs.List.{AllByRecursion}
 use Rattle.std.specs.FinMap.{get}
 use Rattle.history.specs.declared.key.Key.{Key}
 use Rattle.history.specs.Locks.{Meets}
@@ -45,8 +46,7 @@ IsTried key (one ∷ tries) = (one.0 ≡ key) ⊎ IsTried key tries
 
 -- so it is with each key that was tried
 abbrev pub Each : (Key → Type 0) → List (Key × Bool) → Type 0
-Each P [] = Unit {0}
-Each P (one ∷ tries) = P one.0 × Each P tries
+Each P tries = AllByRecursion (λ (one : Key × Bool). P one.0) tries
 
 -- One key is tried before another: its table has the lower number, or it is the lower key of the same table.
 abbrev pub ComesBefore : List (List ℕ) → Key → Key → Type 0
@@ -56,7 +56,7 @@ ComesBefore names one other = ((i : ℕ) × (j : ℕ) × (i < j) × (slice_get n
 -- keys tried in this order, so each once; the last one first
 abbrev pub AreInOrder : List (List ℕ) → List (Key × Bool) → Type 0
 AreInOrder names [] = Unit {0}
-AreInOrder names (one ∷ tries) = Each (λ key. ComesBefore names key one.0) tries × AreInOrder names tries
+AreInOrder names (one ∷ tries) = AllByRecursion (λ (earlier : Key × Bool). ComesBefore names earlier.0 one.0) tries × AreInOrder names tries
 
 -- What comes of a key: it is lost, if no live transaction touches it and the index does not keep it, as it is then. Else it stays.
 abbrev pub Becomes : Limits → State → Key → Bool → Index → Index → Type 0
@@ -74,7 +74,7 @@ Tries limits old first (one ∷ tries) now = (before : Index) × Tries limits ol
 pub record Purges (limits : Limits) (old : State) (n : ℕ) (new : State) : Type 0 where
   pub tried : List (Key × Bool)
   pub order : AreInOrder old.names tried
-  pub absent : Each (IsAbsent old) tried
+  pub absent : AllByRecursion (λ (one : Key × Bool). IsAbsent old one.0) tried
   pub all : (key : Key) → key.key < 2 ^ 64 → IsAbsent old key → IsTried key tried
   pub count : n ≡ length (filter (λ (one : Key × Bool). one.1) tried)
   pub index : Index

@@ -1,5 +1,5 @@
 -- How much room an array has for writes, and what calls make of its index.
-use Rattle.std.specs.Prelude.{ℕ, ◌≡◌, ◌≢◌, ◌-◌, ◌<◌, ◌≤◌, ◌⊎◌, Bool, false, nat_eq, List, [], ◌∷◌, length, filter, Option, Some, None, is_none, option_to_list}
+use Rattle.std.specs.Prelude.{ℕ, ◌≡◌, ◌≢◌, ◌-◌, ◌<◌, ◌≤◌, ◌⊎◌, Bool, false, nat_eq, List, [], ◌∷◌, length, filter, Option, Some, None, is_none, option_map, option_to_list, unwrap_or}
 use Rattle.std.specs.FinMap.{get}
 use Rattle.mars_base.specs.Check.{Check, pass, test, both, unless, each}
 use Rattle.mars_base.specs.Room.{HaveRoom, IsFirstFull}
@@ -41,8 +41,7 @@ IsShown limits state = limits.says state.index.bytes ≡ (state.names, records_o
 
 -- the key of a write has its slot on this logger
 abbrev pub is_slot_on : Limits → ℕ → Option ℕ → Bool
-is_slot_on limits g None = false
-is_slot_on limits g (Some slot) = nat_eq (limits.logger_of slot) g
+is_slot_on limits g slot = unwrap_or (option_map (λ (at : ℕ). nat_eq (limits.logger_of at) g) slot) false
 
 -- how many entries of a logger a caller's writes take
 abbrev pub held_on : Limits → State → ℕ → ℕ → ℕ

@@ -1,6 +1,6 @@
 -- Runs of a core: the calls of callers and their replies, one after another, and what each caller has of one.
 use Rattle.std.specs.Prelude.{ℕ, ◌≡◌, ◌<◌, ◌≤◌, Bool, true, false, IsTrue, nat_eq, List, [], ◌∷◌, ◌++◌, map, filter, None}
-use Rattle.std.specs.List.{list_any}
+use Rattle.std.specs.List.{AllByRecursion, list_any}
 use Rattle.history.specs.declared.call.Call.{Call}
 use Rattle.history.specs.declared.call.Call.TheVariants.{Table, Control}
 use Rattle.history.specs.declared.call.TableCall.TheVariants.{Put, Del}
@@ -35,11 +35,10 @@ GoesAlong tells limits old (turn ∷ turns) new = (mid : State) × Goes tells li
 
 -- the turns are all of the first so many callers
 abbrev pub AreOf : ℕ → List Turn → Type 0
-AreOf callers [] = Unit {0}
-AreOf callers (turn ∷ turns) = (turn.0 < callers) × AreOf callers turns
+AreOf callers turns = AllByRecursion (λ (turn : Turn). turn.0 < callers) turns
 
 -- those of one caller
-abbrev pub turns_of : ℕ → List Turn → Heard
+abbrev pub turns_of : ℕ → List Turn → List (Call × Reply)
 turns_of caller turns = map (λ (turn : Turn). (turn.1, turn.2)) (filter (λ (turn : Turn). nat_eq turn.0 caller) turns)
 
 -- the call asks to write a record, to remove one, or to take keys without records out of the index

@@ -1,5 +1,5 @@
 -- How a call of a caller is answered, and what it leaves.
-use Rattle.std.specs.Prelude.{ℕ, ◌≡◌, ◌+◌, ◌<◌, ◌≤◌, ◌⊎◌, Bool, true, false, IsTrue, IsFalse, List, [], ◌∷◌, ◌++◌, length, Option, Some, None}
+use Rattle.std.specs.Prelude.{ℕ, ◌≡◌, ◌+◌, ◌<◌, ◌≤◌, ◌⊎◌, Bool, true, false, not, IsTrue, IsFalse, List, [], ◌∷◌, ◌++◌, length, Option, Some, None}
 use Rattle.mars_base.specs.Check.{Check, test}
 use Rattle.history.specs.Locks.{has_table}
 use Rattle.history.specs.Table.{Granted, Answers, has_save}
@@ -16,10 +16,6 @@ use Rattle.caller_steps.specs.Offers.{offerers, with_group, group_in, number_amo
 use Rattle.caller_steps.specs.Locked.{IsFree, IsBusyWith}
 use Rattle.caller_steps.specs.Room.{Limits, IsShown, room_for, Indexes, Settles}
 use Rattle.caller_steps.specs.Purging.{Purges}
-
--- the most saves that a transaction may have
-abbrev pub most_saves : ℕ
-most_saves = 32
 
 -- the reply is this one, and nothing changes
 abbrev pub Says : Reply → State → Reply → State → Type 0
@@ -39,11 +35,9 @@ Refuses limits old caller call reply new = room_for limits old caller call (Some
 abbrev pub Fails : State → Reply → State → Type 0
 Fails old reply new = (reply ≡ Media) × (index : Index) × (new ≡ record old { index = index; is_dead = true })
 
--- a call that looks a key up in the index, or scans it, and so uses the medium
+-- a call that names a table, as it does not find one where there are none: it looks a key up in the index, or scans it, and so uses the medium
 abbrev pub uses_index : TableCall → Bool
-uses_index Save = false
-uses_index (Back n) = false
-uses_index call = true
+uses_index call = not (has_table [] call)
 
 -- The locks come before all that the array answers, and a caller that holds a stripe of the call is named; memory may run out at any point.
 abbrev pub Asks : Limits → Granted → State → ℕ → TableCall → Reply → State → Type 0
@@ -61,9 +55,9 @@ abbrev pub Doubts : List ℕ → State → Reply → State → Type 0
 Doubts group old reply new = (0 < length (group_writes old group)) × (reply ≡ Media) × (index : Index)
     × (new ≡ record (without old group) { doubt = group_in old (length old.history + length group) group; index = index; is_dead = true })
 
--- what a call within a transaction needs before memory and locks are asked for: a save or a way back that its transaction lets be, or its table
+-- what a call within a transaction needs before memory and locks are asked for: that there are fewer than 32 saves, the save of a way back, or its table
 abbrev pub may_ask : State → ℕ → TableCall → Check Reply
-may_ask old caller Save = test (length (view_of old caller).saves < most_saves) SavesFull
+may_ask old caller Save = test (length (view_of old caller).saves < 32) SavesFull
 may_ask old caller (Back n) = test (IsTrue (has_save (view_of old caller).saves n)) (NoSave n)
 may_ask old caller call = test (IsTrue (has_table old.names call)) NoTable
 

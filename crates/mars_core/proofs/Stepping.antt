@@ -35,7 +35,7 @@ use Rattle.caller_steps.specs.State as state
 use Rattle.caller_steps.specs.State.{State, Index, unoffered, calls_of, commits_of, records_of, view_of}
 use Rattle.caller_steps.proofs.Able.{takes_within}
 use Rattle.caller_steps.specs.Room.{Limits, IsShown, IndexesAt, Indexes}
-use Rattle.caller_steps.specs.Step.{Asks, StepOf, most_saves}
+use Rattle.caller_steps.specs.Step.{Asks, StepOf}
 use Rattle.caller_steps.specs.Fate.{Moves, is_refusal, is_media, is_committed, committed_by, live_with}
 use Rattle.caller_steps.specs.Prefix.{HasPrefix, HasPrefixOf}
 use Rattle.caller_steps.specs.Core.{IsSafe, Steps}
@@ -115,7 +115,7 @@ step_of limits calls s new t call answer alive is un at =
 
 -- the caller sees the saves that its call needs
 abbrev pub SavesAt : State → ℕ → TableCall → Type 0
-SavesAt s t Save = length (view_of s t).saves < most_saves
+SavesAt s t Save = length (view_of s t).saves < 32
 SavesAt s t (Back n) = IsTrue (has_save (view_of s t).saves n)
 SavesAt s t _ = Unit {0}
 
