@@ -7,14 +7,14 @@ use Rattle.array_shape.specs.Places.{page_count}
 use Rattle.array_image.specs.Image.{data_of}
 use Rattle.array_image.proofs.Data.{length-data_of}
 use Rattle.eaw_device.specs.Made.{HasPages}
-use Rattle.record_slots.specs.Fresh.{fresh_page, fresh_super}
+use Rattle.record_slots.specs.Fresh.{fresh_page}
 use Rattle.record_slots.proofs.MainAlone.{says_main}
 use Rattle.page_store.specs.Pairs.{Pair}
 use Rattle.history.specs.Key.{main_name}
 use Rattle.record_slots.specs.Names.{names_in}
 use Rattle.record_table.specs.Names.{names_of}
 use Rattle.record_slots.specs.Places.{page_bytes, next_page, tables_of, IsSuper}
-use Rattle.record_slots.specs.Super.{SaysSuper, HasTables, main_table, tables_in, tables_said}
+use Rattle.record_slots.specs.Super.{SaysSuper, HasTables, main_super, main_table, tables_in, tables_said}
 use Rattle.record_slots.specs.declared.super_page.TableEntry.{TableEntry}
 use Rattle.record_table.specs.Shown.{KeyPair, in_table, pairs_from, pairs_of, table_of, table_in}
 use Rattle.index_pages.specs.Page.{kind_said, level_said, count_said, link_said}
@@ -23,7 +23,7 @@ use Rattle.btree_pages.specs.Index.{tree}
 use Rattle.btree_pages.proofs.Fresh.{HasNoneFree, fresh_trees}
 
 -- what the first two pages say
-front_fresh : SaysSuper (fresh_page 0) fresh_super
+front_fresh : SaysSuper (fresh_page 0) (main_super 1 0 2)
 front_fresh = says_main 1 0 2 (omega arith) (omega arith)
 
 root_fresh : (kind_said (fresh_page 1) ≡ 1) × (level_said (fresh_page 1) ≡ 0) × (link_said (fresh_page 1) ≡ 0) × (count_said (fresh_page 1) ≡ 0)
@@ -39,8 +39,8 @@ module _ (shape : Shape) (bytes : List ℕ) (pages : HasPages shape fresh_page (
   unfolding page_bytes
   has_page p less = pages p (omega (arith, some_pages shape))
 
-  first : SaysSuper (page_bytes (data_of shape bytes) 0) fresh_super
-  first = subst (λ (page : List ℕ). SaysSuper page fresh_super) (sym (has_page 0 (omega arith))) front_fresh
+  first : SaysSuper (page_bytes (data_of shape bytes) 0) (main_super 1 0 2)
+  first = subst (λ (page : List ℕ). SaysSuper page (main_super 1 0 2)) (sym (has_page 0 (omega arith))) front_fresh
 
   alone : tables_of (data_of shape bytes) ≡ main_table ∷ []
   unfolding tables_said

@@ -1,19 +1,19 @@
 -- The names of used entries, and a last entry that is added.
-use Rattle.std.proofs.Common.{◌≡◌, ◌≢◌, ◌^◌, ℕ, zero, suc, ◌+◌, ◌-◌, ◌*◌, ◌<◌, ◌≤◌, ◌⊎◌, true, ◌&&◌, inl, inr, List, [], ◌∷◌, ◌++◌, length, take, drop, replicate, Option, Some, None, refl, sym, ◌∙◌, ap, subst, append_assoc, arith}
+use Rattle.std.proofs.Common.{◌≡◌, ◌≢◌, ◌^◌, ℕ, zero, suc, ◌+◌, ◌-◌, ◌*◌, ◌<◌, ◌≤◌, ◌⊎◌, true, false, ◌&&◌, inl, inr, List, [], ◌∷◌, ◌++◌, length, take, drop, replicate, Option, Some, None, refl, sym, ◌∙◌, ap, subst, append_assoc, arith}
 use Rattle.std.specs.Prelude.{slice_index, slice_get}
 use Rattle.std.specs.Option.{option_map}
-use Rattle.std.proofs.lemmas.Bool.{cases_eq, eqb-true, ne_eqb, and_parts, and_from, leb-true, le-leb}
+use Rattle.std.proofs.lemmas.Bool.{cases_eq, false≢true, ne_eqb, and_parts, and_from, leb-true, le-leb}
 use Rattle.std.proofs.lemmas.List.{drop-drop, drop-replicate, get_or_append_left, take_at, drop_at, take-append-le, take-append-drop, length-take-le, length-drop, length-append, length-replicate}
 use Rattle.byteorder.specs.Endian.{little_from, little_bytes}
 use Rattle.byteorder.specs.Numbers.{little_from-take, little_number-reads_back, length-bytes_low_first}
 use Rattle.mars_base.specs.Bytes.{put}
 use Rattle.record_slots.specs.Names.{names_in, with_last}
-use Rattle.record_slots.specs.Super.{AreTables, IsMain, IsApart, entry_said, entry_bytes, name_said, is_name, used_entries, tables_used, are_free, are_entries, are_named}
+use Rattle.record_slots.specs.Super.{AreTables, IsMain, IsApart, entry_said, entry_bytes, name_said, is_name, used_entries, tables_used, are_entries, are_named}
 use Rattle.record_slots.specs.Text.{IsName}
 use Rattle.record_slots.specs.declared.super_page.TableEntry.{TableEntry}
 use Rattle.record_slots.proofs.Front.{number_put}
 use Rattle.record_slots.proofs.SlotLemmas.{little_shift}
-use Rattle.record_slots.proofs.Used.{from, used_free, used_more, left_free, left_named, named_at, short_name, tables_used_at, beyond_used}
+use Rattle.record_slots.proofs.Used.{from, used_free, used_more, left_free, left_gap, left_named, named_at, short_name, tables_used_at, beyond_used}
 
 -- a name that passes the test, and the test of a name
 pub name_is : (text : List ℕ) → is_name text ≡ true → IsName text
@@ -72,13 +72,19 @@ first_of : (xs rest : List ℕ) → length xs ≡ 32 → slice_index (xs ++ rest
 first_of xs rest long = get_or_append_left xs rest 0 0 (omega (arith, long))
 
 -- entries that are all free
-free_none : (n : ℕ) (es : List ℕ) → are_free n es ≡ true → used_entries n es ≡ []
+free_none : (n : ℕ) (es : List ℕ) → are_entries false n es ≡ true → used_entries n es ≡ []
 free_none zero es are = refl
-free_none (suc n) es are = used_free (suc n) es (eqb-true (slice_index es 0) 0 (and_parts _ _ are).0)
+free_none (suc n) es are = elim (cases_eq (slice_index es 0) 0) [
+  | inl free ↦ used_free (suc n) es free
+  | inr ne ↦ absurd (false≢true (sym (left_gap n es ne) ∙ are))
+]
 
-free_entries : (n : ℕ) (es : List ℕ) → are_free n es ≡ true → are_entries n es ≡ true
+free_entries : (n : ℕ) (es : List ℕ) → are_entries false n es ≡ true → are_entries true n es ≡ true
 free_entries zero es are = refl
-free_entries (suc n) es are = left_free true n es (eqb-true (slice_index es 0) 0 (and_parts _ _ are).0) ∙ (and_parts _ _ are).1
+free_entries (suc n) es are = elim (cases_eq (slice_index es 0) 0) [
+  | inl free ↦ left_free true n es free ∙ sym (left_free false n es free) ∙ are
+  | inr ne ↦ absurd (false≢true (sym (left_gap n es ne) ∙ are))
+]
 
 -- the entry of a table, written where it is due
 module _ (t : TableEntry) (name : IsName t.name) (small : t.root < 2 ^ 32) where
@@ -135,17 +141,17 @@ module _ (t : TableEntry) (name : IsName t.name) (small : t.root < 2 ^ 32) where
 
   pub record IsAdded (n : ℕ) (es fs : List ℕ) : Type 0 where
     pub used : used_entries n fs ≡ used_entries n es ++ t ∷ []
-    pub named : are_entries n fs ≡ true
+    pub named : are_entries true n fs ≡ true
 
   -- at the first free entry
-  at_free : (n : ℕ) (es : List ℕ) → slice_index es 0 ≡ 0 → are_entries (suc n) es ≡ true → IsAdded (suc n) es (b ++ drop 32 es)
+  at_free : (n : ℕ) (es : List ℕ) → slice_index es 0 ≡ 0 → are_entries true (suc n) es ≡ true → IsAdded (suc n) es (b ++ drop 32 es)
   at_free n es free are =
-      let rest_free : are_free n (drop 32 es) ≡ true = sym (left_free true n es free) ∙ are in
+      let rest_free : are_entries false n (drop 32 es) ≡ true = sym (left_free true n es free) ∙ are in
       let behind : drop 32 (b ++ drop 32 es) ≡ drop 32 es = drop_at b (drop 32 es) 32 long_entry in
       record {
         used = used_more n (b ++ drop 32 es) (entry_some (drop 32 es)) ∙ (λ i. entry_is (drop 32 es) i ∷ used_entries n (behind i)) ∙ ap (λ (l : List TableEntry). t ∷ l) (free_none n (drop 32 es) rest_free)
             ∙ ap (λ (l : List TableEntry). l ++ t ∷ []) (sym (used_free (suc n) es free));
-        named = left_named n (b ++ drop 32 es) (entry_some (drop 32 es)) (entry_named (drop 32 es)) ∙ ap (are_entries n) behind ∙ free_entries n (drop 32 es) rest_free;
+        named = left_named n (b ++ drop 32 es) (entry_some (drop 32 es)) (entry_named (drop 32 es)) ∙ ap (are_entries true n) behind ∙ free_entries n (drop 32 es) rest_free;
       }
 
   -- behind a used one
@@ -156,17 +162,17 @@ module _ (t : TableEntry) (name : IsName t.name) (small : t.root < 2 ^ 32) where
       record {
         used = used_more n (xs ++ more) some ∙ (λ i. same i ∷ used_entries n (drop_at xs more 32 long i)) ∙ ap (λ (l : List TableEntry). entry_said (xs ++ rest) ∷ l) added.used
             ∙ ap (λ (l : List TableEntry). l ++ t ∷ []) (sym (used_more n (xs ++ rest) ne ∙ ap (λ (l : List ℕ). entry_said (xs ++ rest) ∷ used_entries n l) (drop_at xs rest 32 long)));
-        named = left_named n (xs ++ more) some (ap (λ (e : TableEntry). is_name e.name) same ∙ named) ∙ ap (are_entries n) (drop_at xs more 32 long) ∙ added.named;
+        named = left_named n (xs ++ more) some (ap (λ (e : TableEntry). is_name e.name) same ∙ named) ∙ ap (are_entries true n) (drop_at xs more 32 long) ∙ added.named;
       }
 
-  added_at : (n j : ℕ) (es : List ℕ) → length es ≡ 32 * n → are_entries n es ≡ true → j ≡ length (used_entries n es) → j < n → IsAdded n es (put es (32 * j) b)
+  added_at : (n j : ℕ) (es : List ℕ) → length es ≡ 32 * n → are_entries true n es ≡ true → j ≡ length (used_entries n es) → j < n → IsAdded n es (put es (32 * j) b)
   added_at zero j es long are is lt = absurd (omega (arith, lt))
   added_at (suc n) j es long are is lt = elim (cases_eq (slice_index es 0) 0) [
     | inl free ↦
         let first : 32 * j ≡ 0 = omega (arith, is, ap (λ (l : List TableEntry). length l) (used_free (suc n) es free)) in
         subst (IsAdded (suc n) es) (sym (ap (λ (k : ℕ). put es k b) first ∙ ap (λ (k : ℕ). b ++ drop k es) (let e : 0 + length b ≡ 32 = omega (arith, long_entry) in e))) (at_free n es free are)
     | inr ne ↦
-        let both : (is_name (name_said es) && are_entries n (drop 32 es)) ≡ true = sym (rw (ne_eqb (slice_index es 0) 0 ne) refl) ∙ are in
+        let both : (is_name (name_said es) && are_entries true n (drop 32 es)) ≡ true = sym (rw (ne_eqb (slice_index es 0) 0 ne) refl) ∙ are in
         let count : length (used_entries (suc n) es) ≡ suc (length (used_entries n (drop 32 es))) = ap (λ (l : List TableEntry). length l) (used_more n es ne) in
         let long-xs : length (take 32 es) ≡ 32 = length-take-le 32 es (omega (arith, long)) in
         let whole : take 32 es ++ drop 32 es ≡ es = take-append-drop 32 es in

@@ -1,14 +1,15 @@
 -- What bytes say, and that a slot's own bytes say it.
-use Rattle.std.proofs.Common.{◌≡◌, ℕ, zero, suc, ◌+◌, ◌-◌, ◌*◌, ◌/◌, ◌%◌, ◌^◌, ◌<◌, ◌≤◌, inl, inr, true, List, [], ◌∷◌, ◌++◌, length, take, drop, replicate, Option, Some, None, refl, sym, ◌∙◌, ap, subst, arith}
-use Rattle.std.specs.Prelude.{slice_index}
-use Rattle.std.specs.Option.{SomeIff}
+use Rattle.std.proofs.Common.{◌≡◌, ℕ, zero, suc, ◌+◌, ◌-◌, ◌*◌, ◌/◌, ◌%◌, ◌^◌, ◌<◌, ◌≤◌, inl, inr, Bool, true, List, [], ◌∷◌, ◌++◌, length, take, drop, replicate, Option, Some, None, refl, sym, ◌∙◌, ap, subst, arith}
+use Rattle.std.specs.Prelude.{slice_index, nat_le, ◌&&◌}
+use Rattle.std.specs.List.{list_all}
+use Rattle.std.specs.Option.{SomeIff, option_map}
 use Rattle.std.proofs.lemmas.Bool.{and_parts, and_from, cases_eq, leb-true, le-leb, lt-leb, ne_eqb, false_from_ne_true}
 use Rattle.std.proofs.lemmas.List.{get_or-drop, length-drop, length-take-le, length-append, append-nil, take_at, drop_at, length-replicate, drop-replicate}
 use Rattle.byteorder.specs.Endian.{little_from, little_bytes}
 use Rattle.byteorder.specs.Numbers.{little_from-take, little_from-cons, little_number-reads_back, length-bytes_low_first}
-use Rattle.record_slots.specs.Text.{IsValue}
+use Rattle.record_slots.specs.Text.{IsValue, is_visible}
 use Rattle.record_slots.specs.Free.{free_said}
-use Rattle.record_slots.specs.Slots.{key_said, text_said, is_value_said, value_said, present, state_said, slot_said, slot_bytes, IsSlot}
+use Rattle.record_slots.specs.Slots.{text_said, value_said, state_said, slot_said, slot_bytes, IsSlot}
 use Rattle.record_slots.specs.declared.free.Free.{Free}
 use Rattle.record_slots.specs.declared.slot.Slot.{Slot}
 use Rattle.record_slots.specs.declared.slot.Slot.TheVariants.{Absent, Present}
@@ -22,9 +23,12 @@ little_shift i k (suc n) xs =
     cc
 
 -- the number that is read behind the first two bytes is the key
-pub key_read : (bytes : List ℕ) → little_from 0 8 (take 62 (drop 2 bytes)) ≡ key_said bytes
-unfolding key_said
+pub key_read : (bytes : List ℕ) → little_from 0 8 (take 62 (drop 2 bytes)) ≡ little_from 2 8 bytes
 key_read bytes = little_from-take 0 8 62 (drop 2 bytes) (omega arith) ∙ little_shift 0 2 8 bytes
+
+-- the test on the length and on the text
+abbrev pub is_value_said : List ℕ → Bool
+is_value_said bytes = nat_le 1 (slice_index bytes 1) && (nat_le (slice_index bytes 1) 54 && list_all is_visible (text_said bytes))
 
 pub some_said : (bytes : List ℕ) → is_value_said bytes ≡ true → value_said bytes ≡ Some (text_said bytes)
 unfolding value_said
@@ -72,11 +76,11 @@ value_said-of bytes text None long fits there refused = sym (value_said-none byt
 value_said-of bytes text (Some value) long fits there is = ap Some (is.1 ∙ there) ∙ sym (value_said-some bytes long fits (subst IsValue there is.0))
 
 -- the three kinds of state byte
-pub slot_said-absent : (bytes : List ℕ) → state_said bytes < 16 → state_said bytes % 2 ≡ 0 → slot_said bytes ≡ Some (Absent (state_said bytes / 2) (key_said bytes))
+pub slot_said-absent : (bytes : List ℕ) → state_said bytes < 16 → state_said bytes % 2 ≡ 0 → slot_said bytes ≡ Some (Absent (state_said bytes / 2) (little_from 2 8 bytes))
 unfolding slot_said
 slot_said-absent bytes small even = rw (lt-leb 16 (state_said bytes) small, even) refl
 
-pub slot_said-present : (bytes : List ℕ) → state_said bytes < 16 → (state_said bytes % 2 ≡ 0 → ⊥) → slot_said bytes ≡ present (state_said bytes / 2) (key_said bytes) (value_said bytes)
+pub slot_said-present : (bytes : List ℕ) → state_said bytes < 16 → (state_said bytes % 2 ≡ 0 → ⊥) → slot_said bytes ≡ option_map (Present (state_said bytes / 2) (little_from 2 8 bytes)) (value_said bytes)
 unfolding slot_said
 slot_said-present bytes small odd = rw (lt-leb 16 (state_said bytes) small, ne_eqb (state_said bytes % 2) 0 odd) refl
 
@@ -110,8 +114,7 @@ free_says_none bytes free is =
     ]
 
 -- the key behind the first two bytes
-key_behind : (a b key : ℕ) (rest : List ℕ) → key < 2 ^ 64 → key_said (a ∷ b ∷ (little_bytes 8 key ++ rest)) ≡ key
-unfolding key_said
+key_behind : (a b key : ℕ) (rest : List ℕ) → key < 2 ^ 64 → little_from 2 8 (a ∷ b ∷ (little_bytes 8 key ++ rest)) ≡ key
 key_behind a b key rest fits =
     little_from-cons 1 8 a (b ∷ (little_bytes 8 key ++ rest)) ∙ little_from-cons 0 8 b (little_bytes 8 key ++ rest) ∙ little_number-reads_back 8 key rest fits
 
@@ -153,7 +156,7 @@ slot_said-slot_bytes (Present table key value) fits =
     let bytes = with_value (2 * table + 1) key value in
     let half : state_said bytes / 2 ≡ table = (odd_state table).1 in
     slot_said-present bytes (omega (arith, fits.0)) (λ (even : state_said bytes % 2 ≡ 0). omega (arith, even, (odd_state table).0))
-    ∙ (λ i. present (half i) (key_behind (2 * table + 1) (length value) key (value ++ replicate (54 - length value) 0) fits.1 i) (value_behind (2 * table + 1) key value fits.2 i))
+    ∙ (λ i. option_map (Present (half i) (key_behind (2 * table + 1) (length value) key (value ++ replicate (54 - length value) 0) fits.1 i)) (value_behind (2 * table + 1) key value fits.2 i))
 
 -- there are 64 of them
 pub length-slot_bytes : (slot : Slot) → IsSlot slot → length (slot_bytes slot) ≡ 64

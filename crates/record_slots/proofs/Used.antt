@@ -4,7 +4,7 @@ use Rattle.byteorder.specs.Endian.{little_from}
 use Rattle.std.specs.Prelude.{codes, slice_index, slice_get}
 use Rattle.std.proofs.lemmas.Bool.{cases_eq, eq-eqb, ne_eqb, and_parts, leb-true}
 use Rattle.std.proofs.lemmas.List.{drop-drop, get_or-drop, length-take, length-drop}
-use Rattle.record_slots.specs.Super.{IsApart, IsMain, entry_said, name_said, is_name, used_entries, tables_used, tables_in, are_free, are_entries, are_named}
+use Rattle.record_slots.specs.Super.{IsApart, IsMain, entry_said, name_said, is_name, used_entries, tables_used, tables_in, are_entries, are_named}
 use Rattle.record_slots.specs.declared.super_page.TableEntry.{TableEntry}
 
 -- the entries from entry j on
@@ -26,26 +26,20 @@ pub used_more : (n : ℕ) (es : List ℕ) → slice_index es 0 ≢ 0 → used_en
 used_more n es ne = rw (ne_eqb (slice_index es 0) 0 ne) refl
 
 -- what is left to be tested behind entries that were used up to here, or not
-abbrev pub are_left : Bool → ℕ → List ℕ → Bool
-are_left true n es = are_entries n es
-are_left false n es = are_free n es
+pub left_free : (used : Bool) (n : ℕ) (es : List ℕ) → slice_index es 0 ≡ 0 → are_entries used (suc n) es ≡ are_entries false n (drop 32 es)
+left_free used n es e = rw (eq-eqb (slice_index es 0) 0 e) refl
 
-pub left_free : (used : Bool) (n : ℕ) (es : List ℕ) → slice_index es 0 ≡ 0 → are_left used (suc n) es ≡ are_left false n (drop 32 es)
-left_free true n es e = rw (eq-eqb (slice_index es 0) 0 e) refl
-left_free false n es e = rw (eq-eqb (slice_index es 0) 0 e) refl
-
-pub left_gap : (n : ℕ) (es : List ℕ) → slice_index es 0 ≢ 0 → are_left false (suc n) es ≡ false
+pub left_gap : (n : ℕ) (es : List ℕ) → slice_index es 0 ≢ 0 → are_entries false (suc n) es ≡ false
 left_gap n es ne = rw (ne_eqb (slice_index es 0) 0 ne) refl
 
-pub left_unnamed : (n : ℕ) (es : List ℕ) → slice_index es 0 ≢ 0 → is_name (name_said es) ≡ false → are_left true (suc n) es ≡ false
+pub left_unnamed : (n : ℕ) (es : List ℕ) → slice_index es 0 ≢ 0 → is_name (name_said es) ≡ false → are_entries true (suc n) es ≡ false
 left_unnamed n es ne bad = rw (ne_eqb (slice_index es 0) 0 ne, bad) refl
 
-pub left_named : (n : ℕ) (es : List ℕ) → slice_index es 0 ≢ 0 → is_name (name_said es) ≡ true → are_left true (suc n) es ≡ are_left true n (drop 32 es)
+pub left_named : (n : ℕ) (es : List ℕ) → slice_index es 0 ≢ 0 → is_name (name_said es) ≡ true → are_entries true (suc n) es ≡ are_entries true n (drop 32 es)
 left_named n es ne named = rw (ne_eqb (slice_index es 0) 0 ne, named) refl
 
-pub left_none : (used : Bool) (es : List ℕ) → are_left used 0 es ≡ true
-left_none true es = refl
-left_none false es = refl
+pub left_none : (used : Bool) (es : List ℕ) → are_entries used 0 es ≡ true
+left_none used es = refl
 
 -- a used entry, by its number
 pub record IsUsed (n j : ℕ) (es : List ℕ) : Type 0 where
@@ -76,17 +70,17 @@ used_at (suc n) j es lt =
         }
 
 -- and it has a name
-pub named_at : (n j : ℕ) (es : List ℕ) → are_entries n es ≡ true → j < length (used_entries n es) → is_name (name_said (from es j)) ≡ true
+pub named_at : (n j : ℕ) (es : List ℕ) → are_entries true n es ≡ true → j < length (used_entries n es) → is_name (name_said (from es j)) ≡ true
 named_at zero j es are lt = absurd (omega arith)
 named_at (suc n) j es are lt =
     elim (cases_eq (slice_index es 0) 0) [
       | inl free ↦ absurd (let e : length (used_entries (suc n) es) ≡ 0 = ap (λ (l : List TableEntry). length l) (used_free (suc n) es free) in omega arith)
-      | inr ne ↦ named_step n j es ne (let e : (is_name (name_said es) && are_entries n (drop 32 es)) ≡ true = (sym (rw (ne_eqb (slice_index es 0) 0 ne) refl)) ∙ are in e)
+      | inr ne ↦ named_step n j es ne (let e : (is_name (name_said es) && are_entries true n (drop 32 es)) ≡ true = (sym (rw (ne_eqb (slice_index es 0) 0 ne) refl)) ∙ are in e)
           (subst (λ (l : List TableEntry). j < length l) (used_more n es ne) lt) (named_at n)
     ]
   where
-    named_step : (n j : ℕ) (es : List ℕ) → slice_index es 0 ≢ 0 → (is_name (name_said es) && are_entries n (drop 32 es)) ≡ true → j < length (entry_said es ∷ used_entries n (drop 32 es))
-        → ((k : ℕ) (fs : List ℕ) → are_entries n fs ≡ true → k < length (used_entries n fs) → is_name (name_said (from fs k)) ≡ true) → is_name (name_said (from es j)) ≡ true
+    named_step : (n j : ℕ) (es : List ℕ) → slice_index es 0 ≢ 0 → (is_name (name_said es) && are_entries true n (drop 32 es)) ≡ true → j < length (entry_said es ∷ used_entries n (drop 32 es))
+        → ((k : ℕ) (fs : List ℕ) → are_entries true n fs ≡ true → k < length (used_entries n fs) → is_name (name_said (from fs k)) ≡ true) → is_name (name_said (from es j)) ≡ true
     named_step n zero es ne are lt ih = (and_parts _ _ are).0
     named_step n (suc j) es ne are lt ih =
         subst (λ (l : List ℕ). is_name (name_said l) ≡ true) (from_behind es j) (ih j (drop 32 es) (and_parts _ _ are).1 (omega arith))
@@ -132,9 +126,9 @@ used_whole n es e = ap (λ (m : ℕ). used_entries m es) e
 pub used_first : (es : List ℕ) (n : ℕ) → n ≡ 8 → length (tables_used es) ≡ 0 + length (used_entries n es)
 used_first es n e = omega (arith, ap (λ (l : List TableEntry). length l) (used_whole n es e))
 
-pub named_first : (es : List ℕ) (n : ℕ) → n ≡ 8 → are_named es ≡ are_left true n es
+pub named_first : (es : List ℕ) (n : ℕ) → n ≡ 8 → are_named es ≡ are_entries true n es
 unfolding are_named
-named_first es n e = ap (λ (m : ℕ). are_entries m es) (sym e)
+named_first es n e = ap (λ (m : ℕ). are_entries true m es) (sym e)
 
 pub used_all : (es : List ℕ) (j : ℕ) → j ≡ 8 → length (tables_used es) ≡ j + length (used_entries (8 - j) (from es j)) → 8 ≡ length (tables_used es)
 used_all es j e so_far =
@@ -142,30 +136,30 @@ used_all es j e so_far =
     omega (arith, so_far, none, e)
 
 -- one entry more that is tested
-pub left_on_free : (used : Bool) (es : List ℕ) (j : ℕ) (all : Bool) → j < 8 → slice_index es (32 * j) ≡ 0 → all ≡ are_left used (8 - j) (from es j) → all ≡ are_left false (8 - (j + 1)) (from es (j + 1))
+pub left_on_free : (used : Bool) (es : List ℕ) (j : ℕ) (all : Bool) → j < 8 → slice_index es (32 * j) ≡ 0 → all ≡ are_entries used (8 - j) (from es j) → all ≡ are_entries false (8 - (j + 1)) (from es (j + 1))
 left_on_free used es j all lt free is =
     let e : 8 - j ≡ suc (8 - (j + 1)) = omega arith in
-    is ∙ ap (λ (n : ℕ). are_left used n (from es j)) e ∙ left_free used (8 - (j + 1)) (from es j) (first_byte es j ∙ free) ∙ ap (λ (l : List ℕ). are_left false (8 - (j + 1)) l) (from_next es j)
+    is ∙ ap (λ (n : ℕ). are_entries used n (from es j)) e ∙ left_free used (8 - (j + 1)) (from es j) (first_byte es j ∙ free) ∙ ap (λ (l : List ℕ). are_entries false (8 - (j + 1)) l) (from_next es j)
 
-pub left_on_gap : (used : Bool) (es : List ℕ) (j : ℕ) (all : Bool) → used ≡ false → j < 8 → slice_index es (32 * j) ≢ 0 → all ≡ are_left used (8 - j) (from es j) → all ≡ false
+pub left_on_gap : (used : Bool) (es : List ℕ) (j : ℕ) (all : Bool) → used ≡ false → j < 8 → slice_index es (32 * j) ≢ 0 → all ≡ are_entries used (8 - j) (from es j) → all ≡ false
 left_on_gap used es j all gap lt ne is =
     let e : 8 - j ≡ suc (8 - (j + 1)) = omega arith in
-    is ∙ (λ i. are_left (gap i) (e i) (from es j)) ∙ left_gap (8 - (j + 1)) (from es j) (λ z. ne (sym (first_byte es j) ∙ z))
+    is ∙ (λ i. are_entries (gap i) (e i) (from es j)) ∙ left_gap (8 - (j + 1)) (from es j) (λ z. ne (sym (first_byte es j) ∙ z))
 
-pub left_on_unnamed : (used : Bool) (es : List ℕ) (j : ℕ) (all : Bool) → used ≡ true → j < 8 → slice_index es (32 * j) ≢ 0 → is_name (name_said (from es j)) ≡ false → all ≡ are_left used (8 - j) (from es j) → all ≡ false
+pub left_on_unnamed : (used : Bool) (es : List ℕ) (j : ℕ) (all : Bool) → used ≡ true → j < 8 → slice_index es (32 * j) ≢ 0 → is_name (name_said (from es j)) ≡ false → all ≡ are_entries used (8 - j) (from es j) → all ≡ false
 left_on_unnamed used es j all is_used lt ne bad is =
     let e : 8 - j ≡ suc (8 - (j + 1)) = omega arith in
-    is ∙ (λ i. are_left (is_used i) (e i) (from es j)) ∙ left_unnamed (8 - (j + 1)) (from es j) (λ z. ne (sym (first_byte es j) ∙ z)) bad
+    is ∙ (λ i. are_entries (is_used i) (e i) (from es j)) ∙ left_unnamed (8 - (j + 1)) (from es j) (λ z. ne (sym (first_byte es j) ∙ z)) bad
 
-pub left_on_named : (used : Bool) (es : List ℕ) (j : ℕ) (all : Bool) → used ≡ true → j < 8 → slice_index es (32 * j) ≢ 0 → is_name (name_said (from es j)) ≡ true → all ≡ are_left used (8 - j) (from es j)
-    → all ≡ are_left used (8 - (j + 1)) (from es (j + 1))
+pub left_on_named : (used : Bool) (es : List ℕ) (j : ℕ) (all : Bool) → used ≡ true → j < 8 → slice_index es (32 * j) ≢ 0 → is_name (name_said (from es j)) ≡ true → all ≡ are_entries used (8 - j) (from es j)
+    → all ≡ are_entries used (8 - (j + 1)) (from es (j + 1))
 left_on_named used es j all is_used lt ne named is =
     let e : 8 - j ≡ suc (8 - (j + 1)) = omega arith in
-    is ∙ (λ i. are_left (is_used i) (e i) (from es j)) ∙ left_named (8 - (j + 1)) (from es j) (λ z. ne (sym (first_byte es j) ∙ z)) named
-    ∙ (λ i. are_left (sym is_used i) (8 - (j + 1)) (from_next es j i))
+    is ∙ (λ i. are_entries (is_used i) (e i) (from es j)) ∙ left_named (8 - (j + 1)) (from es j) (λ z. ne (sym (first_byte es j) ∙ z)) named
+    ∙ (λ i. are_entries (sym is_used i) (8 - (j + 1)) (from_next es j i))
 
-pub left_at_end : (used : Bool) (es : List ℕ) (n : ℕ) (all : Bool) → n ≡ 0 → all ≡ are_left used n es → true ≡ all
-left_at_end used es n all e is = sym (is ∙ ap (λ (m : ℕ). are_left used m es) e ∙ left_none used es)
+pub left_at_end : (used : Bool) (es : List ℕ) (n : ℕ) (all : Bool) → n ≡ 0 → all ≡ are_entries used n es → true ≡ all
+left_at_end used es n all e is = sym (is ∙ ap (λ (m : ℕ). are_entries used m es) e ∙ left_none used es)
 
 some_is : {X : Type 0} {x y : X} → Some x ≡ Some y → x ≡ y
 some_is e = cc

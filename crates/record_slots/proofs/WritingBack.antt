@@ -1,16 +1,17 @@
 -- Bytes that say a slot are those with which it is written, if all that says nothing in them is zero.
 use Rattle.std.proofs.Common.{◌≡◌, ℕ, zero, suc, ◌+◌, ◌-◌, ◌*◌, ◌/◌, ◌%◌, ◌^◌, ◌<◌, ◌≤◌, true, List, ◌∷◌, ◌++◌, length, get_or, take, drop, replicate, Some, None, inl, inr, refl, sym, ◌∙◌, ap, subst, zero-add, arith}
 use Rattle.std.specs.Prelude.{slice_index}
+use Rattle.std.specs.Option.{option_map}
 use Rattle.std.specs.Int.{byte_at, bytes_low_first}
 use Rattle.std.proofs.Math.Nat.{add-mul-div_left, add-mul-mod_self_left, div-div-eq-div-mul, div-eq_of_lt, div-one, mod-eq_of_lt, pow-succ'}
 use Rattle.std.proofs.Math.Seq.{drop-cons}
 use Rattle.std.proofs.lemmas.Bool.{cases_eq, cases_lt, cases_Bool, false≢true}
 use Rattle.std.proofs.lemmas.List.{drop-drop, take-append-drop}
 use Rattle.byteorder.specs.Endian.{little_from, little_bytes}
-use Rattle.record_slots.specs.Slots.{key_said, text_said, is_value_said, present, state_said, slot_said, slot_bytes, IsPlain}
+use Rattle.record_slots.specs.Slots.{text_said, state_said, slot_said, slot_bytes, IsPlain}
 use Rattle.record_slots.specs.declared.slot.Slot.{Slot}
 use Rattle.record_slots.specs.declared.slot.Slot.TheVariants.{Absent, Present}
-use Rattle.record_slots.proofs.SlotLemmas.{some_said, none_said, short_said, length-text_said, slot_said-absent, slot_said-present, slot_said-other}
+use Rattle.record_slots.proofs.SlotLemmas.{is_value_said, some_said, none_said, short_said, length-text_said, slot_said-absent, slot_said-present, slot_said-other}
 
 byte_at-pow : (i x : ℕ) → byte_at i x ≡ x / 256 ^ i % 256
 byte_at-pow zero x = ap (λ (y : ℕ). y % 256) (sym (div-one x))
@@ -42,8 +43,7 @@ bytes-little_from i (suc n) xs long small =
     (λ j. first j ∷ others j) ∙ ap (take (suc n)) (sym split)
 
 -- state, length and key, and the rest
-front : (bytes : List ℕ) → IsPlain bytes → slice_index bytes 0 ∷ slice_index bytes 1 ∷ (little_bytes 8 (key_said bytes) ++ drop 10 bytes) ≡ bytes
-unfolding key_said
+front : (bytes : List ℕ) → IsPlain bytes → slice_index bytes 0 ∷ slice_index bytes 1 ∷ (little_bytes 8 (little_from 2 8 bytes) ++ drop 10 bytes) ≡ bytes
 front bytes plain =
     let long = plain.size in
     let key = bytes-little_from 2 8 bytes (omega arith) plain.fits in
@@ -59,15 +59,15 @@ halves n even = omega arith
 odd_halves : (n : ℕ) → (n % 2 ≡ 0 → ⊥) → 2 * (n / 2) + 1 ≡ n
 odd_halves n odd = elim (cases_eq (n % 2) 0) [ inl even ↦ absurd (odd even) | inr other ↦ omega arith ]
 
-absent_back : (bytes : List ℕ) → IsPlain bytes → state_said bytes % 2 ≡ 0 → slot_bytes (Absent (state_said bytes / 2) (key_said bytes)) ≡ bytes
+absent_back : (bytes : List ℕ) → IsPlain bytes → state_said bytes % 2 ≡ 0 → slot_bytes (Absent (state_said bytes / 2) (little_from 2 8 bytes)) ≡ bytes
 unfolding slot_bytes
 absent_back bytes plain even =
     let none = plain.absent even in
     let state = halves (state_said bytes) even in
     let room : drop 10 bytes ≡ replicate 54 0 = subst (λ (n : ℕ). drop (10 + n) bytes ≡ replicate (54 - n) 0) none plain.padded in
-    (λ j. state j ∷ sym none j ∷ (little_bytes 8 (key_said bytes) ++ sym room j)) ∙ front bytes plain
+    (λ j. state j ∷ sym none j ∷ (little_bytes 8 (little_from 2 8 bytes) ++ sym room j)) ∙ front bytes plain
 
-present_back : (bytes : List ℕ) → IsPlain bytes → (state_said bytes % 2 ≡ 0 → ⊥) → is_value_said bytes ≡ true → slot_bytes (Present (state_said bytes / 2) (key_said bytes) (text_said bytes)) ≡ bytes
+present_back : (bytes : List ℕ) → IsPlain bytes → (state_said bytes % 2 ≡ 0 → ⊥) → is_value_said bytes ≡ true → slot_bytes (Present (state_said bytes / 2) (little_from 2 8 bytes) (text_said bytes)) ≡ bytes
 unfolding slot_bytes
 present_back bytes plain odd value =
     let n = slice_index bytes 1 in
@@ -75,7 +75,7 @@ present_back bytes plain odd value =
     let len = length-text_said bytes plain.size (short_said bytes value) in
     let behind : replicate (54 - length (text_said bytes)) 0 ≡ drop n (drop 10 bytes) = ap (λ (m : ℕ). replicate (54 - m) 0) len ∙ sym plain.padded ∙ sym (drop-drop n 10 bytes) in
     let room : text_said bytes ++ replicate (54 - length (text_said bytes)) 0 ≡ drop 10 bytes = ap (λ (l : List ℕ). text_said bytes ++ l) behind ∙ take-append-drop n (drop 10 bytes) in
-    (λ j. state j ∷ len j ∷ (little_bytes 8 (key_said bytes) ++ room j)) ∙ front bytes plain
+    (λ j. state j ∷ len j ∷ (little_bytes 8 (little_from 2 8 bytes) ++ room j)) ∙ front bytes plain
 
 some_is : {X : Type 0} {x y : X} → Some x ≡ Some y → x ≡ y
 some_is e = cc
@@ -87,8 +87,8 @@ slot_bytes-slot_said bytes slot plain says =
       | inl small ↦ elim (cases_eq (state_said bytes % 2) 0) [
         | inl even ↦ ap slot_bytes (some_is (sym says ∙ slot_said-absent bytes small even)) ∙ absent_back bytes plain even
         | inr odd ↦ elim (cases_Bool (is_value_said bytes)) [
-          | inl value ↦ ap slot_bytes (some_is (sym says ∙ slot_said-present bytes small odd ∙ ap (present (state_said bytes / 2) (key_said bytes)) (some_said bytes value))) ∙ present_back bytes plain odd value
-          | inr broken ↦ absurd (let h : Some slot ≡ None = sym says ∙ slot_said-present bytes small odd ∙ ap (present (state_said bytes / 2) (key_said bytes)) (none_said bytes (λ e. false≢true (sym broken ∙ e))) in cc)
+          | inl value ↦ ap slot_bytes (some_is (sym says ∙ slot_said-present bytes small odd ∙ ap (option_map (Present (state_said bytes / 2) (little_from 2 8 bytes))) (some_said bytes value))) ∙ present_back bytes plain odd value
+          | inr broken ↦ absurd (let h : Some slot ≡ None = sym says ∙ slot_said-present bytes small odd ∙ ap (option_map (Present (state_said bytes / 2) (little_from 2 8 bytes))) (none_said bytes (λ e. false≢true (sym broken ∙ e))) in cc)
         ]
       ]
     ]

@@ -1,5 +1,6 @@
 -- Slots and pages that were given back: each says the one that follows it in their list, and its rank.
 use Rattle.std.specs.Prelude.{ℕ, zero, suc, ◌+◌, ◌-◌, nat_eq, if◌then◌else◌, List, ◌∷◌, ◌++◌, replicate, Option, Some, None, slice_index}
+use Rattle.std.specs.Option.{option_map, unwrap_or}
 use Rattle.byteorder.specs.Endian.{little_from, little_bytes}
 use Rattle.record_slots.specs.declared.free.Free.{Free}
 
@@ -17,8 +18,7 @@ free_page_bytes free = 0xFF ∷ 0 ∷ 0 ∷ 0 ∷ (little_bytes 4 free.next ++ (
 
 -- the one that follows, by its number plus 1; 0 for none
 abbrev pub next_of : Option Free → ℕ
-next_of None = 0
-next_of (Some free) = free.next
+next_of said = unwrap_or (option_map (λ free. free.next) said) 0
 
 -- member n of a list, counted from 0, whose first one is named by its number plus 1; it is named so too
 abbrev pub member_at : (ℕ → Option Free) → ℕ → ℕ → ℕ

@@ -14,16 +14,17 @@ use Rattle.record_slots.specs.declared.slot.Slot.TheVariants.{Absent, Present}
 unfoldable pub page_bytes : List ℕ → ℕ → List ℕ
 page_bytes bytes page = range bytes (512 * page) 512
 
--- how many pages and how many slots there are: each page of the upper half has eight slots
+-- how many pages there are
 abbrev pub page_count : List ℕ → ℕ
 page_count bytes = length bytes / 512
 
+-- how many slots there are: each page of the upper half has eight
 abbrev pub slot_count : List ℕ → ℕ
-slot_count bytes = 4 * page_count bytes
+slot_count bytes = 4 * (length bytes / 512)
 
 -- the first page of slots, which follows all index pages
 abbrev pub first_slot_page : List ℕ → ℕ
-first_slot_page bytes = page_count bytes / 2
+first_slot_page bytes = length bytes / 512 / 2
 
 -- the address of a slot, its page, and its bytes
 abbrev pub slot_at : List ℕ → ℕ → ℕ

@@ -1,42 +1,32 @@
 -- What the 64 bytes of a slot say, and the bytes with which a slot is written.
-use Rattle.std.specs.Prelude.{ℕ, ◌≡◌, ◌+◌, ◌-◌, ◌*◌, ◌/◌, ◌%◌, ◌^◌, ◌<◌, Bool, nat_eq, nat_le, ◌&&◌, if◌then◌else◌, List, ◌∷◌, ◌++◌, length, take, drop, replicate, slice_index, Option, Some, None}
+use Rattle.std.specs.Prelude.{ℕ, ◌≡◌, ◌+◌, ◌-◌, ◌*◌, ◌/◌, ◌%◌, ◌^◌, ◌<◌, nat_eq, nat_le, ◌&&◌, if◌then◌else◌, List, ◌∷◌, ◌++◌, length, take, drop, replicate, slice_index, Option, Some, None}
 use Rattle.std.specs.List.{list_all}
+use Rattle.std.specs.Option.{option_map}
 use Rattle.byteorder.specs.Endian.{little_from, little_bytes}
 use Rattle.record_slots.specs.Text.{is_visible, IsValue}
 use Rattle.record_slots.specs.declared.slot.Slot.{Slot}
 use Rattle.record_slots.specs.declared.slot.Slot.TheVariants.{Absent, Present}
 
--- the key in bytes 2 to 9
-unfoldable pub key_said : List ℕ → ℕ
-key_said bytes = little_from 2 8 bytes
-
 -- the text from byte 10 on, as long as byte 1 says
 abbrev pub text_said : List ℕ → List ℕ
 text_said bytes = take (slice_index bytes 1) (drop 10 bytes)
 
--- byte 1 is the length of a value, and that many visible bytes stand from byte 10 on
-abbrev pub is_value_said : List ℕ → Bool
-is_value_said bytes = nat_le 1 (slice_index bytes 1) && (nat_le (slice_index bytes 1) 54 && list_all is_visible (text_said bytes))
-
--- the value, if there is one
+-- the value, if byte 1 is the length of one, and that many visible bytes stand from byte 10 on
 unfoldable pub value_said : List ℕ → Option (List ℕ)
-value_said bytes = if is_value_said bytes then Some (text_said bytes) else None
+value_said bytes =
+    if nat_le 1 (slice_index bytes 1) && (nat_le (slice_index bytes 1) 54 && list_all is_visible (text_said bytes)) then Some (text_said bytes) else None
 
--- a present slot of a table with its value, if there is one
-abbrev pub present : ℕ → ℕ → Option (List ℕ) → Option Slot
-present table key None = None
-present table key (Some value) = Some (Present table key value)
-
--- The state in byte 0 is that of table j: 2 * j is absent, 2 * j + 1 is present if the bytes say a value. There are eight tables; all else
--- says no slot.
-abbrev pub state_said : List ℕ → ℕ
-state_said bytes = slice_index bytes 0
-
+-- The state in byte 0 is that of table j: 2 * j is absent, 2 * j + 1 is present if the bytes say a value. The key is in bytes 2 to 9. There
+-- are eight tables; all else says no slot.
 unfoldable pub slot_said : List ℕ → Option Slot
 slot_said bytes =
-    if nat_le 16 (state_said bytes) then None
-    else if nat_eq (state_said bytes % 2) 0 then Some (Absent (state_said bytes / 2) (key_said bytes))
-    else present (state_said bytes / 2) (key_said bytes) (value_said bytes)
+    if nat_le 16 (slice_index bytes 0) then None
+    else if nat_eq (slice_index bytes 0 % 2) 0 then Some (Absent (slice_index bytes 0 / 2) (little_from 2 8 bytes))
+    else option_map (Present (slice_index bytes 0 / 2) (little_from 2 8 bytes)) (value_said bytes)
+
+-- the state
+abbrev pub state_said : List ℕ → ℕ
+state_said bytes = slice_index bytes 0
 
 -- state, length, key, value, zeros
 unfoldable pub slot_bytes : Slot → List ℕ

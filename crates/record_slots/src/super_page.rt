@@ -1,5 +1,5 @@
 ghost use Rattle.std.specs.Prelude.{◌≡◌, ◌≤◌, IfSome, IfNone};
-ghost use Rattle.record_slots.specs.Super.{HasSuperMark, SaysSuper, free_in, main_super, part_bytes, super_bytes};
+ghost use Rattle.record_slots.specs.Super.{HasSuperMark, SaysSuper, free_in, main_bytes, main_super, part_bytes, super_bytes};
 
 use crate::Name;
 use crate::entries::main_entries;
@@ -140,7 +140,7 @@ pub fn write_super_part(front: &Super, out: &mut [u8; PART_LEN])
 /// A super page of version 2 with this form and these counts, the table `main` alone, and nothing free.
 pub fn main_super(form: u8, next_slot: u32, next_page: u32) -> [u8; 512]
     ensures says { SaysSuper result (main_super form next_slot next_page) }
-    ensures bytes { result ≡ super_bytes (main_super form next_slot next_page) }
+    ensures bytes { result ≡ main_bytes form next_slot next_page }
 {
     let front = Super {
         version: VERSION,

@@ -7,7 +7,7 @@ use Rattle.mars_base.specs.Bytes.{range, put}
 use Rattle.mars_base.proofs.Puts.{length-put}
 use Rattle.pcm_media.proofs.Ranges.{range-put}
 use Rattle.record_slots.specs.Slots.{slot_said}
-use Rattle.record_slots.specs.Super.{SaysSuper, HasTables, AreTables, main_entries, main_super, main_table, are_named, tables_in, tables_used, tables_said, version_said, form_said, super_bytes, entries_said, free_in}
+use Rattle.record_slots.specs.Super.{SaysSuper, HasTables, AreTables, main_bytes, main_entries, main_super, main_table, are_named, tables_in, tables_used, tables_said, version_said, form_said, entries_said, free_in}
 use Rattle.record_slots.specs.Places.{page_bytes, slot_of, next_slot, next_page, tables_of, version_of, free_slot, free_page, free_slots, free_pages}
 use Rattle.record_slots.proofs.MainAlone.{says_main, length-main}
 use Rattle.record_slots.specs.declared.super_page.Super.{Super}
@@ -47,6 +47,10 @@ has_main pages = λ two. (main_named, subst (AreTables pages) (sym main_used) (a
 abbrev pub front_of : List ℕ → Super
 front_of d = main_super (form_said (page_bytes d 0)) (next_slot d) (next_page d)
 
+-- its bytes
+abbrev pub main_of : List ℕ → List ℕ
+main_of d = main_bytes (form_said (page_bytes d 0)) (next_slot d) (next_page d)
+
 -- records whose slots are as they were
 pub same_slots : (d e : List ℕ) → ((slot : ℕ) → slot_of e slot ≡ slot_of d slot) → (ps : List KeyPair) → table_in e ps ≡ table_in d ps
 same_slots d e same [] = refl
@@ -68,7 +72,7 @@ pub two_upgraded : (d : List ℕ) → version_of d ≡ 2 → upgraded d ≡ d
 unfolding upgraded
 two_upgraded d two = (let b : nat_eq (version_of d) 2 ≡ true = eq-eqb (version_of d) 2 two in rw b refl)
 
-pub older_upgraded : (d : List ℕ) → version_of d ≢ 2 → upgraded d ≡ put d 0 (super_bytes (front_of d))
+pub older_upgraded : (d : List ℕ) → version_of d ≢ 2 → upgraded d ≡ put d 0 (main_of d)
 unfolding upgraded
 older_upgraded d older = (let b : nat_eq (version_of d) 2 ≡ false = ne_eqb (version_of d) 2 older in rw b refl)
 
@@ -198,5 +202,5 @@ upgrade_keeps index laws d sound short = elim (cases_eq (version_of d) 2) [
   | inr older ↦
       let counts = laws.counts d sound in
       let front = says_main (form_said (page_bytes d 0)) (next_slot d) (next_page d) (omega (arith, counts.slots, short)) (omega (arith, counts.pages, short)) in
-      subst (Upgraded index d) (sym (older_upgraded d older)) (is_upgraded index laws d (super_bytes (front_of d)) sound (length-main (form_said (page_bytes d 0)) (next_slot d) (next_page d)) older front)
+      subst (Upgraded index d) (sym (older_upgraded d older)) (is_upgraded index laws d (main_of d) sound (length-main (form_said (page_bytes d 0)) (next_slot d) (next_page d)) older front)
 ]

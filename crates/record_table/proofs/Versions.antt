@@ -13,7 +13,7 @@ use Rattle.eaw_face.specs.State.{State, listed, count_on}
 use Rattle.eaw_face.specs.StoreView.{LeavesOnly}
 use Rattle.eaw_face.specs.Causes.{IsAlive, fit}
 use Rattle.record_slots.specs.Names.{names_in}
-use Rattle.record_slots.specs.Super.{SaysSuper, main_super, super_bytes}
+use Rattle.record_slots.specs.Super.{SaysSuper, main_bytes, main_super}
 use Rattle.record_slots.specs.Places.{page_bytes, version_of, tables_of}
 use Rattle.record_slots.specs.declared.super_page.Super.{Super}
 use Rattle.page_store.specs.Command as page
@@ -40,7 +40,7 @@ use Rattle.record_table.specs.declared.fault.TableFault.TheVariants as refusal
 use Rattle.record_table.proofs.Moving.{Moved, Failed, opens_with, moved_by_look, moved_so, failed_by_look, moved_then, failed_then, rests_moved}
 use Rattle.record_table.proofs.Sharing.{Laws, called_same}
 use Rattle.record_table.proofs.SlotParts.{parts_carry}
-use Rattle.record_table.proofs.Upgraded.{Upgraded, front_of, two_upgraded, older_upgraded, is_upgraded}
+use Rattle.record_table.proofs.Upgraded.{Upgraded, front_of, main_of, two_upgraded, older_upgraded, is_upgraded}
 use Rattle.eaw_face.proofs.Mirroring.{none_sent}
 
 -- a write of one page is one part, which any log has room for
@@ -203,7 +203,7 @@ module _ (tells : Bool) (Opens : List ℕ → List ℕ → Type 0) (index : Inde
   -- it is written
   module _ (laws : Laws index) (old mid new : PagesView) (bytes : List ℕ) (front : Super) (long : length bytes ≡ 512) (entries : 8 ≤ mid.store.shape.entries) (alive : IsAlive old.store) (holds : Holds tells index old)
       (looks : LooksAs tells Opens 0 false old mid) (says : IsTrue tells → SaysSuper (page_bytes old.store.state.bytes 0) front) (older : front.version ≢ 2)
-      (written : SaysSuper bytes (main_super front.form front.next_slot front.next_page)) (as_bytes : bytes ≡ super_bytes (main_super front.form front.next_slot front.next_page)) where
+      (written : SaysSuper bytes (main_super front.form front.next_slot front.next_page)) (as_bytes : bytes ≡ main_bytes front.form front.next_slot front.next_page) where
     looked_moved : Moved tells Opens index 0 old mid
     looked_moved = moved_by_look tells Opens index 0 old mid alive (holds alive) looks
 
@@ -221,6 +221,10 @@ module _ (tells : Bool) (Opens : List ℕ → List ℕ → Type 0) (index : Inde
     front_is told =
         (λ i. main_super ((says told).form i) ((says told).next_slot i) ((says told).next_page i)) ∙ ap front_of (sym (same_bytes told))
 
+    main_is : IsTrue tells → main_bytes front.form front.next_slot front.next_page ≡ main_of mid.store.state.bytes
+    main_is told =
+        (λ i. main_bytes ((says told).form i) ((says told).next_slot i) ((says told).next_page i)) ∙ ap main_of (sym (same_bytes told))
+
     before : IsTrue tells → version_of mid.store.state.bytes ≢ 2
     before told two = older ((says told).version ∙ ap version_of (sym (same_bytes told)) ∙ two)
 
@@ -230,7 +234,7 @@ module _ (tells : Bool) (Opens : List ℕ → List ℕ → Type 0) (index : Inde
     -- the data is that of version 2
     put_is : IsTrue tells → put mid.store.state.bytes 0 bytes ≡ upgraded old.store.state.bytes
     put_is told =
-        ap (put mid.store.state.bytes 0) (as_bytes ∙ ap super_bytes (front_is told)) ∙ sym (older_upgraded mid.store.state.bytes (before told)) ∙ ap upgraded (same_bytes told)
+        ap (put mid.store.state.bytes 0) (as_bytes ∙ main_is told) ∙ sym (older_upgraded mid.store.state.bytes (before told)) ∙ ap upgraded (same_bytes told)
 
     behind : PagesState
     behind = page.after (page.atomic_write 0 0 bytes) (pages.state_of mid)

@@ -5,7 +5,7 @@ use Rattle.mars_base.specs.Causes.{Rose}
 use Rattle.eaw_face.specs.StoreView.{LeavesOnly}
 use Rattle.eaw_face.specs.Causes.{IsAlive}
 use Rattle.record_slots.specs.Places.{page_bytes, next_slot, next_page, version_of, tables_of}
-use Rattle.record_slots.specs.Super.{form_said, main_super, super_bytes}
+use Rattle.record_slots.specs.Super.{form_said, main_bytes}
 use Rattle.page_store.specs.Index.{Index, IsTable}
 use Rattle.page_store.specs.Shown.{PagesView}
 use Rattle.record_table.specs.Shown.{state_of, keys_of}
@@ -20,7 +20,7 @@ use Rattle.eaw_face.specs.Mirroring.{Mirrors}
 unfoldable pub upgraded : List ℕ → List ℕ
 upgraded bytes =
     if nat_eq (version_of bytes) 2 then bytes
-    else put bytes 0 (super_bytes (main_super (form_said (page_bytes bytes 0)) (next_slot bytes) (next_page bytes)))
+    else put bytes 0 (main_bytes (form_said (page_bytes bytes 0)) (next_slot bytes) (next_page bytes))
 
 -- an image opens with this data, or with the same in version 2
 abbrev pub OpensUpgraded : (List ℕ → List ℕ → Type 0) → List ℕ → List ℕ → Type 0

@@ -3,7 +3,7 @@ use Rattle.std.proofs.Common.{◌≡◌, ℕ, ◌^◌, ◌<◌, Bool, true, fals
 use Rattle.std.specs.Prelude.{nat_le, if◌then◌else◌, slice_get, slice_index, ◌&&◌, ◌%◌, ◌/◌}
 use Rattle.std.specs.FinMap.{entries}
 use Rattle.std.specs.List.{Contains, IsDistinct, list_all, list_any}
-use Rattle.std.specs.Option.{unwrap_or}
+use Rattle.std.specs.Option.{option_map, unwrap_or}
 use Rattle.std.proofs.lemmas.Bool.{and_parts, both_ways, cases_Bool, leb-true}
 use Rattle.std.proofs.lemmas.Bool.Decides.{Decides-eqb}
 use Rattle.std.proofs.lemmas.List.{get_or-map, length-drop, length-map, length-take-le}
@@ -13,10 +13,10 @@ use Rattle.std.proofs.lemmas.Map.Made.{is_member-Decides}
 use Rattle.std.proofs.lemmas.Map.Steps.{length-le_from_distinct_below}
 use Rattle.std.proofs.lemmas.Option.{same_Some}
 use Rattle.record_slots.specs.Places.{slot_at, slot_of, next_slot, Carries}
-use Rattle.record_slots.specs.Slots.{key_said, present, slot_said, state_said, text_said, value_said, is_value_said}
+use Rattle.record_slots.specs.Slots.{slot_said, state_said, text_said, value_said}
 use Rattle.record_slots.specs.Text.{IsValue, is_visible}
-use Rattle.record_slots.specs.declared.slot.Slot.TheVariants.{Absent}
-use Rattle.record_slots.proofs.SlotLemmas.{length-text_said, short_said}
+use Rattle.record_slots.specs.declared.slot.Slot.TheVariants.{Absent, Present}
+use Rattle.record_slots.proofs.SlotLemmas.{is_value_said, length-text_said, short_said}
 use Rattle.history.specs.Key.{is_same_key, main_name, of_table}
 use Rattle.history.proofs.Keys.{same_key}
 use Rattle.page_store.specs.Index.{Index, HasCounts}
@@ -54,17 +54,17 @@ said_value bytes value long is = go (is_value_said bytes) refl is
 
 slot_value : (bytes value : List ℕ) → length bytes ≡ 64 → value_of (slot_said bytes) ≡ Some value → IsValue value
 unfolding slot_said
-slot_value bytes value long is = go (nat_le 16 (state_said bytes)) (nat_eq (state_said bytes % 2) 0) is
+slot_value bytes value long is = go _ (nat_le 16 (state_said bytes)) (nat_eq (state_said bytes % 2) 0) is
   where
-    shown : (o : Option (List ℕ)) → value_said bytes ≡ o → value_of (present (state_said bytes / 2) (key_said bytes) o) ≡ Some value → IsValue value
-    shown None at is = absurd (cc)
-    shown (Some text) at is = said_value bytes value long (at ∙ is)
+    shown : (key : ℕ) (o : Option (List ℕ)) → value_said bytes ≡ o → value_of (option_map (Present (state_said bytes / 2) key) o) ≡ Some value → IsValue value
+    shown key None at is = absurd (cc)
+    shown key (Some text) at is = said_value bytes value long (at ∙ is)
 
-    go : (large even : Bool)
-        → value_of (if large then None else if even then Some (Absent (state_said bytes / 2) (key_said bytes)) else present (state_said bytes / 2) (key_said bytes) (value_said bytes)) ≡ Some value → IsValue value
-    go true even is = absurd (cc)
-    go false true is = absurd (cc)
-    go false false is = shown (value_said bytes) refl is
+    go : (key : ℕ) (large even : Bool)
+        → value_of (if large then None else if even then Some (Absent (state_said bytes / 2) key) else option_map (Present (state_said bytes / 2) key) (value_said bytes)) ≡ Some value → IsValue value
+    go key true even is = absurd (cc)
+    go key false true is = absurd (cc)
+    go key false false is = shown key (value_said bytes) refl is
 
 -- ---- the records of data
 

@@ -4,6 +4,7 @@ use Rattle.std.specs.Prelude.{slice_get}
 use Rattle.std.specs.Option.{unwrap_or}
 use Rattle.std.proofs.lemmas.Bool.Decides.{leb_tells}
 use Rattle.record_slots.specs.Fresh.{fresh_page}
+use Rattle.record_slots.specs.Super.{part_bytes}
 use Rattle.record_slots.specs.declared.slot.Slot.{Slot}
 use Rattle.history.specs.Key.{main_name}
 use Rattle.history.specs.Rows.{NamedRows}
@@ -23,7 +24,7 @@ unfolding slots_page
 no_slots k = ap (λ (slots : List Slot). padded (slots_bytes (take 8 slots))) (none_left (8 * k))
 
 no_index : (fill page : ℕ) → unwrap_or (slice_get (index_for fill main_alone) page) (replicate 512 0) ≡ fresh_page page
-unfolding index_for built_for levels_for entries_for written_page front_bytes pairs_bytes
+unfolding index_for built_for levels_for entries_for written_page front_bytes pairs_bytes part_bytes
 no_index fill zero = refl
 no_index fill (suc zero) = refl
 no_index fill (suc (suc page)) = refl

@@ -1,6 +1,7 @@
 use Rattle.std.proofs.Common.{sym, take, ◌∙◌, refl, arith}
+use Rattle.std.specs.Prelude.{codes}
 use Rattle.std.specs.Cmp.Lexicographic.{same_text}
-use Rattle.record_slots.specs.Super.{super_mark, version_said, form_said, next_said, entries_said, free_in}
+use Rattle.record_slots.specs.Super.{version_said, form_said, next_said, entries_said, free_in}
 use Rattle.record_slots.proofs.Front.{four_read}
 use Rattle.record_slots.proofs.super_page.read_super.Goals as goal
 
@@ -9,7 +10,7 @@ unfolding version_said form_said next_said entries_said free_in
 returns-clause-says c =
     let b = c.args.bytes.now in
     record {
-      has_mark = record { mark = sym (same_text super_mark (take 4 b) (sym c.if-not-starts_with.false ∙ c.starts_with.ensures.value)); some = omega (arith, c.if-version-eq0.false); known = omega (arith, c.if-version-gt-NEWEST.false) };
+      has_mark = record { mark = sym (same_text (codes "MREC") (take 4 b) (sym c.if-not-starts_with.false ∙ c.starts_with.ensures.value)); some = omega (arith, c.if-version-eq0.false); known = omega (arith, c.if-version-gt-NEWEST.false) };
       version = refl;
       form = refl;
       next_slot = c.read_u32.ensures ∙ four_read 8 504 b (omega arith);
