@@ -1,6 +1,7 @@
 -- What a carried ballot says, and which rows it decides.
-use Rattle.std.proofs.Common.{◌≡◌, ℕ, zero, suc, ◌^◌, ◌<◌, Bool, true, false, not, ◌&&◌, ◌||◌, ⊎_elim, refl, sym, ◌∙◌, ap, subst, arith}
+use Rattle.std.proofs.Common.{◌≡◌, ℕ, zero, suc, ◌+◌, ◌^◌, ◌<◌, ◌≤◌, List, [], ◌∷◌, Bool, true, false, not, ◌&&◌, ◌||◌, ⊎_elim, refl, sym, ◌∙◌, ap, subst, arith}
 use Rattle.std.specs.Prelude.{nat_eq, nat_lt}
+use Rattle.std.specs.List.{list_all, list_any, range_with_len}
 use Rattle.std.specs.Cmp.{both_ways}
 use Rattle.std.proofs.lemmas.Bool.{and_left, and_right, and_parts, cases_eq, and_from, eq-eqb, eqb-true, lt-ltb, ltb-true, false≢true, false_from_ne_true}
 use Rattle.row_bytes.specs.declared.row.Row.{Row}
@@ -8,14 +9,39 @@ use Rattle.row_bytes.specs.declared.ballot.Ballot.{Ballot}
 use Rattle.row_bytes.specs.Ballots.{ballot_of, has_row, same_ballot}
 use Rattle.array_image.specs.Decided.{all_below, agrees, carried, decides}
 
+-- a test of the n numbers from a on holds for all of them, or fails for one,
+module _ (p : ℕ → Bool) where
+  on_all : (a n : ℕ) → ((k : ℕ) → a ≤ k → k < a + n → p k ≡ true) → list_all p (range_with_len a n) ≡ true
+  on_all a zero f = refl
+  on_all a (suc n) f = and_from (p a) (list_all p (range_with_len (a + 1) n)) (f a (omega arith) (omega arith)) (on_all (a + 1) n (λ k le lt. f k (omega arith) (omega arith)))
+
+  on_none : (a n k : ℕ) → a ≤ k → k < a + n → p k ≡ false → list_all p (range_with_len a n) ≡ false
+  on_none a zero k le lt fails = absurd (omega arith)
+  on_none a (suc n) k le lt fails = ⊎_elim
+      (λ is. and_left (p a) (list_all p (range_with_len (a + 1) n)) (ap p is ∙ fails))
+      (λ ne. and_right (p a) (list_all p (range_with_len (a + 1) n)) (on_none (a + 1) n k (omega arith) (omega arith) fails))
+      (cases_eq a k)
+
+  on_each : (a n k : ℕ) → list_all p (range_with_len a n) ≡ true → a ≤ k → k < a + n → p k ≡ true
+  on_each a zero k all le lt = absurd (omega arith)
+  on_each a (suc n) k all le lt =
+      let both = and_parts (p a) (list_all p (range_with_len (a + 1) n)) all in
+      ⊎_elim (λ is. ap p (sym is) ∙ both.0) (λ ne. on_each (a + 1) n k both.1 (omega arith) (omega arith)) (cases_eq a k)
+
+  -- and it holds for some of them unless it fails for all
+  pub any_is : (xs : List ℕ) → list_any p xs ≡ not (list_all (λ k. not (p k)) xs)
+  any_is [] = refl
+  any_is (x ∷ xs) = ap (λ b. p x || b) (any_is xs) ∙ by (p x) (list_all (λ k. not (p k)) xs)
+    where
+      by : (a b : Bool) → (a || not b) ≡ not (not a && b)
+      by true b = refl
+      by false b = refl
+
 pub all_from : (n : ℕ) (p : ℕ → Bool) → ((k : ℕ) → k < n → p k ≡ true) → all_below n p ≡ true
-all_from zero p f = refl
-all_from (suc n) p f = and_from (p n) (all_below n p) (f n (omega arith)) (all_from n p (λ k lt. f k (omega arith)))
+all_from n p f = on_all p 0 n (λ k le lt. f k (omega arith))
 
 pub none_from : (n : ℕ) (p : ℕ → Bool) (k : ℕ) → k < n → p k ≡ false → all_below n p ≡ false
-none_from zero p k lt fails = absurd (omega arith)
-none_from (suc n) p k lt fails =
-    ⊎_elim (λ is. and_left (p n) (all_below n p) (ap p (sym is) ∙ fails)) (λ ne. and_right (p n) (all_below n p) (none_from n p k (omega arith) fails)) (cases_eq k n)
+none_from n p k lt fails = on_none p 0 n k (omega arith) (omega arith) fails
 
 pub implied : (a b : Bool) → (a ≡ true → b ≡ true) → (not a || b) ≡ true
 implied true b f = f refl
@@ -25,10 +51,7 @@ pub denied : (a b : Bool) → a ≡ true → b ≡ false → (not a || b) ≡ fa
 denied a b is fails = ap (λ c. not c || b) is ∙ fails
 
 pub all_at : (n : ℕ) (p : ℕ → Bool) → all_below n p ≡ true → (k : ℕ) → k < n → p k ≡ true
-all_at zero p all k lt = absurd (omega arith)
-all_at (suc n) p all k lt =
-    let both = and_parts (p n) (all_below n p) all in
-    ⊎_elim (λ is. ap p is ∙ both.0) (λ ne. all_at n p both.1 k (omega arith)) (cases_eq k n)
+all_at n p all k lt = on_each p 0 n k all (omega arith) (omega arith)
 
 holds_where : (a b : Bool) → (not a || b) ≡ true → a ≡ true → b ≡ true
 holds_where true b so is = so

@@ -1,5 +1,6 @@
 -- What an image of an array says: its rows, its cells and the parts in them, its data.
-use Rattle.std.specs.Prelude.{ℕ, zero, suc, ◌+◌, List, [], ◌∷◌, take, drop, slice_index}
+use Rattle.std.specs.Prelude.{ℕ, List, map, take, drop, slice_index}
+use Rattle.std.specs.List.{range_with_len}
 use Rattle.mars_base.specs.Bytes.{range}
 use Rattle.array_shape.specs.declared.shape.Shape.{Shape}
 use Rattle.array_shape.specs.Places.{row_at, cell_at, place_of, data_len}
@@ -27,20 +28,18 @@ cell_part cell = ((cell_head cell).addr, take (cell_head cell).len (drop 16 cell
 abbrev pub IsGoodCell : Shape → ℕ → List ℕ → Type 0
 IsGoodCell shape g cell = IsOwned shape g (cell_head cell).addr (cell_head cell).len
 
--- the parts in n cells of number t at logger g from e on
-abbrev pub parts_from : Shape → List ℕ → ℕ → ℕ → ℕ → ℕ → List Part
-parts_from shape image g t e zero = []
-parts_from shape image g t e (suc n) = cell_part (cell_of shape image g t e) ∷ parts_from shape image g t (e + 1) n
-
 -- the parts in the cells that a row names
 abbrev pub row_parts : Shape → List ℕ → ℕ → ℕ → List Part
-row_parts shape image g t = parts_from shape image g t (row_of shape image g t).first (row_of shape image g t).count
-
--- the bytes at n addresses from one on
-abbrev pub bytes_from : Shape → List ℕ → ℕ → ℕ → List ℕ
-bytes_from shape image addr zero = []
-bytes_from shape image addr (suc n) = slice_index image (place_of shape addr) ∷ bytes_from shape image (addr + 1) n
+row_parts shape image g t = let row = row_of shape image g t in map (λ e. cell_part (cell_of shape image g t e)) (range_with_len row.first row.count)
 
 -- the data, in the order of addresses
 unfoldable pub data_of : Shape → List ℕ → List ℕ
-data_of shape image = bytes_from shape image 0 (data_len shape)
+data_of shape image = map (λ (addr : ℕ). slice_index image (place_of shape addr)) (range_with_len 0 (data_len shape))
+
+-- the parts in n cells of number t at logger g from e on
+abbrev pub parts_from : Shape → List ℕ → ℕ → ℕ → ℕ → ℕ → List Part
+parts_from shape image g t e n = map (λ (e : ℕ). cell_part (cell_of shape image g t e)) (range_with_len e n)
+
+-- the bytes at n addresses from one on
+abbrev pub bytes_from : Shape → List ℕ → ℕ → ℕ → List ℕ
+bytes_from shape image addr n = map (λ (addr : ℕ). slice_index image (place_of shape addr)) (range_with_len addr n)

@@ -1,12 +1,14 @@
 -- How many commits are deferred.
-use Rattle.std.proofs.Common.{◌≡◌, ◌≢◌, ℕ, suc, ◌-◌, ◌<◌, Bool, true, false, not, cond, List, [], ◌∷◌, length, refl, sym, ◌∙◌, ap, arith}
+use Rattle.std.proofs.Common.{◌≡◌, ◌≢◌, ℕ, zero, suc, ◌+◌, ◌-◌, ◌<◌, Bool, true, false, not, cond, List, [], ◌∷◌, ◌++◌, length, refl, sym, ◌∙◌, ap, arith}
 use Rattle.std.specs.Prelude.{nat_eq}
+use Rattle.std.specs.List.{filter, range_with_len}
+use Rattle.array_image.specs.Joined.{joined}
 use Rattle.std.proofs.lemmas.Bool.{and_parts, and_from, eq-eqb, eqb-true, false_from_ne_true, not_from_true, not_from_false}
 use Rattle.array_shape.specs.declared.shape.Shape.{Shape}
 use Rattle.row_bytes.specs.declared.ballot.Ballot.{Ballot}
 use Rattle.row_bytes.specs.Ballots.{has_row}
 use Rattle.array_image.specs.Decided.{all_below, decided, decided_as, orders}
-use Rattle.array_image.proofs.Deciding.{all_from, none_from}
+use Rattle.array_image.proofs.Deciding.{all_from, none_from, any_is}
 use Rattle.array_image.specs.Image.{row_of}
 use Rattle.commit_queue.specs.Deferred.{any_below, is_order, deferred_orders}
 use Rattle.commit_queue.specs.Queue.{Commit, IsWritten, IsVoted, Each, Rise}
@@ -15,10 +17,19 @@ use Rattle.commit_queue.proofs.Orders.{each_of, In, each_in, each_same, joined_r
 use Rattle.commit_queue.proofs.Queues.{all_or_none, voted_carried, commit_of, its_rows}
 
 pub any_from : (n : ℕ) (p : ℕ → Bool) (k : ℕ) → k < n → p k ≡ true → any_below n p ≡ true
-any_from n p k lt so = not_from_false (all_below n (λ i. not (p i))) (none_from n (λ i. not (p i)) k lt (not_from_true (p k) so))
+any_from n p k lt so = any_is p (range_with_len 0 n) ∙ not_from_false (all_below n (λ i. not (p i))) (none_from n (λ i. not (p i)) k lt (not_from_true (p k) so))
 
 pub any_none : (n : ℕ) (p : ℕ → Bool) → ((k : ℕ) → k < n → p k ≡ false) → any_below n p ≡ false
-any_none n p none = not_from_true (all_below n (λ i. not (p i))) (all_from n (λ i. not (p i)) (λ k lt. not_from_false (p k) (none k lt)))
+any_none n p none = any_is p (range_with_len 0 n) ∙ not_from_true (all_below n (λ i. not (p i))) (all_from n (λ i. not (p i)) (λ k lt. not_from_false (p k) (none k lt)))
+
+-- those numbers that pass a test, each as a list
+filtered : (p : ℕ → Bool) (k n : ℕ) → filter p (range_with_len k n) ≡ joined (λ o. cond (p o) (o ∷ []) []) k n
+filtered p k zero = refl
+filtered p k (suc n) = ap (λ (l : List ℕ). cond (p k) (k ∷ l) l) (filtered p (k + 1) n) ∙ by (p k) (joined (λ o. cond (p o) (o ∷ []) []) (k + 1) n)
+  where
+    by : (b : Bool) (l : List ℕ) → cond b (k ∷ l) l ≡ cond b (k ∷ []) [] ++ l
+    by true l = refl
+    by false l = refl
 
 some_orders : 0 < orders
 unfolding orders
@@ -45,7 +56,8 @@ module _ (shape : Shape) (queue : List Commit) (b image : List ℕ) (holds : Hol
   -- each commit has an order number of its own among those of the decided rows
   pub deferred_are : Rise 1 queue → Each (λ c. (g : ℕ) × (t : ℕ) × (g < shape.loggers) × (t < shape.numbers) × (has_row c.ballot g t ≡ true)) queue → length (deferred_orders shape image) ≡ length queue
   deferred_are rise some =
-      ap length (joined_rising (λ o. cond (is_order shape image o) (o ∷ []) []) queue 1 (orders - 1) (omega (arith, some_orders)) rise (λ o le lt away. ap (λ (x : Bool). cond x (o ∷ []) []) (no_order o away))
+      ap length (filtered (is_order shape image) 1 (orders - 1)
+      ∙ joined_rising (λ o. cond (is_order shape image o) (o ∷ []) []) queue 1 (orders - 1) (omega (arith, some_orders)) rise (λ o le lt away. ap (λ (x : Bool). cond x (o ∷ []) []) (no_order o away))
       ∙ each_same (λ c. cond (is_order shape image c.ballot.order) (c.ballot.order ∷ []) []) (λ c. c.ballot.order ∷ []) queue (λ c is_in.
       ap (λ (x : Bool). cond x (c.ballot.order ∷ []) [])
       (its_order c is_in (each_in (λ e. (g : ℕ) × (t : ℕ) × (g < shape.loggers) × (t < shape.numbers) × (has_row e.ballot g t ≡ true)) queue c some is_in))))

@@ -1,13 +1,13 @@
 -- A mask that gains a logger.
-use Rattle.std.proofs.Common.{◌≡◌, ℕ, suc, ◌+◌, ◌*◌, ◌%◌, ◌^◌, ◌<◌, ⊎_elim, inl, inr, Bool, true, false, not, ◌&&◌, ◌||◌, max, refl, sym, ◌∙◌, ap, arith, w8}
+use Rattle.std.proofs.Common.{◌≡◌, ℕ, zero, suc, ◌+◌, ◌*◌, ◌%◌, ◌^◌, ◌<◌, ⊎_elim, inl, inr, Bool, true, false, not, ◌&&◌, ◌||◌, max, refl, sym, ◌∙◌, ap, arith, w8}
 use Rattle.std.specs.Prelude.{nat_eq}
+use Rattle.std.specs.List.{list_any, range_with_len}
 use Rattle.std.specs.Int.{bit_at}
 use Rattle.std.specs.Int.RustNames.{bit_or}
 use Rattle.std.proofs.lemmas.Nat.{or_lt, pow_below, one_shl}
 use Rattle.std.proofs.lemmas.Nat.Bits.{bit_at_set_same, bit_at_set_other, bit_at_above, bit_at_or, bit_at-lt, bit_at-zero}
 use Rattle.std.proofs.lemmas.Bool.{cases_eq, eq-eqb, ne_eqb, or_left}
 use Rattle.array_shape.specs.NumberSet.{has}
-use Rattle.array_image.specs.Decided.{all_below}
 use Rattle.commit_queue.specs.Deferred.{any_below}
 use Rattle.coordinator.specs.Commits.{IsMaskOf}
 
@@ -52,10 +52,18 @@ mask_joined n a b c mask more first second both = record {
 
 -- one more number
 pub any_more : (n : ℕ) (p : ℕ → Bool) → any_below (n + 1) p ≡ (any_below n p || p n)
-any_more n p = let next : n + 1 ≡ suc n = omega arith in ap (λ (k : ℕ). any_below k p) next ∙ by (p n) (all_below n (λ i. not (p i)))
+any_more n p = let next : n + 1 ≡ suc n = omega arith in let at : 0 + n ≡ n = omega arith in ap (λ (k : ℕ). any_below k p) next ∙ more 0 n ∙ ap (λ (k : ℕ). any_below n p || p k) at
   where
-    by : (b a : Bool) → not (not b && a) ≡ (not a || b)
-    by true true = refl
-    by true false = refl
-    by false true = refl
-    by false false = refl
+    last : (b : Bool) → (b || false) ≡ b
+    last true = refl
+    last false = refl
+
+    apart : (a b c : Bool) → (a || (b || c)) ≡ ((a || b) || c)
+    apart true b c = refl
+    apart false b c = refl
+
+    more : (k m : ℕ) → list_any p (range_with_len k (suc m)) ≡ (list_any p (range_with_len k m) || p (k + m))
+    more k zero = last (p k) ∙ ap p (let e : k ≡ k + 0 = omega arith in e)
+    more k (suc m) =
+        ap (λ b. p k || b) (more (k + 1) m) ∙ apart (p k) (list_any p (range_with_len (k + 1) m)) (p (k + 1 + m))
+        ∙ ap (λ (i : ℕ). (p k || list_any p (range_with_len (k + 1) m)) || p i) (let e : k + 1 + m ≡ k + suc m = omega arith in e)

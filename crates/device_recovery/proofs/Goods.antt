@@ -8,7 +8,7 @@ use Rattle.array_shape.specs.declared.shape.Shape.{Shape}
 use Rattle.array_image.specs.Joined.{joined}
 use Rattle.array_image.specs.Decided.{decided}
 use Rattle.array_image.specs.Standing.{IsGoodRow}
-use Rattle.device_recovery.specs.Recovered.{rows_of, row_good, rows_good}
+use Rattle.device_recovery.specs.Recovered.{rows_good}
 
 -- each decided row of the numbers below n is good
 abbrev pub AllGood : Shape → List ℕ → ℕ → Type 0
@@ -105,7 +105,7 @@ module _ (Holds : Type 0) {Bad : Type 0} (told : Bad) where
 
 module _ (shape : Shape) (image : List ℕ) where
   abbrev check : ℕ × ℕ → Check (ℕ × ℕ)
-  check r = row_good shape image r
+  check r = unless (not (decided shape image r.0 r.1)) (test (IsGoodRow shape image r.0 r.1) r)
 
   abbrev row : ℕ → ℕ → List (ℕ × ℕ)
   row t g = (g, t) ∷ []
@@ -152,7 +152,7 @@ module _ (shape : Shape) (image : List ℕ) where
 
   -- at most one verdict is true
   pub rows_single : IsSingle (rows_good shape image)
-  rows_single = each_single check (rows_of shape) (λ r. unless_single (not (decided shape image r.0 r.1)) _ (test_single (IsGoodRow shape image r.0 r.1) r))
+  rows_single = each_single check (joined number 0 shape.numbers) (λ r. unless_single (not (decided shape image r.0 r.1)) _ (test_single (IsGoodRow shape image r.0 r.1) r))
 
   pub rows_exclude : (r : ℕ × ℕ) → rows_good shape image None → rows_good shape image (Some r) → ⊥
   rows_exclude r good bad = let same = rows_single None (Some r) good bad in absurd (cc)

@@ -1,6 +1,6 @@
 -- What recovery finds, says and writes.
 use Rattle.std.specs.Prelude.{ℕ, ◌≡◌, ◌+◌, ◌*◌, ◌/◌, ◌%◌, ◌<◌, ◌⊎◌, Bool, true, false, not, nat_eq, if◌then◌else◌, List, [], ◌∷◌, ◌++◌, length, map, sum, slice_index}
-use Rattle.std.specs.List.{range_with_len}
+use Rattle.std.specs.List.{flat_map, range_with_len}
 use Rattle.mars_base.specs.Bytes.{range}
 use Rattle.mars_base.specs.Check.{Check, test, unless, each}
 use Rattle.pcm_media.specs.Images.{Content, MayLeave}
@@ -17,17 +17,10 @@ use Rattle.device_recovery.specs.declared.report.Report.{Report}
 use Rattle.device_recovery.specs.declared.report.RecoverFault.{RecoverFault}
 use Rattle.device_recovery.specs.declared.report.RecoverFault.TheVariants.{Media}
 
--- the rows of an array, each as its logger and number: by rising number, then rising logger
-abbrev pub rows_of : Shape → List (ℕ × ℕ)
-rows_of shape = joined (λ t. joined (λ g. (g, t) ∷ []) 0 shape.loggers) 0 shape.numbers
-
--- a decided row is good
-abbrev pub row_good : Shape → List ℕ → ℕ × ℕ → Check (ℕ × ℕ)
-row_good shape image r = unless (not (decided shape image r.0 r.1)) (test (IsGoodRow shape image r.0 r.1) r)
-
--- each decided row is good, or this is the first that is not
+-- Each decided row is good, or this is the first that is not: its logger and number. They go by rising number, then rising logger.
 abbrev pub rows_good : Shape → List ℕ → Check (ℕ × ℕ)
-rows_good shape image = each (row_good shape image) (rows_of shape)
+rows_good shape image = each (λ (row : ℕ × ℕ). unless (not (decided shape image row.0 row.1)) (test (IsGoodRow shape image row.0 row.1) row))
+    (flat_map (λ t. flat_map (λ g. (g, t) ∷ []) (range_with_len 0 shape.loggers)) (range_with_len 0 shape.numbers))
 
 -- a row, as its logger and number
 abbrev pub row_name : ℕ → ℕ → ℕ × ℕ

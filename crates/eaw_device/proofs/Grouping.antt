@@ -17,7 +17,7 @@ use Rattle.array_image.proofs.Data.{all_placed, joined_placed}
 use Rattle.array_image.proofs.Joined.{joined_same}
 use Rattle.array_image.proofs.Orders.{applied_any_order, parts_at-joined, parts_at_each}
 use Rattle.array_image.proofs.Rows.{parts_owned}
-use Rattle.array_image.proofs.Deciding.{all_at, all_from, none_from}
+use Rattle.array_image.proofs.Deciding.{all_at, all_from, none_from, any_is}
 use Rattle.commit_queue.specs.Deferred.{any_below}
 use Rattle.coordinator.specs.declared.cells.Cells.{Cells}
 use Rattle.coordinator.specs.Commits.{cells_in, takes_part, parts_named, IsMaskOf, AreThere, AreGood}
@@ -77,13 +77,13 @@ unnegated false is = absurd (false≢true (sym is))
 
 -- a test that holds for no number holds not for one of them
 pub none_at : (n : ℕ) (p : ℕ → Bool) → any_below n p ≡ false → (k : ℕ) → k < n → p k ≡ false
-none_at n p none k lt = unset (p k) (all_at n (λ i. not (p i)) (unnegated _ none) k lt)
+none_at n p none k lt = unset (p k) (all_at n (λ i. not (p i)) (unnegated _ (sym (any_is p (range_with_len 0 n)) ∙ none)) k lt)
 
 pub any_none : (n : ℕ) (p : ℕ → Bool) → ((k : ℕ) → k < n → p k ≡ false) → any_below n p ≡ false
-any_none n p none = ap not (all_from n (λ i. not (p i)) (λ k lt. ap not (none k lt)))
+any_none n p none = any_is p (range_with_len 0 n) ∙ ap not (all_from n (λ i. not (p i)) (λ k lt. ap not (none k lt)))
 
 pub any_some : (n : ℕ) (p : ℕ → Bool) (k : ℕ) → k < n → p k ≡ true → any_below n p ≡ true
-any_some n p k lt so = ap not (none_from n (λ i. not (p i)) k lt (ap not so))
+any_some n p k lt so = any_is p (range_with_len 0 n) ∙ ap not (none_from n (λ i. not (p i)) k lt (ap not so))
 
 no_more : (in_group : Bool) (count : ℕ) → in_group ≡ true → (in_group && nat_lt 0 count) ≡ false → count ≡ 0
 no_more true zero so none = refl
