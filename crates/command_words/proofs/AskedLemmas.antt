@@ -9,7 +9,7 @@ use Rattle.clap.specs.Matches.{subcommand_name_of}
 use Rattle.clap.specs.declared.parser.ArgMatches.{ArgMatches}
 use Rattle.texts.specs.Reads.{Reads}
 use Rattle.record_slots.specs.Text.{IsName}
-use Rattle.command_words.specs.Asked.{SubcommandAsks, GivesNumbers, GivesDrill, GivesCallers, GivesWriting, GivesName, IsNumber, is_given}
+use Rattle.command_words.specs.Asked.{SubcommandAsks, GivesNumbers, GivesCallers, GivesWriting, IsNumber, is_given}
 use Rattle.command_words.specs.declared.words.CallersNumbers.{CallersNumbers}
 use Rattle.command_words.specs.declared.words.DrillNumbers.{DrillNumbers}
 use Rattle.command_words.specs.declared.words.FormatNumbers.{FormatNumbers}
@@ -97,16 +97,16 @@ pub no_callers : (options : List Row) → ((numbers : CallersNumbers) → GivesC
 no_callers options none (Callers numbers) says = none numbers says.1
 no_callers options none asked says = apart (codes "callers") (name_of asked) refl (named (codes "callers") options asked says)
 
-pub no_drill : (values : List Row) → ((numbers : DrillNumbers) → GivesDrill values numbers → ⊥) → (asked : Words) → SubcommandAsks (codes "drill") values asked → ⊥
-no_drill values none (Drill numbers) says = none numbers says.1
+pub no_drill : (values : List Row) → ((numbers : DrillNumbers) → SubcommandAsks (codes "drill") values (Drill numbers) → ⊥) → (asked : Words) → SubcommandAsks (codes "drill") values asked → ⊥
+no_drill values none (Drill numbers) says = none numbers says
 no_drill values none asked says = apart (codes "drill") (name_of asked) refl (named (codes "drill") values asked says)
 
 pub no_format : (options : List Row) → ((numbers : FormatNumbers) → GivesNumbers options numbers → ⊥) → (asked : Words) → SubcommandAsks (codes "format") options asked → ⊥
 no_format options none (Format numbers) says = none numbers says.1
 no_format options none asked says = apart (codes "format") (name_of asked) refl (named (codes "format") options asked says)
 
-pub no_make : (values : List Row) → ((table : List ℕ) → GivesName values table → ⊥) → (asked : Words) → SubcommandAsks (codes "make") values asked → ⊥
-no_make values none (Make table) says = none table says.1
+pub no_make : (values : List Row) → ((table : List ℕ) → SubcommandAsks (codes "make") values (Make table) → ⊥) → (asked : Words) → SubcommandAsks (codes "make") values asked → ⊥
+no_make values none (Make table) says = none table says
 no_make values none asked says = apart (codes "make") (name_of asked) refl (named (codes "make") values asked says)
 
 -- and so under whatever name and options the subcommand is found
@@ -136,14 +136,18 @@ one_eaw options given other is also = ap (λ b. record { frames = b }) (is ∙ s
 one_callers : (options : List Row) (numbers other : CallersNumbers) → GivesCallers options numbers → GivesCallers options other → numbers ≡ other
 one_callers options numbers other are also = search (rules, one_number, one_writing)
 
-one_drill : (values : List Row) (numbers other : DrillNumbers) → GivesDrill values numbers → GivesDrill values other → numbers ≡ other
-one_drill values numbers other are also = search (rules, one_number, one_writing)
+one_drill : (name : Text) (values : List Row) (numbers other : DrillNumbers) → SubcommandAsks name values (Drill numbers) → SubcommandAsks name values (Drill other) → numbers ≡ other
+one_drill name values numbers other are also =
+    let seed = one_number 0 2147483647 None (first_of (codes "seed") values) numbers.seed other.seed (omega arith) are.1 also.1 in
+    let count = one_number 1 100000 None (first_of (codes "count") values) numbers.count other.count (omega arith) are.2 also.2 in
+    let writing = one_writing (first_of (codes "late") values) numbers.writing other.writing are.3 also.3 in
+    grind (arith, seed, count, writing)
 
 one_format : (options : List Row) (numbers other : FormatNumbers) → GivesNumbers options numbers → GivesNumbers options other → numbers ≡ other
 one_format options numbers other are also = search (rules, one_number)
 
-one_make : (values : List Row) (table other : List ℕ) → GivesName values table → GivesName values other → table ≡ other
-one_make values table other is also = inner (sym is.0 ∙ also.0)
+one_make : (name : Text) (values : List Row) (table other : List ℕ) → SubcommandAsks name values (Make table) → SubcommandAsks name values (Make other) → table ≡ other
+one_make name values table other is also = inner (sym is.1 ∙ also.1)
 
 -- a name and options say at most one thing
 pub one_asked : (name : Text) (options : List Row) (asked other : Words) → SubcommandAsks name options asked → SubcommandAsks name options other → asked ≡ other
@@ -151,9 +155,9 @@ one_asked name options (Run given) (Run other) says also = ap Run (one_run name 
 one_asked name options (Callers numbers) (Callers other) says also = ap Callers (one_callers options numbers other says.1 also.1)
 one_asked name options (Eaw given) (Eaw other) says also = ap Eaw (one_eaw options given other says.1 also.1)
 one_asked name options Dump Dump says also = refl
-one_asked name options (Drill numbers) (Drill other) says also = ap Drill (one_drill options numbers other says.1 also.1)
+one_asked name options (Drill numbers) (Drill other) says also = ap Drill (one_drill name options numbers other says also)
 one_asked name options (Format numbers) (Format other) says also = ap Format (one_format options numbers other says.1 also.1)
-one_asked name options (Make table) (Make other) says also = ap Make (one_make options table other says.1 also.1)
+one_asked name options (Make table) (Make other) says also = ap Make (one_make name options table other says also)
 one_asked name options Purge Purge says also = refl
 one_asked name options Follow Follow says also = refl
 one_asked name options asked other says also = apart (name_of asked) (name_of other) refl (sym (named name options asked says) ∙ named name options other also)
@@ -187,9 +191,9 @@ no_writing first some none (Late depth) gives = none depth gives
 
 -- whether a word is the name of a table
 pub name_read : (values : List Row) (word : Text) (read : Option (List ℕ)) → first_of (codes "name") values ≡ Some word → SomeIff read (IsName word) word
-    → MatchOption read ((table : List ℕ) → GivesName values table → ⊥) (GivesName values)
-name_read values word None is h = λ table gives. h (subst IsName (inner (sym gives.0 ∙ is)) gives.1)
-name_read values word (Some table) is h = (is ∙ ap Some (sym h.1), subst IsName (sym h.1) h.0)
+    → MatchOption read ((table : List ℕ) → SubcommandAsks (codes "make") values (Make table) → ⊥) (λ table. SubcommandAsks (codes "make") values (Make table))
+name_read values word None is h = λ table gives. h (subst IsName (inner (sym gives.1 ∙ is)) gives.2)
+name_read values word (Some table) is h = (refl, is ∙ ap Some (sym h.1), subst IsName (sym h.1) h.0)
 
-pub no_name : (values : List Row) → first_of (codes "name") values ≡ None → (table : List ℕ) → GivesName values table → ⊥
-no_name values none table gives = some_is_none (sym gives.0 ∙ none)
+pub no_name : (values : List Row) → first_of (codes "name") values ≡ None → (table : List ℕ) → SubcommandAsks (codes "make") values (Make table) → ⊥
+no_name values none table gives = some_is_none (sym gives.1 ∙ none)

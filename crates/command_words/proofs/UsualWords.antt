@@ -457,11 +457,9 @@ drill_asks numbers are =
       drill_met (decimal numbers.seed) (decimal numbers.count) plain_seed plain_count,
       (
         refl,
-        record {
-          seed = given 0 2147483647 _ None _ found.0 (omega arith) are.seed;
-          count = given 1 100000 _ None _ found.1 are.some are.few;
-          writing = at_once _ numbers.writing are.writing found.2;
-        },
+        given 0 2147483647 _ None _ found.0 (omega arith) are.seed,
+        given 1 100000 _ None _ found.1 are.some are.few,
+        at_once _ numbers.writing are.writing found.2,
       ),
     )
 
@@ -630,4 +628,4 @@ pub make_asks : (table : List ℕ) → IsName table → AsksFor (codes "make" �
 make_asks table is =
     let plain = plain_name table is in
     let taken = make_taken table plain in
-    (taken.0, codes "make", _, taken.1, (refl, (make_value table plain, is)))
+    (taken.0, codes "make", _, taken.1, (refl, make_value table plain, is))

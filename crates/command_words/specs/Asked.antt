@@ -1,5 +1,6 @@
 -- What words ask for.
 use Rattle.std.specs.Prelude.{ℕ, ◌≡◌, ◌≤◌, ◌<◌, List, [], Option, Some, None, Bool, false, codes}
+use Rattle.std.specs.Option.{option_map, unwrap_or}
 use Rattle.std.specs.Fmt.{decimal}
 use Rattle.std.specs.Str.{bytes_eq}
 use Rattle.clap.specs.Words.{Text, Row, fault_of, subcommand_of, first_of}
@@ -8,7 +9,6 @@ use Rattle.command_words.specs.CommandLine.{command_line}
 use Rattle.command_words.specs.declared.words.FormatNumbers.{FormatNumbers}
 use Rattle.command_words.specs.declared.words.Writing.{Writing}
 use Rattle.command_words.specs.declared.words.Writing.TheVariants.{AtOnce, Late}
-use Rattle.command_words.specs.declared.words.DrillNumbers.{DrillNumbers}
 use Rattle.command_words.specs.declared.words.CallersNumbers.{CallersNumbers}
 use Rattle.command_words.specs.declared.words.Words.{Words}
 use Rattle.command_words.specs.declared.words.Words.TheVariants.{Run, Callers, Eaw, Dump, Drill, Format, Make, Purge, Follow}
@@ -25,8 +25,7 @@ GivesWriting first (Late depth) = IsNumber 1 64 None first depth
 
 -- whether an option without a value is given: that it is, is the value that is told of it
 abbrev pub is_given : Option Text → Bool
-is_given None = false
-is_given (Some value) = bytes_eq value (codes "true")
+is_given first = unwrap_or (option_map (λ value. bytes_eq value (codes "true")) first) false
 
 -- the numbers that the options of `format` give, and those of the default array for the options that are missing
 pub record GivesNumbers (options : List Row) (given : FormatNumbers) : Type 0 where
@@ -34,12 +33,6 @@ pub record GivesNumbers (options : List Row) (given : FormatNumbers) : Type 0 wh
   pub numbers : IsNumber 0 65535 (Some 8) (first_of (codes "numbers") options) given.numbers
   pub entries : IsNumber 0 65535 (Some 16) (first_of (codes "entries") options) given.entries
   pub pages : IsNumber 0 65535 (Some 64) (first_of (codes "pages") options) given.pages
-
--- what the two values and the option of `drill` give
-pub record GivesDrill (values : List Row) (given : DrillNumbers) : Type 0 where
-  pub seed : IsNumber 0 2147483647 None (first_of (codes "seed") values) given.seed
-  pub count : IsNumber 1 100000 None (first_of (codes "count") values) given.count
-  pub writing : GivesWriting (first_of (codes "late") values) given.writing
 
 -- what the value and the options of `callers` give; beside readers there are at most 31 callers
 pub record GivesCallers (options : List Row) (given : CallersNumbers) : Type 0 where
@@ -49,19 +42,16 @@ pub record GivesCallers (options : List Row) (given : CallersNumbers) : Type 0 w
   pub readers : IsNumber 1 8 (Some 0) (first_of (codes "readers") options) given.readers
   pub room : 0 < given.readers → given.callers ≤ 31
 
--- the name of a table that the word of `make` is
-abbrev pub GivesName : List Row → List ℕ → Type 0
-GivesName values table = (first_of (codes "name") values ≡ Some table) × IsName table
-
 -- the subcommand with this name and these options asks for this
 abbrev pub SubcommandAsks : Text → List Row → Words → Type 0
 SubcommandAsks name options (Run given) = (name ≡ codes "run") × GivesWriting (first_of (codes "late") options) given.writing × (given.frames ≡ is_given (first_of (codes "frames") options))
 SubcommandAsks name options (Callers numbers) = (name ≡ codes "callers") × GivesCallers options numbers
 SubcommandAsks name options (Eaw given) = (name ≡ codes "eaw") × (given.frames ≡ is_given (first_of (codes "frames") options))
 SubcommandAsks name options Dump = name ≡ codes "dump"
-SubcommandAsks name options (Drill numbers) = (name ≡ codes "drill") × GivesDrill options numbers
+SubcommandAsks name options (Drill numbers) = (name ≡ codes "drill") × IsNumber 0 2147483647 None (first_of (codes "seed") options) numbers.seed
+    × IsNumber 1 100000 None (first_of (codes "count") options) numbers.count × GivesWriting (first_of (codes "late") options) numbers.writing
 SubcommandAsks name options (Format numbers) = (name ≡ codes "format") × GivesNumbers options numbers
-SubcommandAsks name options (Make table) = (name ≡ codes "make") × GivesName options table
+SubcommandAsks name options (Make table) = (name ≡ codes "make") × (first_of (codes "name") options ≡ Some table) × IsName table
 SubcommandAsks name options Purge = name ≡ codes "purge"
 SubcommandAsks name options Follow = name ≡ codes "follow"
 

@@ -1,6 +1,7 @@
 ghost use Rattle.std.specs.Prelude.{◌≡◌, ◌<◌, ◌≤◌, ◌↔◌, IsTrue, ℕ, List, Some, map, codes, string_bytes, MatchOption, IfOk, IfErr};
 ghost use Rattle.clap.specs.Words.{Text, Row, found_of, rows_of, first_of, subcommand_rows_of};
-ghost use Rattle.command_words.specs.Asked.{AsksFor, AskForNothing, SubcommandAsks, GivesNumbers, GivesDrill, GivesCallers, GivesWriting, GivesName, IsNumber, is_given};
+ghost use Rattle.command_words.specs.Asked.{AsksFor, AskForNothing, SubcommandAsks, GivesNumbers, GivesCallers, GivesWriting, IsNumber, is_given};
+ghost use Rattle.command_words.specs.declared.words.Words.TheVariants.{Drill, Make};
 
 use crate::command_line::command_line;
 use crate::fault::{WordsFault, matched};
@@ -187,8 +188,8 @@ fn read_numbers(options: &ArgMatches<'_>) -> Option<FormatNumbers>
 
 // The numbers of `drill`.
 fn read_drill(values: &ArgMatches<'_>) -> Option<DrillNumbers>
-    ensures { MatchOption result ((numbers : DrillNumbers) → GivesDrill (rows_of (found_of values.now)) numbers → ⊥)
-        (GivesDrill (rows_of (found_of values.now))) }
+    ensures { MatchOption result ((numbers : DrillNumbers) → SubcommandAsks (codes "drill") (rows_of (found_of values.now)) (Drill numbers) → ⊥)
+        (λ numbers. SubcommandAsks (codes "drill") (rows_of (found_of values.now)) (Drill numbers)) }
 {
     let seed = number_of(values, "seed", 0, SEED_MOST, None)?;
     let count = number_of(values, "count", 1, COUNT_MOST, None)?;
@@ -229,8 +230,8 @@ fn has_room(callers: u32, readers: u32) -> bool
 
 // The name of a table that the word of `make` is.
 fn read_name(values: &ArgMatches<'_>) -> Option<Name>
-    ensures { MatchOption result ((table : List ℕ) → GivesName (rows_of (found_of values.now)) table → ⊥)
-        (GivesName (rows_of (found_of values.now))) }
+    ensures { MatchOption result ((table : List ℕ) → SubcommandAsks (codes "make") (rows_of (found_of values.now)) (Make table) → ⊥)
+        (λ table. SubcommandAsks (codes "make") (rows_of (found_of values.now)) (Make table)) }
 {
     let word = values.get_str("name")?;
     Name::of(word.as_bytes())

@@ -29,7 +29,7 @@ returns-in_err-table-in-make c =
     c.in-make.is c.in_ok-name.ensures.name c.in_ok-name.ensures.rows (no_make (rows_of (found_of c.in_ok-name.options.now)) c.in_err-table-in-make.ensures))
 
 pub returns-in_ok-table-in-make : goal.returns-in_ok-table-in-make
-returns-in_ok-table-in-make c = (c.in_ok-name.name.now, rows_of (found_of c.in_ok-name.options.now), met_is c.args.matches.now c.in_ok-name.name.now (rows_of (found_of c.in_ok-name.options.now)) c.in_ok-name.ensures.name c.in_ok-name.ensures.rows, (c.in-make.is, c.in_ok-table-in-make.ensures))
+returns-in_ok-table-in-make c = (c.in_ok-name.name.now, rows_of (found_of c.in_ok-name.options.now), met_is c.args.matches.now c.in_ok-name.name.now (rows_of (found_of c.in_ok-name.options.now)) c.in_ok-name.ensures.name c.in_ok-name.ensures.rows, (c.in-make.is, c.in_ok-table-in-make.ensures.1, c.in_ok-table-in-make.ensures.2))
 
 pub returns-in_ok-writing-in-run : goal.returns-in_ok-writing-in-run
 returns-in_ok-writing-in-run c = (c.in_ok-name.name.now, rows_of (found_of c.in_ok-name.options.now), met_is c.args.matches.now c.in_ok-name.name.now (rows_of (found_of c.in_ok-name.options.now)) c.in_ok-name.ensures.name c.in_ok-name.ensures.rows, (c.in-run.is, c.in_ok-writing-in-run.ensures, c.read_flag-frames.ensures))
@@ -50,7 +50,7 @@ pub returns-in_ok-numbers-in-callers : goal.returns-in_ok-numbers-in-callers
 returns-in_ok-numbers-in-callers c = (c.in_ok-name.name.now, rows_of (found_of c.in_ok-name.options.now), met_is c.args.matches.now c.in_ok-name.name.now (rows_of (found_of c.in_ok-name.options.now)) c.in_ok-name.ensures.name c.in_ok-name.ensures.rows, (c.in-callers.is, c.in_ok-numbers-in-callers.ensures))
 
 pub returns-in_ok-numbers-in-drill : goal.returns-in_ok-numbers-in-drill
-returns-in_ok-numbers-in-drill c = (c.in_ok-name.name.now, rows_of (found_of c.in_ok-name.options.now), met_is c.args.matches.now c.in_ok-name.name.now (rows_of (found_of c.in_ok-name.options.now)) c.in_ok-name.ensures.name c.in_ok-name.ensures.rows, (c.in-drill.is, c.in_ok-numbers-in-drill.ensures))
+returns-in_ok-numbers-in-drill c = (c.in_ok-name.name.now, rows_of (found_of c.in_ok-name.options.now), met_is c.args.matches.now c.in_ok-name.name.now (rows_of (found_of c.in_ok-name.options.now)) c.in_ok-name.ensures.name c.in_ok-name.ensures.rows, (c.in-drill.is, c.in_ok-numbers-in-drill.ensures.1, c.in_ok-numbers-in-drill.ensures.2, c.in_ok-numbers-in-drill.ensures.3))
 
 pub returns-in_ok-numbers-in-format : goal.returns-in_ok-numbers-in-format
 returns-in_ok-numbers-in-format c = (c.in_ok-name.name.now, rows_of (found_of c.in_ok-name.options.now), met_is c.args.matches.now c.in_ok-name.name.now (rows_of (found_of c.in_ok-name.options.now)) c.in_ok-name.ensures.name c.in_ok-name.ensures.rows, (c.in-format.is, c.in_ok-numbers-in-format.ensures))
