@@ -1,8 +1,8 @@
 -- Groups of transactions, one behind another.
-use Rattle.std.proofs.Common.{◌≡◌, ℕ, zero, suc, ◌+◌, ◌<◌, ◌≤◌, ◌⊎◌, inl, inr, List, [], ◌∷◌, ◌++◌, length, take, Option, Some, None, sym, ap, subst, ◌∙◌, arith}
+use Rattle.std.proofs.Common.{◌≡◌, ℕ, zero, suc, ◌+◌, ◌<◌, ◌≤◌, inl, inr, List, [], ◌∷◌, ◌++◌, length, take, Some, sym, ap, subst, arith}
 use Rattle.std.specs.Prelude.{All, slice_get}
 use Rattle.std.proofs.lemmas.List.{take-append-le}
-use Rattle.history.specs.Groups.{GoesOn, AreGrouped, AreAlone, AreWhole}
+use Rattle.history.specs.Groups.{AreGrouped, AreAlone, AreWhole}
 use Rattle.history.specs.Legal.{AreNumberedFrom, IsLegalFrom, IsLegal}
 use Rattle.history.specs.Writes.{Table}
 use Rattle.history.specs.Table.{left_by}

@@ -8,7 +8,7 @@ use Rattle.std.proofs.lemmas.List.{length-map, take-map, get_or-map}
 use Rattle.history.specs.Key.{Key, of_table}
 use Rattle.history.specs.Writes.{Table, Write, write_into, all_written, is_of, replaced, with_write}
 use Rattle.history.specs.Table.{Granted, Work, begun, removed, has_save, Answers, after, worked, IsRightFrom, IsRight, left_by}
-use Rattle.history.specs.Log.{Log, save_at, floor_of, written, log_after, log_of}
+use Rattle.history.specs.Log.{Log, save_at, floor_of, log_after, log_of}
 use Rattle.history.specs.declared.call.TableCall.{TableCall}
 use Rattle.history.specs.declared.call.TableCall.TheVariants.{Get, Put, Del, Scan, Save, Back}
 use Rattle.history.specs.declared.call.Reply.{Reply}
@@ -84,7 +84,7 @@ module _ (base : Table) where
   pub same_saves : (log : Log) (work : Work) (n : ℕ) → IsShown base log work → has_save work.saves n ≡ has_save log.saved n
   same_saves log work n shown = ap (λ (height : ℕ). nat_lt 0 n && nat_le n height) (same_heights log work shown)
 
-  shown-written : (log : Log) (work : Work) (write : Write) → IsShown base log work → IsShown base (written log write) (record { table = write_into work.table write; saves = work.saves })
+  shown-written : (log : Log) (work : Work) (write : Write) → IsShown base log work → IsShown base (record log { writes = with_write (floor_of log) write log.writes }) (record { table = write_into work.table write; saves = work.saves })
   shown-written log work write shown = record {
     now = ap (λ (t : Table). write_into t write) shown.now ∙ sym (all_written-with_write (floor_of log) write log.writes base);
     saves = shown.saves;

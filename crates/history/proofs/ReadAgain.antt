@@ -2,20 +2,20 @@
 use Rattle.std.proofs.Common.{◌≡◌, ◌<◌, ◌≤◌, ◌+◌, ◌^◌, ◌++◌, [], ◌∷◌, ℕ, zero, suc, Bool, true, false, List, length, take, drop, refl, ap, sym, ◌∙◌, arith, subst, get_or, ◌-◌}
 use Rattle.std.specs.Prelude.{nat_eq, nat_lt, if◌then◌else◌}
 use Rattle.std.specs.List.{All, flat_map}
-use Rattle.std.specs.Int.{w64, to_le_bytes, from_le_bytes}
+use Rattle.std.specs.Int.{w64, from_le_bytes}
 use Rattle.std.proofs.lemmas.List.Elements.{All-nil, All-cons, All-head, All-tail, All-append}
 use Rattle.std.proofs.lemmas.Nat.{from_le_bytes-to_le_bytes_8}
 use Rattle.std.proofs.lemmas.List.{take_at, drop_at, take_more, append_assoc, length-append, flat_map_more}
 use Rattle.std.proofs.lemmas.Bool.{le-ltb}
 use lib.Pointwise.{pointwise}
-use Rattle.record_slots.specs.Text.{IsName, IsValue}
+use Rattle.record_slots.specs.Text.{IsName}
 use Rattle.history.specs.Key.{main_name}
 use Rattle.history.specs.Writes.{Row}
 use Rattle.history.specs.declared.call.TableCall.{TableCall}
 use Rattle.history.specs.declared.call.TableCall.TheVariants.{Get, Put, Del, Scan, Save, Back}
 use Rattle.history.specs.declared.call.Reply.{Reply}
 use Rattle.history.specs.declared.call.Reply.TheVariants.{Fine, Found, Absent, Listed, Saved, Committed, Purged, NoTransaction, NoTable, Already, NoSave, SavesFull, Busy, LogFull, SlotsFull, PagesFull, Media, Dead, NoMemory, Damaged}
-use Rattle.history.specs.Packed.{word, word_at, texted, text_at, kept_name, whole_name, name_at, call_bytes, get_at, put_at, del_at, scan_at, call_at, CanCall, CanRow, row_bytes, row_at, rows_at, reply_bytes, number_at, found_at, listed_at, log_full_at, reply_at, CanReply, entry_bytes, CanEnter, entries_within, entries_in, ArePacked}
+use Rattle.history.specs.Packed.{word, word_at, texted, text_at, kept_name, whole_name, name_at, call_bytes, get_at, put_at, del_at, scan_at, call_at, CanCall, CanRow, row_bytes, row_at, rows_at, reply_bytes, number_at, listed_at, log_full_at, reply_at, CanReply, entry_bytes, CanEnter, entries_within, entries_in, ArePacked}
 use Rattle.history.proofs.Keys.{name_decides}
 
 pub word_read : (n : ℕ) (rest : List ℕ) → n < 2 ^ 64 → word_at (word n ++ rest) ≡ (n, rest)

@@ -7,7 +7,7 @@ use Rattle.std.proofs.lemmas.List.{length-take-le, take-append-le, take_all}
 use Rattle.history.specs.Key.{of_table}
 use Rattle.history.specs.Writes.{Write, replaced, with_write}
 use Rattle.history.specs.Table.{Granted, has_save}
-use Rattle.history.specs.Log.{Log, save_at, floor_of, written, log_after, log_of}
+use Rattle.history.specs.Log.{Log, save_at, floor_of, log_after, log_of}
 use Rattle.history.specs.declared.call.TableCall.{TableCall}
 use Rattle.history.specs.declared.call.TableCall.TheVariants.{Get, Put, Del, Scan, Save, Back}
 use Rattle.history.specs.declared.call.Reply.{Reply}
@@ -93,7 +93,7 @@ front_written front write writes is =
           ∙ ap (take (length front)) is.is ∙ take_all (length front) front (omega arith);
     }
 
-rising-written : (log : Log) (write : Write) → IsRising log → IsRising (written log write)
+rising-written : (log : Log) (write : Write) → IsRising log → IsRising (record log { writes = with_write (floor_of log) write log.writes })
 rising-written log write rising =
     let last = rises_last [] log.saved log.writes rising in
     rises_to [] log.saved (with_write (floor_of log) write log.writes) last.0

@@ -1,5 +1,5 @@
 -- What readers are answered.
-use Rattle.std.specs.Prelude.{ℕ, ◌≡◌, ◌≤◌, List, [], ◌∷◌, length, take, Option, IsTrue, IsFalse}
+use Rattle.std.specs.Prelude.{ℕ, ◌≡◌, ◌≤◌, List, [], ◌∷◌, length, take, IsTrue, IsFalse}
 use Rattle.std.specs.FinMap.{get}
 use Rattle.history.specs.declared.key.Key.{Key}
 use Rattle.history.specs.Legal.{records}
@@ -10,16 +10,11 @@ use Rattle.history.specs.declared.transaction.Done.{Done}
 use Rattle.history.specs.declared.answer.Answer.{Answer}
 use Rattle.history.specs.declared.answer.Answer.TheVariants.{Value, NoTable}
 
--- it is the value of the key after the first `at` transactions of a list, no fewer than `least`
-pub record IsValueIn (base : Table) (list : List Done) (least : ℕ) (key : Key) (at : ℕ) (value : Option (List ℕ)) : Type 0 where
-  pub rises : least ≤ at
-  pub within : at ≤ length list
-  pub is : value ≡ get (records base (take at list)) key
-
--- The answer for a key, where the tables have these names: its value in the list, or that there is no table of its name, which is said
--- exactly if there is none.
+-- The answer for a key, where the tables have these names: its value after the first `at` transactions of the list, no fewer than `least`, or that
+-- there is no table of its name, which is said exactly if there is none.
 abbrev pub IsAnswer : List (List ℕ) → Table → List Done → ℕ → Key → Answer → Type 0
-IsAnswer names base list least key (Value asked at value) = IsTrue (has_table names (Get key.table key.key)) × (asked ≡ key) × IsValueIn base list least key at value
+IsAnswer names base list least key (Value asked at value) = IsTrue (has_table names (Get key.table key.key)) × (asked ≡ key) × (least ≤ at) × (at ≤ length list)
+    × (value ≡ get (records base (take at list)) key)
 IsAnswer names base list least key NoTable = IsFalse (has_table names (Get key.table key.key))
 
 -- how many transactions its reader has come to behind an answer

@@ -20,22 +20,18 @@ save_at saved n = slice_index_or saved (n - 1) []
 
 -- how many writes can no longer be replaced: those of the last save
 abbrev pub floor_of : Log → ℕ
-floor_of log = length (save_at log.saved (length log.saved))
+floor_of log = length (slice_index_or log.saved (length log.saved - 1) [])
 
 -- the key was written since the last save
 abbrev pub is_rewritten : Log → Key → Bool
 is_rewritten log key = list_any (is_of key) (drop (floor_of log) log.writes)
 
--- one more write, which replaces one of its key since the last save
-abbrev pub written : Log → Write → Log
-written log write = record log { writes = with_write (floor_of log) write log.writes }
-
--- the log after a granted call; removing a record that is not there writes nothing
+-- The log after a granted call. A write replaces one of its key since the last save, and removing a record that is not there writes nothing.
 abbrev pub log_after : Log → TableCall → Reply → Log
-log_after log (Put name key value) reply = written log (of_table name key, Some value)
-log_after log (Del name key) Fine = written log (of_table name key, None)
+log_after log (Put name key value) reply = record log { writes = with_write (floor_of log) (of_table name key, Some value) log.writes }
+log_after log (Del name key) Fine = record log { writes = with_write (floor_of log) (of_table name key, None) log.writes }
 log_after log Save reply = record log { saved = log.saved ++ log.writes ∷ [] }
-log_after log (Back n) reply = if has_save log.saved n then record { writes = save_at log.saved n; saved = take n log.saved } else log
+log_after log (Back n) reply = if has_save log.saved n then record { writes = slice_index_or log.saved (n - 1) []; saved = take n log.saved } else log
 log_after log _ reply = log
 
 -- the log of granted calls

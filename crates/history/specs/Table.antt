@@ -1,5 +1,5 @@
 -- The one-thread table: its replies, and what calls leave of it.
-use Rattle.std.specs.Prelude.{ℕ, ◌≡◌, ◌+◌, ◌-◌, Bool, ◌&&◌, nat_lt, nat_le, if◌then◌else◌, IsTrue, List, [], ◌∷◌, ◌++◌, length, take, slice_index_or, Option, Some, None}
+use Rattle.std.specs.Prelude.{ℕ, ◌≡◌, ◌+◌, ◌-◌, Bool, ◌&&◌, nat_lt, nat_le, if◌then◌else◌, IsTrue, List, [], ◌∷◌, ◌++◌, length, take, slice_index_or, Option, option_map, unwrap_or}
 use Rattle.std.specs.List.{fold}
 use Rattle.std.specs.FinMap.{get, insert, remove}
 use Rattle.history.specs.Key.{of_table}
@@ -23,13 +23,11 @@ begun table = record { table = table; saves = [] }
 
 -- the reply to a get that finds this
 abbrev pub found : Option (List ℕ) → Reply
-found None = Absent
-found (Some value) = Found value
+found value = unwrap_or (option_map Found value) Absent
 
 -- the reply to a removal that finds this
 abbrev pub removed : Option (List ℕ) → Reply
-removed None = Absent
-removed (Some value) = Fine
+removed value = unwrap_or (option_map (λ was. Fine) value) Absent
 
 -- there is such a save, counted from 1
 abbrev pub has_save : {A : Type 0} → List A → ℕ → Bool
@@ -39,7 +37,7 @@ has_save saves n = nat_lt 0 n && nat_le n (length saves)
 abbrev pub Answers : Work → TableCall → Reply → Type 0
 Answers work (Get name key) reply = reply ≡ found (get work.table (of_table name key))
 Answers work (Put name key value) reply = reply ≡ Fine
-Answers work (Del name key) reply = reply ≡ removed (get work.table (of_table name key))
+Answers work (Del name key) reply = reply ≡ unwrap_or (option_map (λ was. Fine) (get work.table (of_table name key))) Absent
 Answers work (Scan name low high) reply = reply ≡ Listed (rows_within name low high work.table)
 Answers work Save reply = reply ≡ Saved (length work.saves + 1)
 Answers work (Back n) reply = IsTrue (has_save work.saves n) × (reply ≡ Fine)

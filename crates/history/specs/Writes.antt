@@ -1,8 +1,9 @@
 -- Tables of records, and writes to them.
-use Rattle.std.specs.Prelude.{ℕ, nat_le, ◌&&◌, not, if◌then◌else◌, Bool, List, [], ◌∷◌, ◌++◌, map, filter, take, drop, Option, Some, None}
+use Rattle.std.specs.Prelude.{ℕ, nat_eq, nat_le, ◌&&◌, not, if◌then◌else◌, Bool, List, [], ◌∷◌, ◌++◌, map, filter, take, drop, Option, Some, None}
 use Rattle.std.specs.List.{list_any}
 use Rattle.std.specs.FinMap.{FinMap, insert, remove, entries}
-use Rattle.history.specs.Key.{Key, key_cmp, is_same_key, is_of_table}
+use lib.Pointwise.{pointwise}
+use Rattle.history.specs.Key.{Key, key_cmp, is_same_key}
 
 -- a value for each of some keys
 abbrev pub Table : Type 0
@@ -43,12 +44,13 @@ abbrev pub with_write : ℕ → Write → List Write → List Write
 with_write floor write writes = take floor writes ++ replaced write (drop floor writes)
 
 -- the records of the table of this name, by rising number
-abbrev pub rows_of : List ℕ → Table → List Row
-rows_of name table = map (λ (entry : Key × List ℕ). (entry.0.key, entry.1)) (filter (λ (entry : Key × List ℕ). is_of_table name entry.0) (entries table))
+abbrev pub rows_of : List ℕ → Table → List (ℕ × List ℕ)
+rows_of name table = map (λ (entry : Key × List ℕ). (entry.0.key, entry.1)) (filter (λ (entry : Key × List ℕ). pointwise nat_eq name entry.0.table) (entries table))
 
+-- the number of the row is from one number to another, both included
 abbrev pub is_within : ℕ → ℕ → Row → Bool
 is_within low high row = nat_le low row.0 && nat_le row.0 high
 
 -- those from one number to another, both included
-abbrev pub rows_within : List ℕ → ℕ → ℕ → Table → List Row
-rows_within name low high table = filter (is_within low high) (rows_of name table)
+abbrev pub rows_within : List ℕ → ℕ → ℕ → Table → List (ℕ × List ℕ)
+rows_within name low high table = filter (λ (row : ℕ × List ℕ). nat_le low row.0 && nat_le row.0 high) (rows_of name table)

@@ -8,7 +8,7 @@ use Rattle.history.specs.declared.key.Key.{Key}
 use Rattle.history.proofs.Keys.{same_keys}
 use Rattle.history.specs.Locks.{key_stripe, touches, touched, Meets}
 use Rattle.history.specs.declared.locks.Mode.TheVariants.{Shared, Exclusive}
-use Rattle.history.specs.Log.{Log, save_at, floor_of, written, log_after, log_of}
+use Rattle.history.specs.Log.{Log, save_at, floor_of, log_after, log_of}
 use Rattle.history.specs.Table.{Granted, has_save}
 use Rattle.history.specs.Writes.{Write, is_of, replaced, with_write}
 use Rattle.history.specs.declared.call.TableCall.{TableCall}
@@ -74,7 +74,7 @@ module _ (names : List (List ℕ)) (key : Key) where
     now : list_any (is_of key) log.writes ≡ false
     saved : AreSpared log.saved
 
-  wrote : (log : Log) (write : Write) → is_of key write ≡ false → IsSpared log → IsSpared (written log write)
+  wrote : (log : Log) (write : Write) → is_of key write ≡ false → IsSpared log → IsSpared (record log { writes = with_write (floor_of log) write log.writes })
   wrote log write apart spared = record { now = any-written write apart (floor_of log) log.writes spared.now; saved = spared.saved }
 
   apart_of : (other : Key) → nat_eq (key_stripe names other) (key_stripe names key) ≡ false → is_same_key other key ≡ false

@@ -36,19 +36,17 @@ take_whole (x ∷ xs) = ap (λ (l : List _). x ∷ l) (take_whole xs)
 
 -- where a reader comes to is in the list
 come_within : (names : List (List ℕ)) (base : Table) (list : List Done) (least : ℕ) (key : Key) (answer : Answer) → least ≤ length list → IsAnswer names base list least key answer → come_to least answer ≤ length list
-come_within names base list least key (Value asked at value) low is = is.2.within
+come_within names base list least key (Value asked at value) low is = is.2.1.0
 come_within names base list least key NoTable low is = low
 
 -- what is an answer in a list is one in a longer list
 in_longer : (names : List (List ℕ)) (base : Table) (list longer : List Done) (least : ℕ) (key : Key) (answer : Answer) → IsPrefix list longer → IsAnswer names base list least key answer → IsAnswer names base longer least key answer
-in_longer names base list longer least key (Value asked at value) front (there, same, is) = (
+in_longer names base list longer least key (Value asked at value) front (there, same, rises, within, is) = (
   there,
   same,
-  record {
-    rises = is.rises;
-    within = (let e = ap (λ (l : List Done). length l) front.1 in omega (arith, e, length-append list front.0, is.within));
-    is = is.is ∙ ap (λ (l : List Done). get (records base l) key) (sym (take_in at list front.0 is.within) ∙ ap (λ (l : List Done). take at l) front.1);
-  },
+  rises,
+  (let e = ap (λ (l : List Done). length l) front.1 in omega (arith, e, length-append list front.0, within)),
+  is ∙ ap (λ (l : List Done). get (records base l) key) (sym (take_in at list front.0 within) ∙ ap (λ (l : List Done). take at l) front.1),
 )
 in_longer names base list longer least key NoTable front is = is
 
@@ -62,7 +60,7 @@ all_longer names base list longer least (key ∷ keys) (answer ∷ answers) fron
 
 -- what is an answer after so many transactions is one after fewer
 from_lower : (names : List (List ℕ)) (base : Table) (list : List Done) (least more : ℕ) (key : Key) (answer : Answer) → least ≤ more → IsAnswer names base list more key answer → IsAnswer names base list least key answer
-from_lower names base list least more key (Value asked at value) low (there, same, is) = (there, same, record { rises = omega (arith, low, is.rises); within = is.within; is = is.is })
+from_lower names base list least more key (Value asked at value) low (there, same, rises, within, is) = (there, same, omega (arith, low, rises), within, is)
 from_lower names base list least more key NoTable low is = is
 
 -- one more, which is after all of the list

@@ -1,4 +1,4 @@
-use Rattle.std.proofs.Common.{◌≡◌, ◌-◌, ap, sym, ◌∙◌, arith, ℕ}
+use Rattle.std.proofs.Common.{◌≡◌, ◌-◌, ap, ◌∙◌, arith, ℕ}
 use Rattle.history.specs.Packed.{rows_at}
 use Rattle.history.proofs.ReadAgain.{behind_more}
 use Rattle.history.proofs.unpacking.behind_rows.Goals as goal

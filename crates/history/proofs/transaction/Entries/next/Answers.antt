@@ -1,7 +1,6 @@
 use Rattle.std.proofs.Common.{ap, sym, subst, ◌∙◌, ◌∷◌, List, ℕ, arith}
 use Rattle.std.proofs.lemmas.Bool.{eqb-false}
 use Rattle.history.specs.declared.call.TableCall.{TableCall}
-use Rattle.history.specs.declared.call.Reply.{Reply}
 use Rattle.history.specs.Told.{told_reply}
 use Rattle.history.specs.Packed.{CanCall, entries_in}
 use Rattle.history.proofs.ReadAgain.{front_of, can_behind, packed_behind, entries_behind}
