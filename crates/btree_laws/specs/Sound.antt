@@ -68,7 +68,7 @@ seen_below : (root : Root) (l : ℕ) (bytes : List ℕ) → suc l ≤ level_of b
     → children_check (tree_from root l bytes) es high None → AreBelow root.page pages es
 seen_below root l bytes low pages [] high are c = tt
 seen_below root l bytes low pages (e ∷ es) high are c =
-    ((are.0, λ same. below same (level_from root l bytes e.1 e.0 (next_low es high) c.0)), are.1, seen_below root l bytes low pages es high are.2 c.1)
+    ((are.0.0, λ same. below same (level_from root l bytes e.1 e.0 (next_low es high) c.0)), are.0.1, seen_below root l bytes low pages es high are.1 c.1)
   where
     below : e.1 ≡ root.page → level_of bytes e.1 ≡ l → ⊥
     below same is = (let root_level : level_of bytes root.page ≡ l = subst (λ (x : ℕ). level_of bytes x ≡ l) same is in omega (arith, low, root_level))
@@ -87,7 +87,7 @@ tree_seen root (suc l) bytes most page low high t = (
 
 pass_below : (root pages : ℕ) (es : List Pair) → AreBelow root pages es → AreChildren pages es
 pass_below root pages [] are = tt
-pass_below root pages (e ∷ es) are = (are.0.0, are.1, pass_below root pages es are.2)
+pass_below root pages (e ∷ es) are = ((are.0.0, are.1), pass_below root pages es are.2)
 
 pass_children : (root : Root) (l : ℕ) (bytes : List ℕ) → ((page low high : ℕ) → IsTree root l bytes page low high → tree_from root l bytes page low high None)
     → (es : List Pair) (high : ℕ) → AreSound (IsTree root l bytes) es high → children_check (tree_from root l bytes) es high None

@@ -1,17 +1,18 @@
 -- The tree of a table. An inner page has pairs of a low key and a child, a leaf has pairs of a key and a slot.
-use Rattle.std.specs.Prelude.{ℕ, zero, suc, ◌≡◌, ◌≢◌, ◌<◌, ◌≤◌, ◌⊎◌, List, [], ◌∷◌}
+use Rattle.std.specs.Prelude.{ℕ, zero, suc, ◌≡◌, ◌≢◌, ◌<◌, ◌≤◌, ◌⊎◌, List, [], ◌∷◌, map, slice_index_or}
+use Rattle.std.specs.List.{AllByRecursion, flat_map}
 use Rattle.mars_base.specs.Check.{Check, pass, test, both, each}
 use Rattle.index_pages.specs.Keys.{key_end}
-use Rattle.index_pages.specs.Page.{kind_of, level_of, count_of, link_of, page_pairs}
-use Rattle.index_pages.specs.Pieces.{Piece, joined}
+use Rattle.index_pages.specs.Page.{kind_said, level_of, count_of, link_of, page_pairs}
+use Rattle.index_pages.specs.Pieces.{Piece}
 use Rattle.index_pages.specs.Slots.{slot_check}
 use Rattle.page_store.specs.Pairs.{Pair, Rise}
-use Rattle.record_slots.specs.Places.{next_page}
+use Rattle.record_slots.specs.Places.{page_bytes, next_page}
 use Rattle.btree_laws.specs.declared.root.Root.{Root}
 
 -- a leaf with keys from the lower bound on and below the upper bound; only the root may be empty
 pub record IsLeafPage (root : ℕ) (bytes : List ℕ) (page low high : ℕ) : Type 0 where
-  pub kind : kind_of bytes page ≡ 1
+  pub kind : kind_said (page_bytes bytes page) ≡ 1
   pub level : level_of bytes page ≡ 0
   pub link : link_of bytes page ≡ 0
   pub most : count_of bytes page ≤ 30
@@ -20,17 +21,15 @@ pub record IsLeafPage (root : ℕ) (bytes : List ℕ) (page low high : ℕ) : Ty
 
 -- the children of these entries are among so many given pages
 abbrev pub AreChildren : ℕ → List Pair → Type 0
-AreChildren pages [] = Unit {0}
-AreChildren pages (e ∷ es) = (2 ≤ e.1) × (e.1 < pages) × AreChildren pages es
+AreChildren pages entries = AllByRecursion (λ entry. (2 ≤ entry.1) × (entry.1 < pages)) entries
 
 -- the low key of the next entry, or the upper bound if there is none
 abbrev pub next_low : List Pair → ℕ → ℕ
-next_low [] high = high
-next_low (e ∷ es) high = e.0
+next_low entries high = (slice_index_or entries 0 (high, 0)).0
 
 -- an inner page of this level, whose first low key is the lower bound, and whose children are such, among the pages that are given out
 pub record IsInner (Are : ℕ → List Pair → Type 0) (bytes : List ℕ) (level page low : ℕ) : Type 0 where
-  pub kind : kind_of bytes page ≡ 2
+  pub kind : kind_said (page_bytes bytes page) ≡ 2
   pub level_is : level_of bytes page ≡ level
   pub link : link_of bytes page ≡ 0
   pub some : 1 ≤ count_of bytes page
@@ -55,13 +54,12 @@ tree_check root bytes = both (test (level_of bytes root.page ≤ 7) root.page) (
 
 -- the pairs under each child, with its low key
 abbrev pub pieces_with : (ℕ → List Pair) → List Pair → List Piece
-pieces_with f [] = []
-pieces_with f (e ∷ es) = (e.0, f e.1) ∷ pieces_with f es
+pieces_with f entries = map (λ entry. (entry.0, f entry.1)) entries
 
--- the pairs of the leaves from left to right
+-- the pairs of the leaves from left to right: those under each child with its low key, and then all of these
 abbrev pub pairs_under : ℕ → List ℕ → ℕ → List Pair
 pairs_under zero bytes page = page_pairs bytes page
-pairs_under (suc l) bytes page = joined (pieces_with (pairs_under l bytes) (page_pairs bytes page))
+pairs_under (suc l) bytes page = flat_map (λ (piece : ℕ × List Pair). piece.1) (map (λ (entry : Pair). (entry.0, pairs_under l bytes entry.1)) (page_pairs bytes page))
 
 abbrev pub pieces_under : ℕ → List ℕ → ℕ → List Piece
 pieces_under l bytes page = pieces_with (pairs_under l bytes) (page_pairs bytes page)

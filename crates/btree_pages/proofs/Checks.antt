@@ -49,12 +49,12 @@ module _ (page : List ℕ) (i n : ℕ) (All : Type 0) where
   module _ (pages : ℕ) (left : AreChildren pages (pairs_from page i (n - i)) ↔ All) where
     pub named_step : i < n → 2 ≤ (pair_said page i).1 → (pair_said page i).1 < pages → AreChildren pages (pairs_from page (i + 1) (n - (i + 1))) ↔ All
     named_step lt two given = (
-      λ r. left.0 (subst (λ (ps : List Pair). AreChildren pages ps) (sym (next_left lt)) (two, given, r)),
-      λ all. (subst (λ (ps : List Pair). AreChildren pages ps) (next_left lt) (left.1 all)).2,
+      λ r. left.0 (subst (λ (ps : List Pair). AreChildren pages ps) (sym (next_left lt)) ((two, given), r)),
+      λ all. (subst (λ (ps : List Pair). AreChildren pages ps) (next_left lt) (left.1 all)).1,
     )
 
     pub named_here : i < n → All → (2 ≤ (pair_said page i).1) × ((pair_said page i).1 < pages)
-    named_here lt all = let h = subst (λ (ps : List Pair). AreChildren pages ps) (next_left lt) (left.1 all) in (h.0, h.1)
+    named_here lt all = (subst (λ (ps : List Pair). AreChildren pages ps) (next_left lt) (left.1 all)).0
 
     pub named_end : n ≤ i → All
     named_end le = left.0 (subst (λ (ps : List Pair). AreChildren pages ps) (sym (from_end page i n le)) tt)

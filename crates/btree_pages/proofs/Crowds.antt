@@ -1,5 +1,5 @@
 -- What full pages on a key's way make of an insertion.
-use Rattle.std.proofs.Common.{◌≡◌, ◌≢◌, ℕ, zero, suc, ◌<◌, ◌≤◌, Bool, true, false, nat_lt, inl, inr, List, [], ◌∷◌, length, Option, refl, sym, ◌∙◌, ap, arith}
+use Rattle.std.proofs.Common.{◌≡◌, ◌≢◌, ℕ, zero, suc, ◌+◌, ◌<◌, ◌≤◌, Bool, true, false, nat_lt, inl, inr, List, [], ◌∷◌, length, Option, refl, sym, ◌∙◌, ap, arith}
 use Rattle.std.specs.Prelude.{nat_le, ◌||◌}
 use Rattle.std.proofs.lemmas.Bool.Decides.{leb_tells}
 use Rattle.record_slots.specs.Places.{page_due}
@@ -46,7 +46,7 @@ has_none count is = elim (leb_tells (suc count) 30) [
 
 length-from : (bytes : List ℕ) (i n : ℕ) → length (pairs_from bytes i n) ≡ n
 length-from bytes i zero = refl
-length-from bytes i (suc n) = ap suc (length-from bytes (suc i) n)
+length-from bytes i (suc n) = ap suc (length-from bytes (i + 1) n)
 
 -- a page has as many pairs as it says
 pub length-pairs_said : (said : List ℕ) → length (pairs_said said) ≡ count_said said

@@ -1,5 +1,5 @@
 -- A page of the tree, pair by pair.
-use Rattle.std.proofs.Common.{◌≡◌, ◌≢◌, ℕ, zero, suc, ◌-◌, ◌<◌, ◌≤◌, true, false, nat_eq, nat_lt, inl, inr, List, [], ◌∷◌, length, Some, None, refl, sym, ◌∙◌, ap, arith}
+use Rattle.std.proofs.Common.{◌≡◌, ◌≢◌, ℕ, zero, suc, ◌+◌, ◌-◌, ◌<◌, ◌≤◌, true, false, nat_eq, nat_lt, inl, inr, List, [], ◌∷◌, length, Some, None, refl, sym, ◌∙◌, ap, arith}
 use Rattle.std.proofs.lemmas.Bool.Decides.{nat_tests}
 use Rattle.page_store.specs.Pairs.{Pair, found}
 use Rattle.index_pages.specs.Page.{level_said, count_said, pair_said, pairs_from, pairs_said}
@@ -80,7 +80,7 @@ module _ (page : List ℕ) where
 
 length_from : (page : List ℕ) (i n : ℕ) → length (pairs_from page i n) ≡ n
 length_from page i zero = refl
-length_from page i (suc n) = ap suc (length_from page (suc i) n)
+length_from page i (suc n) = ap suc (length_from page (i + 1) n)
 
 pub length_said : (page : List ℕ) → length (pairs_said page) ≡ count_said page
 unfolding pairs_said

@@ -1,6 +1,6 @@
 -- The pages of a removal's parts, by how the key's leaf is.
 use Rattle.std.proofs.Common.{◌≡◌, ◌≢◌, ℕ, ◌≤◌, true, false, inl, inr, List, [], ◌∷◌, length, Option, Some, refl, sym, ◌∙◌, ap, arith}
-use Rattle.std.specs.Prelude.{nat_eq, nat_le}
+use Rattle.std.specs.Prelude.{nat_eq, nat_le, ◌||◌, if◌then◌else◌}
 use Rattle.std.specs.Option.{unwrap_or}
 use Rattle.std.proofs.lemmas.Bool.{cases_eq}
 use Rattle.std.proofs.lemmas.Bool.Decides.{leb_tells, nat_tests}
@@ -11,13 +11,27 @@ use Rattle.btree_laws.proofs.Staying.{last_not}
 use Rattle.btree_laws.specs.Descent.{leaf_for}
 use Rattle.btree_laws.specs.Removals.{parent_for, right_of, stays_last}
 use Rattle.btree_laws.specs.Tree.{pairs_of_tree}
-use Rattle.btree_pages.specs.Index.{tree_removal, removal_pages, emptying}
+use Rattle.btree_pages.specs.Index.{tree_removal}
 use Rattle.index_pages.specs.Actions.{losing}
+use Rattle.index_pages.proofs.Halved.{slot_found}
 use Rattle.index_pages.proofs.PageFacts.{length-page_pairs}
+
+-- A leaf without another pair takes those of the page to its right, which is freed; or it is the last of its parent, and is freed itself.
+abbrev emptying : List ℕ → ℕ → ℕ → ℕ → ℕ → List ℕ
+emptying bytes slot leaf parent right =
+    if nat_eq right 0 then slot_page bytes slot ∷ parent ∷ leaf ∷ 0 ∷ [] else slot_page bytes slot ∷ leaf ∷ parent ∷ right ∷ 0 ∷ []
+
+-- a leaf that is the root, or has other pairs, loses the pair; else it is emptied
+abbrev removal_pages : List ℕ → ℕ → ℕ → ℕ → List ℕ
+removal_pages bytes root key slot =
+    if nat_eq (level_of bytes root) 0 || nat_le 2 (count_of bytes (leaf_for bytes root key)) then losing bytes slot (leaf_for bytes root key)
+    else emptying bytes slot (leaf_for bytes root key) (parent_for bytes root key) (right_of (page_pairs bytes (parent_for bytes root key)) key)
 
 module _ (bytes : List ℕ) (root key slot at : ℕ) (place : slot_page bytes slot ≡ at) (is : found (pairs_of_tree bytes root) key ≡ Some slot) where
   takes_some : stays_last bytes root key ≡ false → tree_removal bytes root key ≡ Some (removal_pages bytes root key slot)
-  takes_some goes = (rw goes (ap (λ (o : Option ℕ). Some (removal_pages bytes root key (unwrap_or o 0))) is))
+  takes_some goes =
+      (rw goes (ap (λ (s : ℕ). Some (removal_pages bytes root key s)) (slot_found (pairs_of_tree bytes root) key)
+      ∙ ap (λ (o : Option ℕ). Some (removal_pages bytes root key (unwrap_or o 0))) is))
 
   -- the leaf keeps others, or is the root
   pub removal_loses : (leaf : ℕ) → leaf ≡ leaf_for bytes root key → (leaf ≢ root → 2 ≤ count_of bytes leaf) → (level_of bytes root ≢ 0 → leaf ≢ root) → tree_removal bytes root key ≡ Some (at ∷ leaf ∷ 0 ∷ [])

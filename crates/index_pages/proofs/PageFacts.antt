@@ -1,5 +1,5 @@
 -- The pairs of a page.
-use Rattle.std.proofs.Common.{◌≡◌, ℕ, zero, suc, ◌<◌, ◌≤◌, List, [], ◌∷◌, length, refl, ap, arith}
+use Rattle.std.proofs.Common.{◌≡◌, ℕ, zero, suc, ◌+◌, ◌<◌, ◌≤◌, List, [], ◌∷◌, length, refl, ap, arith}
 use Rattle.index_pages.proofs.Rising.{rise_bounds}
 use Rattle.index_pages.specs.Page.{pairs_from, pairs_said, count_of, page_pairs}
 use Rattle.page_store.specs.Pairs.{Pair, Rise}
@@ -7,7 +7,7 @@ use Rattle.record_slots.specs.Places.{page_bytes}
 
 length-pairs_from : (bytes : List ℕ) (i n : ℕ) → length (pairs_from bytes i n) ≡ n
 length-pairs_from bytes i zero = refl
-length-pairs_from bytes i (suc n) = ap suc (length-pairs_from bytes (suc i) n)
+length-pairs_from bytes i (suc n) = ap suc (length-pairs_from bytes (i + 1) n)
 
 pub length-page_pairs : (bytes : List ℕ) (page : ℕ) → length (page_pairs bytes page) ≡ count_of bytes page
 unfolding pairs_said

@@ -58,7 +58,9 @@ unfolding pairs_said
 from_first page = refl
 
 pub from_step : (page : List ℕ) (i n : ℕ) → i < n → pairs_from page i (n - i) ≡ pair_said page i ∷ pairs_from page (suc i) (n - suc i)
-from_step page i n lt = ap (λ (m : ℕ). pairs_from page i m) (let e : n - i ≡ suc (n - suc i) = omega arith in e)
+from_step page i n lt =
+    ap (λ (m : ℕ). pairs_from page i m) (let e : n - i ≡ suc (n - suc i) = omega arith in e)
+    ∙ ap (λ (j : ℕ). pair_said page i ∷ pairs_from page j (n - suc i)) (let e : i + 1 ≡ suc i = omega arith in e)
 
 pub from_end : (page : List ℕ) (i n : ℕ) → n ≤ i → pairs_from page i (n - i) ≡ []
 from_end page i n le = ap (λ (m : ℕ). pairs_from page i m) (let e : n - i ≡ 0 = omega arith in e)

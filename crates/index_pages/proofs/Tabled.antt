@@ -25,13 +25,13 @@ module _ (check : ℕ → ℕ → Check ℕ) where
   tables_seen (t ∷ ts) n zero root c is =
       let e : t.root ≡ root = cc in
       subst (λ (m : ℕ). check root m None) (let z : n ≡ n + 0 = omega arith in z) (subst (λ (r : ℕ). check r n None) e c.0)
-  tables_seen (t ∷ ts) n (suc j) root c is = subst (λ (m : ℕ). check root m None) (let z : suc n + j ≡ n + suc j = omega arith in z) (tables_seen ts (suc n) j root c.1 is)
+  tables_seen (t ∷ ts) n (suc j) root c is = subst (λ (m : ℕ). check root m None) (let z : n + 1 + j ≡ n + suc j = omega arith in z) (tables_seen ts (n + 1) j root c.1 is)
 
   pub tables_pass : (tables : List TableEntry) (n : ℕ) → ((j root : ℕ) → root_in tables j ≡ Some root → check root (n + j) None) → tables_check check n tables None
   tables_pass [] n each = tt
   tables_pass (t ∷ ts) n each = (
     subst (λ (m : ℕ). check t.root m None) (let z : n + 0 ≡ n = omega arith in z) (each zero t.root refl),
-    tables_pass ts (suc n) (λ j root is. subst (λ (m : ℕ). check root m None) (let z : n + suc j ≡ suc n + j = omega arith in z) (each (suc j) root is)),
+    tables_pass ts (n + 1) (λ j root is. subst (λ (m : ℕ). check root m None) (let z : n + suc j ≡ n + 1 + j = omega arith in z) (each (suc j) root is)),
   )
 
 -- What a whole index is made of: the super page, the two lists, and the index of each table.
@@ -171,7 +171,7 @@ whole_counts form check bytes w = record {
 module _ (check : ℕ → ℕ → Check ℕ) (single : (root table : ℕ) → IsSingle (check root table)) where
   tables_single : (n : ℕ) (tables : List TableEntry) → IsSingle (tables_check check n tables)
   tables_single n [] = pass_single
-  tables_single n (t ∷ ts) = both_single (check t.root n) (tables_check check (suc n) ts) (single t.root n) (tables_single (suc n) ts)
+  tables_single n (t ∷ ts) = both_single (check t.root n) (tables_check check (n + 1) ts) (single t.root n) (tables_single (n + 1) ts)
 
 pub index_single : (form : ℕ) (check : List ℕ → ℕ → ℕ → Check ℕ) (bytes : List ℕ) → ((root table : ℕ) → IsSingle (check bytes root table)) → IsSingle (index_check form check bytes)
 index_single form check bytes single =

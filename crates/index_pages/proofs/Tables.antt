@@ -43,8 +43,8 @@ module _ (check : ℕ → ℕ → Check ℕ) (tables : List TableEntry) (j : ℕ
         let e = entry_at tables j root is in
         let here : check e.0.root j None = subst (λ (r : ℕ). check r j None) (sym e.2) well in
         let on : suc j ≡ j + 1 = omega arith in
-        let rest : tables_check check (suc j) (drop (suc j) tables) verdict = subst (λ (k : ℕ). tables_check check k (drop k tables) verdict) (sym on) told in
-        left verdict (subst (λ (ts : List TableEntry). tables_check check j ts verdict) (sym e.1) (both_on (check e.0.root j) (tables_check check (suc j) (drop (suc j) tables)) here verdict rest))
+        let rest : tables_check check (j + 1) (drop (suc j) tables) verdict = subst (λ (k : ℕ). tables_check check (j + 1) (drop k tables) verdict) (sym on) told in
+        left verdict (subst (λ (ts : List TableEntry). tables_check check j ts verdict) (sym e.1) (both_on (check e.0.root j) (tables_check check (j + 1) (drop (suc j) tables)) here verdict rest))
 
     pub tables_fail : (fault : CheckFault) → (let r : Result (Unit {0}) CheckFault = Err fault in IsVerdict (check root j) r) → (let s : Result (Unit {0}) CheckFault = Err fault in IsVerdict (tables_check check 0 tables) s)
     tables_fail (Damaged bad) f =

@@ -83,10 +83,10 @@ pairs_back page rest i [] small is = refl
 pairs_back page rest i (p ∷ ps) small is =
     let here : drop (8 + 16 * i) page ≡ pair_bytes p ++ (pairs_bytes ps ++ rest) = is ∙ append_assoc (pair_bytes p) (pairs_bytes ps) (rest) in
     let first = pair_back page (pairs_bytes ps ++ rest) i p small.0 small.1 here in
-    let later : drop (8 + 16 * suc i) page ≡ pairs_bytes ps ++ rest =
-    ap (λ (n : ℕ). drop n page) (let e : 8 + 16 * suc i ≡ 8 + 16 * i + 16 = omega arith in e) ∙ sym (drop-drop 16 (8 + 16 * i) page) ∙ ap (drop 16) here
+    let later : drop (8 + 16 * (i + 1)) page ≡ pairs_bytes ps ++ rest =
+    ap (λ (n : ℕ). drop n page) (let e : 8 + 16 * (i + 1) ≡ 8 + 16 * i + 16 = omega arith in e) ∙ sym (drop-drop 16 (8 + 16 * i) page) ∙ ap (drop 16) here
     ∙ drop_at (pair_bytes p) (pairs_bytes ps ++ rest) 16 (length-pair_bytes p) in
-    let others = pairs_back page rest (suc i) ps small.2 later in
+    let others = pairs_back page rest (i + 1) ps small.2 later in
     λ j. first j ∷ others j
 
 pub length-front : (level count link : ℕ) → length (front_bytes level count link) ≡ 8

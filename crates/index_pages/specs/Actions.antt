@@ -1,9 +1,8 @@
 -- What an index of either form writes to insert and to remove a pair.
-use Rattle.std.specs.Prelude.{ℕ, nat_lt, if◌then◌else◌, List, [], ◌∷◌}
+use Rattle.std.specs.Prelude.{ℕ, nat_lt, if◌then◌else◌, List, [], ◌∷◌, slice_index_or}
 use Rattle.record_slots.specs.Places.{slot_page, slot_due}
 use Rattle.page_store.specs.Index.{Action}
 use Rattle.page_store.specs.Pairs.{Pair}
-use Rattle.index_pages.specs.Keys.{key_at}
 
 -- adding a pair: the slot that is due, the page that the pair goes into, the super page
 abbrev pub adding : List ℕ → ℕ → Action
@@ -15,4 +14,4 @@ losing bytes slot page = slot_page bytes slot ∷ page ∷ 0 ∷ []
 
 -- what a key gets of two when 30 pairs are cut: what stays with the lower 15, or what goes with the upper 15
 abbrev pub half_for : {T : Type 0} → List Pair → T → T → ℕ → T
-half_for pairs lower upper key = if nat_lt key (key_at pairs 15) then lower else upper
+half_for pairs lower upper key = if nat_lt key (slice_index_or pairs 15 (0, 0)).0 then lower else upper

@@ -1,12 +1,10 @@
 -- Places in a list of pairs.
-use Rattle.std.specs.Prelude.{ℕ, zero, suc, ◌^◌, nat_le, if◌then◌else◌, List, [], ◌∷◌, Option, Some, None}
+use Rattle.std.specs.Prelude.{ℕ, suc, ◌^◌, nat_le, if◌then◌else◌, List, [], ◌∷◌, slice_index_or, Option, Some, None}
 use Rattle.page_store.specs.Pairs.{Pair}
 
 -- the key of pair n
 abbrev pub key_at : List Pair → ℕ → ℕ
-key_at [] n = 0
-key_at (p ∷ ps) zero = p.0
-key_at (p ∷ ps) (suc n) = key_at ps n
+key_at pairs n = (slice_index_or pairs n (0, 0)).0
 
 -- the first of two answers, if there is one, else the second
 abbrev pub or_else : Option Pair → Option Pair → Option Pair

@@ -1,5 +1,6 @@
 -- What an index page says. Numbers are little-endian.
-use Rattle.std.specs.Prelude.{ℕ, zero, suc, ◌+◌, ◌*◌, List, [], ◌∷◌, slice_index}
+use Rattle.std.specs.Prelude.{ℕ, ◌+◌, ◌*◌, List, map, slice_index}
+use Rattle.std.specs.List.{range_with_len}
 use Rattle.byteorder.specs.Endian.{little_from}
 use Rattle.record_slots.specs.Places.{page_bytes}
 use Rattle.page_store.specs.Pairs.{Pair}
@@ -21,14 +22,13 @@ link_said bytes = little_from 4 4 bytes
 unfoldable pub pair_said : List ℕ → ℕ → Pair
 pair_said bytes i = (little_from (8 + 16 * i) 8 bytes, little_from (16 + 16 * i) 8 bytes)
 
--- n pairs from pair i on
+-- n pairs from pair i on: what laws say of a part of them
 abbrev pub pairs_from : List ℕ → ℕ → ℕ → List Pair
-pairs_from bytes i zero = []
-pairs_from bytes i (suc n) = pair_said bytes i ∷ pairs_from bytes (suc i) n
+pairs_from bytes i n = map (pair_said bytes) (range_with_len i n)
 
 -- as many as the count says
 unfoldable pub pairs_said : List ℕ → List Pair
-pairs_said bytes = pairs_from bytes 0 (count_said bytes)
+pairs_said bytes = map (pair_said bytes) (range_with_len 0 (count_said bytes))
 
 -- the same for a page of the data
 abbrev pub kind_of : List ℕ → ℕ → ℕ

@@ -1,5 +1,6 @@
 -- A list of pairs in pieces, each under its low key: what the children of an inner page hold, or the pages of a chain.
-use Rattle.std.specs.Prelude.{ℕ, zero, suc, ◌≡◌, ◌≤◌, ◌<◌, List, [], ◌∷◌, ◌++◌, length, drop}
+use Rattle.std.specs.Prelude.{ℕ, zero, suc, ◌≡◌, ◌≤◌, ◌<◌, List, [], ◌∷◌, length, drop}
+use Rattle.std.specs.List.{flat_map}
 use Rattle.page_store.specs.Pairs.{Pair, Rise}
 
 -- a low key, and the pairs from there on
@@ -8,8 +9,7 @@ Piece = ℕ × List Pair
 
 -- all pairs, from left to right
 abbrev pub joined : List Piece → List Pair
-joined [] = []
-joined (p ∷ ps) = p.1 ++ joined ps
+joined pieces = flat_map (λ piece. piece.1) pieces
 
 -- where the next piece begins: at its low key, or at the upper bound if there is none
 abbrev pub low_of : List Piece → ℕ → ℕ

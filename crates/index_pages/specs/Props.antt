@@ -1,5 +1,5 @@
 -- What soundness is made of is a proposition: a struct can keep it.
-use Rattle.std.specs.Prelude.{ℕ, zero, suc, ◌≡◌, ◌≢◌, ◌-◌, List, [], ◌∷◌, Option, Some, None, slice_get}
+use Rattle.std.specs.Prelude.{ℕ, zero, suc, ◌≡◌, ◌≢◌, ◌+◌, ◌-◌, List, [], ◌∷◌, Option, Some, None, slice_get}
 use Rattle.std.specs.Coded.{×_prop, le_prop}
 use Rattle.std.proofs.Props.{props}
 use Rattle.record_slots.specs.declared.slot.Slot.{Slot}
@@ -72,7 +72,7 @@ list-prop said page_of low end (suc n) named page =
 
 pub tables-prop : (check : ℕ → ℕ → Check ℕ) → ((root table : ℕ) → IsProp (check root table None)) → (table : ℕ) (entries : List TableEntry) → IsProp (tables_check check table entries None)
 tables-prop check alone table [] = Prim.hlevel props
-tables-prop check alone table (t ∷ ts) = ×_prop (alone t.root table) (tables-prop check alone (suc table) ts)
+tables-prop check alone table (t ∷ ts) = ×_prop (alone t.root table) (tables-prop check alone (table + 1) ts)
 
 -- a whole index is sound in one way, if the index of each table is
 pub index-prop : (form : ℕ) (check : List ℕ → ℕ → ℕ → Check ℕ) (bytes : List ℕ) → ((root table : ℕ) → IsProp (check bytes root table None)) → IsProp (index_check form check bytes None)

@@ -33,6 +33,7 @@ use Rattle.index_pages.proofs.Claims.{entries_long}
 use Rattle.record_slots.proofs.ReadingBack.{IsWritable, length-part_bytes}
 use Rattle.index_pages.proofs.Fronts.{super_written, super_kept, version_kept}
 use Rattle.index_pages.proofs.Freeing.{found_given, given_elsewhere}
+use Rattle.index_pages.proofs.Halved.{slot_found}
 use Rattle.index_pages.proofs.PageFacts.{length-page_pairs}
 use Rattle.index_pages.proofs.Puts.{AllApart, Stand, applied_long, applied_away, applied_stand}
 use Rattle.index_pages.proofs.Ranges.{Apart}
@@ -726,7 +727,8 @@ module _ (shape : Shape) (old : List ℕ) (half : ℕ) (long : length old ≡ da
         subst (λ (x : ℕ). keeps_last root x (link_of old x) (count_of old x) ≡ false) says.page_is
         (subst (λ (n : ℕ). keeps_last root page (link_of old page) n ≡ false) count_is (subst (λ (l : ℕ). keeps_last root page l (length pairs) ≡ false) says.link_is goes)) in
         let slot_in : slot_page old slot ≡ half + slot / 8 = slot_page_is shape old long half slot all in
-        (rw b (ap (λ (o : Option ℕ). Some (losing old (unwrap_or o 0) (page_of_key old root key))) found_is
+        (rw b (ap (λ (s : ℕ). Some (losing old s (page_of_key old root key))) (slot_found (pairs_of_chain old root) key)
+        ∙ ap (λ (o : Option ℕ). Some (losing old (unwrap_or o 0) (page_of_key old root key))) found_is
         ∙ ap (λ (x : ℕ). Some (losing old slot x)) (sym says.page_is) ∙ ap (λ (s : ℕ). Some (s ∷ page ∷ 0 ∷ [])) slot_in))
 
   -- the pair stays as the last of its page

@@ -306,7 +306,7 @@ first_said page some = ap (λ (ps : List Pair). first_key ps) (from_first page) 
 
 length-from : (page : List ℕ) (i n : ℕ) → length (pairs_from page i n) ≡ n
 length-from page i zero = refl
-length-from page i (suc n) = ap suc (length-from page (suc i) n)
+length-from page i (suc n) = ap suc (length-from page (i + 1) n)
 
 pub length-said : (page : List ℕ) → length (pairs_said page) ≡ count_said page
 length-said page = ap (λ (ps : List Pair). length ps) (from_first page) ∙ length-from page 0 (count_said page)

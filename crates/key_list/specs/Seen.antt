@@ -8,10 +8,10 @@ use Rattle.page_store.specs.Pairs.{Pair, Rise}
 use Rattle.index_pages.specs.Keys.{key_end}
 use Rattle.index_pages.specs.Page.{kind_of, level_of, count_of, link_of, page_pairs}
 use Rattle.index_pages.specs.Pieces.{joined}
-use Rattle.index_pages.specs.Slots.{slot_check}
+use Rattle.index_pages.specs.Slots.{slot_check, index_check}
 use Rattle.index_pages.proofs.Slotted.{slot_single}
 use Rattle.index_pages.proofs.Tabled.{index_single}
-use Rattle.key_list.specs.Chain.{behind, IsChainHead, pair_check, pairs_check, chain_from, chain_check, chains_check, IsSoundChain, IsFirstDamagedOfChain, chain_pairs, pairs_of_chain, first_key, chain_pieces, pieces_of_chain}
+use Rattle.key_list.specs.Chain.{behind, IsChainHead, pair_check, pairs_check, chain_from, chain_check, IsSoundChain, IsFirstDamagedOfChain, chain_pairs, pairs_of_chain, first_key, chain_pieces, pieces_of_chain}
 
 module _ (table : ℕ) where
   -- a page of a chain, when all keys before it are below the lower bound
@@ -107,7 +107,7 @@ pub pieces_have : (bytes : List ℕ) (root : ℕ) → joined (pieces_of_chain by
 unfolding pairs_of_chain
 pieces_have bytes root = joined_pieces (next_page bytes) bytes root 0
 
-chain_single : (bytes : List ℕ) → IsSingle (chains_check bytes)
+chain_single : (bytes : List ℕ) → IsSingle (index_check 0 chain_check bytes)
 chain_single bytes = index_single 0 chain_check bytes (λ root table. from_single table (next_page bytes) bytes root 0)
 
 -- the chain of a table of sound data, page by page; and back
@@ -119,7 +119,7 @@ sound_by_pages bytes root table pages = chain_passes table (next_page bytes) byt
 
 -- a check has at most one verdict: no page of sound chains fails, and at most one is the first that does
 pub chain_excludes : (bytes : List ℕ) (bad : ℕ) → IsFirstDamagedOfChain bytes bad → IsSoundChain bytes → ⊥
-chain_excludes bytes bad fails sound = excludes (chains_check bytes) (chain_single bytes) bad fails sound
+chain_excludes bytes bad fails sound = excludes (index_check 0 chain_check bytes) (chain_single bytes) bad fails sound
 
 pub chain_first : (bytes : List ℕ) (bad other : ℕ) → IsFirstDamagedOfChain bytes bad → IsFirstDamagedOfChain bytes other → bad ≡ other
-chain_first bytes bad other fails fails' = one_bad (chains_check bytes) (chain_single bytes) bad other fails fails'
+chain_first bytes bad other fails fails' = one_bad (index_check 0 chain_check bytes) (chain_single bytes) bad other fails fails'
