@@ -1,6 +1,7 @@
 -- What can be done is done, unless memory runs out.
 use Rattle.array_image.specs.Decided.{settled_data}
-use Rattle.std.proofs.Common.{◌≡◌, ℕ, ◌≤◌, ◌⊎◌, inl, inr, List, [], length, Bool, refl, ap, subst, ◌∙◌, arith}
+use Rattle.std.proofs.Common.{◌≡◌, ℕ, ◌≤◌, ◌⊎◌, inl, inr, ⊎_elim, List, [], length, Bool, refl, ap, subst, ◌∙◌, arith}
+use Rattle.std.specs.Prelude.{IsTrue}
 use Rattle.mars_base.specs.Causes.{Rose}
 use Rattle.pcm_media.specs.View.{View}
 use Rattle.array_shape.specs.declared.shape.Shape.{Shape}
@@ -8,13 +9,13 @@ use Rattle.array_shape.specs.declared.bad_shape.ShapeNumber.{ShapeNumber}
 use Rattle.array_shape.specs.declared.bad_shape.ShapeNumber.TheVariants.{Loggers, Numbers, Entries, Pages, MediaLength}
 use Rattle.array_shape.specs.Places.{media_len}
 use Rattle.row_bytes.specs.Header.{SaysShape, IsBadIn}
-use Rattle.eaw_device.specs.Opens.{header_of, IsArray, HoldsArray, HasBadRow}
+use Rattle.eaw_device.specs.Opens.{header_of, IsArray, HasBadRow}
 use Rattle.script_run.specs.declared.ended.Ended.{Ended}
 use Rattle.script_run.specs.Input.{input_limit}
 use Rattle.array_runs.specs.Forms.{index_in}
 use Rattle.array_runs.specs.Input.{InputSays}
 use Rattle.array_runs.specs.Outcome.{OutcomeOf}
-use Rattle.array_runs.specs.Records.{HoldsRecords, IsDamaged, Exceeds, OverRecords}
+use Rattle.array_runs.specs.Records.{HoldsRecords, IsDamaged, Exceeds}
 use Rattle.array_runs.specs.Statuses.{Counts, IsEarly}
 use Rattle.array_runs.specs.declared.status.Status.{Status}
 use Rattle.array_runs.specs.declared.status.Status.TheVariants.{Good, Usage, TooLong, ReadFault, WriteFault, MediaFault, NoMemory, Damaged, BadRow, NotMars, BadShape, Refused, BadFrame, Gap}
@@ -56,9 +57,9 @@ nothing_read ReadFault late = tt
 nothing_read NoMemory late = tt
 nothing_read _ late = (omega arith, refl)
 
-module _ (spares : Bool) (Works : Ended → Type 0) (Broken : ℕ → Type 0) (Looks Lacks : Type 0) (old new : View) (cut : Bool) (text : List ℕ) (given left : List ℕ) (s s' k k' m m' : ℕ)
-    (short : length given ≤ input_limit) (shape : Shape) (array : IsArray shape old) (whole : (page : ℕ) → Broken page → ⊥) (has_all : Lacks → ⊥) (no_source : Rose s s' → ⊥) (no_sink : Rose k k' → ⊥) (no_media : Rose m m' → ⊥) where
-  pub complete_of : (status : Status) → Counts status s s' k k' m m' → InputSays status given left → OutcomeOf spares Works Broken Looks Lacks old status new cut text → (status ≡ Good) ⊎ (status ≡ NoMemory)
+module _ (spares : Bool) (Works : Ended → Type 0) (looks : Bool) (callers : ℕ) (old new : View) (cut : Bool) (text : List ℕ) (given left : List ℕ) (s s' k k' m m' : ℕ)
+    (short : length given ≤ input_limit) (shape : Shape) (array : IsArray shape old) (whole : IsTrue looks → (page : ℕ) → IsDamaged old page → ⊥) (has_all : Exceeds callers old → ⊥) (no_source : Rose s s' → ⊥) (no_sink : Rose k k' → ⊥) (no_media : Rose m m' → ⊥) where
+  pub complete_of : (status : Status) → Counts status s s' k k' m m' → InputSays status given left → OutcomeOf spares looks callers Works old status new cut text → (status ≡ Good) ⊎ (status ≡ NoMemory)
   complete_of Good counts input outcome = inl refl
   complete_of NoMemory counts input outcome = inr refl
   complete_of Usage counts input outcome = absurd (has_all outcome.cause)
@@ -66,18 +67,18 @@ module _ (spares : Bool) (Works : Ended → Type 0) (Broken : ℕ → Type 0) (L
   complete_of ReadFault counts input outcome = absurd (no_source counts.0)
   complete_of WriteFault counts input outcome = absurd (no_sink counts.1)
   complete_of MediaFault counts input outcome = absurd (no_media counts.1)
-  complete_of (Damaged page) counts input outcome = absurd (whole page outcome.cause)
+  complete_of (Damaged page) counts input outcome = absurd (whole outcome.cause.0 page outcome.cause.1)
   complete_of (BadRow logger tid) counts input outcome = absurd (no_bad_row old shape logger tid array outcome.cause)
   complete_of NotMars counts input outcome = absurd (outcome.cause (omega (arith, array.sized)) array.header.has_mark)
   complete_of (BadShape which bad) counts input outcome = absurd (not_bad_in (header_of old.content.bytes) old.size shape which bad array.header array.sized outcome.cause.2)
-  complete_of (Refused refusal) counts input outcome = absurd outcome
-  complete_of (BadFrame n) counts input outcome = absurd outcome
-  complete_of (Gap expected got) counts input outcome = absurd outcome
+  complete_of (Refused refusal) counts input outcome = absurd (⊎_elim (λ is. cc is) (λ is. cc is) outcome.0)
+  complete_of (BadFrame n) counts input outcome = absurd (⊎_elim (λ is. cc is) (λ is. cc is) outcome.0)
+  complete_of (Gap expected got) counts input outcome = absurd (⊎_elim (λ is. cc is) (λ is. cc is) outcome.0)
 
 -- the same for work over records that are sound, for which there are numbers enough
 pub complete_records : (spares : Bool) (callers : ℕ) (Works : Ended → Type 0) (old : View) (status : Status) (new : View) (cut : Bool) (text : List ℕ) (given left : List ℕ) (s s' k k' m m' : ℕ) → length given ≤ input_limit
     → (shape : Shape) → HoldsRecords shape old → callers ≤ shape.numbers → (Rose s s' → ⊥) → (Rose k k' → ⊥) → (Rose m m' → ⊥) → Counts status s s' k k' m m' → InputSays status given left
-    → OverRecords spares callers Works old status new cut text → (status ≡ Good) ⊎ (status ≡ NoMemory)
+    → OutcomeOf spares true callers Works old status new cut text → (status ≡ Good) ⊎ (status ≡ NoMemory)
 complete_records spares callers Works old status new cut text given left s s' k k' m m' short shape holds enough no_source no_sink no_media counts input outcome =
-    complete_of spares Works (λ page. IsDamaged old page × (Exceeds callers old → ⊥)) (HoldsArray old × (Exceeds callers old → ⊥)) (Exceeds callers old) old new cut text given left s s' k k' m m'
-    short shape holds.array (λ page is. no_damage old shape page holds is.0) (no_excess old shape callers holds.array enough) no_source no_sink no_media status counts input outcome
+    complete_of spares Works true callers old new cut text given left s s' k k' m m'
+    short shape holds.array (λ looks page is. no_damage old shape page holds is) (no_excess old shape callers holds.array enough) no_source no_sink no_media status counts input outcome

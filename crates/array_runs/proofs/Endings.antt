@@ -11,7 +11,7 @@ use Rattle.array_runs.specs.Input.{InputSays}
 use Rattle.array_runs.specs.Opening.{IsUnread, IsUnopened}
 use Rattle.array_runs.specs.Statuses.{Counts, IsEarly, IsRefusal, IsSilent, script_status, served_status}
 use Rattle.array_runs.specs.declared.status.Status.{Status}
-use Rattle.array_runs.specs.declared.status.Status.TheVariants.{Good, Usage, TooLong, ReadFault, WriteFault, MediaFault, NoMemory, Damaged, BadRow, NotMars, BadShape, Refused}
+use Rattle.array_runs.specs.declared.status.Status.TheVariants.{Good, Usage, TooLong, ReadFault, WriteFault, MediaFault, NoMemory, Damaged, BadRow, NotMars, BadShape, Refused, BadFrame, Gap}
 
 -- a status with which nothing is written ends a run early, or is a refusal
 pub silent_kind : (status : Status) → IsSilent status → IsEarly status ⊎ IsRefusal status
@@ -23,7 +23,12 @@ silent_kind (BadRow logger tid) silent = inr tt
 silent_kind NotMars silent = inr tt
 silent_kind (BadShape which given) silent = inr tt
 silent_kind (Refused refusal) silent = inr tt
-silent_kind _ silent = absurd silent
+silent_kind Good silent = absurd (silent.0 refl)
+silent_kind WriteFault silent = absurd (silent.1 refl)
+silent_kind MediaFault silent = absurd (silent.2 refl)
+silent_kind NoMemory silent = absurd (silent.3 refl)
+silent_kind (BadFrame n) silent = absurd (silent.4 n refl)
+silent_kind (Gap expected got) silent = absurd (silent.5 expected got refl)
 
 pub read_fault_early : (status : Status) → status ≡ ReadFault → IsEarly status
 read_fault_early status is = subst IsEarly (sym is) tt

@@ -17,7 +17,8 @@ use Rattle.texts.specs.Written.{IsWritten}
 use Rattle.script_run.specs.declared.ended.Ended.{Ended}
 use Rattle.array_runs.specs.Forms.{index_at}
 use Rattle.array_runs.specs.Outcome.{OpensInTwo, Idle}
-use Rattle.array_runs.specs.Records.{HoldsRecords, OverRecords}
+use Rattle.array_runs.specs.Outcome.{OutcomeOf}
+use Rattle.array_runs.specs.Records.{HoldsRecords}
 use Rattle.array_runs.specs.Untaken.{spares_at, Untaken}
 use Rattle.array_runs.specs.Statuses.{served_status}
 use Rattle.array_runs.proofs.Completing.{no_excess}
@@ -94,8 +95,8 @@ module _ (tells : Bool) (told : IsTrue tells) (old : View) (only_now : (image : 
 
     -- the records were not taken
     pub untaken_outcome : (spares : Bool) (Works : Ended → Type 0) (callers : ℕ) → callers ≤ store.shape.numbers → (fault : CoreFault) (cut : Bool) (text : List ℕ) → Untaken spares Opens (index_at store.state.bytes) store fault cut text later
-        → OverRecords spares callers Works old (served_status (Err fault)) new cut text
+        → OutcomeOf spares true callers Works old (served_status (Err fault)) new cut text
     untaken_outcome spares Works callers enough (core.Damaged page) cut text off = idle spares (core.Damaged page) cut text off _
-        ((store.shape, array, subst (λ (b : List ℕ). (index_at b).fails b page) (attached.bytes told) (off.cause refl)), no_excess old store.shape callers array enough)
+        (refl, (store.shape, array, subst (λ (b : List ℕ). (index_at b).fails b page) (attached.bytes told) (off.cause refl)), no_excess old store.shape callers array enough)
     untaken_outcome spares Works callers enough core.Media cut text off = inl (idle spares core.Media cut text off _ tt)
-    untaken_outcome spares Works callers enough core.NoMemory cut text off = inr (inl (idle spares core.NoMemory cut text off _ ((store.shape, array), no_excess old store.shape callers array enough)))
+    untaken_outcome spares Works callers enough core.NoMemory cut text off = inr (inl (idle spares core.NoMemory cut text off _ (refl, (store.shape, array), no_excess old store.shape callers array enough)))

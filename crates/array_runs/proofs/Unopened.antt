@@ -1,5 +1,6 @@
 -- A run whose array is not opened.
 use Rattle.std.proofs.Common.{ℕ, ◌⊎◌, inl, inr, ⊎_elim, List, [], Bool, true, false, refl, arith}
+use Rattle.std.proofs.lemmas.Bool.{false≢true}
 use Rattle.std.specs.Prelude.{IsTrue}
 use Rattle.pcm_media.specs.Images.{MayLeave, Touched}
 use Rattle.pcm_media.specs.View.{View}
@@ -29,8 +30,8 @@ module _ (tells : Bool) (told : IsTrue tells) (old : View) (only_now : (image : 
 
   -- nor was it looked at, as the input was not taken
   pub unread_of : (status : Status) → IsUnread status → Unopened old status old
-  unread_of TooLong kind = idle_same _ _ tt
-  unread_of ReadFault kind = idle_same _ _ tt
+  unread_of TooLong kind = (inl refl, idle_same _ _ tt)
+  unread_of ReadFault kind = (inr refl, idle_same _ _ tt)
   unread_of NoMemory kind = inl (idle_same _ _ tt)
   unread_of _ kind = absurd kind
 
@@ -52,21 +53,21 @@ module _ (tells : Bool) (told : IsTrue tells) (old : View) (only_now : (image : 
   unopened_of new opening.NoMemory cause leaves keeps = inl (idle_kept _ _ new keeps (inl (leaves told)) tt)
 
 -- nothing was done, whatever the work is
-pub unopened_as : (Works : Ended → Type 0) (Broken : ℕ → Type 0) (Looks Lacks : Type 0) (old : View) (status : Status) (new : View) → IsUnopened status → Unopened old status new → OutcomeOf true Works Broken Looks Lacks old status new false []
-unopened_as Works Broken Looks Lacks old Good new kind outcome = absurd kind
-unopened_as Works Broken Looks Lacks old Usage new kind outcome = absurd kind
-unopened_as Works Broken Looks Lacks old TooLong new kind outcome = outcome
-unopened_as Works Broken Looks Lacks old ReadFault new kind outcome = outcome
-unopened_as Works Broken Looks Lacks old WriteFault new kind outcome = absurd kind
-unopened_as Works Broken Looks Lacks old MediaFault new kind (inl fails) = inl fails
-unopened_as Works Broken Looks Lacks old MediaFault new kind (inr none) = absurd none
-unopened_as Works Broken Looks Lacks old NoMemory new kind (inl short) = inl short
-unopened_as Works Broken Looks Lacks old NoMemory new kind (inr (inl none)) = absurd none.cause
-unopened_as Works Broken Looks Lacks old NoMemory new kind (inr (inr none)) = absurd none
-unopened_as Works Broken Looks Lacks old (Damaged page) new kind outcome = absurd kind
-unopened_as Works Broken Looks Lacks old (BadRow logger tid) new kind outcome = outcome
-unopened_as Works Broken Looks Lacks old NotMars new kind outcome = outcome
-unopened_as Works Broken Looks Lacks old (BadShape which given) new kind outcome = outcome
-unopened_as Works Broken Looks Lacks old (Refused refusal) new kind outcome = absurd kind
-unopened_as Works Broken Looks Lacks old (BadFrame n) new kind outcome = absurd kind
-unopened_as Works Broken Looks Lacks old (Gap expected got) new kind outcome = absurd kind
+pub unopened_as : (Works : Ended → Type 0) (looks : Bool) (callers : ℕ) (old : View) (status : Status) (new : View) → IsUnopened status → Unopened old status new → OutcomeOf true looks callers Works old status new false []
+unopened_as Works looks callers old Good new kind outcome = absurd kind
+unopened_as Works looks callers old Usage new kind outcome = absurd kind
+unopened_as Works looks callers old TooLong new kind outcome = outcome
+unopened_as Works looks callers old ReadFault new kind outcome = outcome
+unopened_as Works looks callers old WriteFault new kind outcome = absurd kind
+unopened_as Works looks callers old MediaFault new kind (inl fails) = inl fails
+unopened_as Works looks callers old MediaFault new kind (inr none) = absurd none
+unopened_as Works looks callers old NoMemory new kind (inl short) = inl short
+unopened_as Works looks callers old NoMemory new kind (inr (inl none)) = absurd (false≢true none.cause.0)
+unopened_as Works looks callers old NoMemory new kind (inr (inr none)) = absurd none
+unopened_as Works looks callers old (Damaged page) new kind outcome = absurd kind
+unopened_as Works looks callers old (BadRow logger tid) new kind outcome = outcome
+unopened_as Works looks callers old NotMars new kind outcome = outcome
+unopened_as Works looks callers old (BadShape which given) new kind outcome = outcome
+unopened_as Works looks callers old (Refused refusal) new kind outcome = absurd kind
+unopened_as Works looks callers old (BadFrame n) new kind outcome = absurd kind
+unopened_as Works looks callers old (Gap expected got) new kind outcome = absurd kind

@@ -25,4 +25,4 @@ IsUnread _ = ⊥
 
 -- the outcome if nothing was done
 abbrev pub Unopened : View → Status → View → Type 0
-Unopened old status new = OutcomeOf true (λ ended. ⊥) (λ page. ⊥) ⊥ ⊥ old status new false []
+Unopened old status new = OutcomeOf true false 0 (λ ended. ⊥) old status new false []

@@ -1,5 +1,5 @@
 -- What a run leaves on a medium that tells its bytes, and what it writes, by its status.
-use Rattle.std.specs.Prelude.{ℕ, ◌≤◌, ◌⊎◌, List, [], Bool, true, IsFalse, ⊤}
+use Rattle.std.specs.Prelude.{ℕ, ◌≡◌, ◌≤◌, ◌⊎◌, List, [], Bool, true, IsTrue, IsFalse, ⊤}
 use Rattle.pcm_media.specs.Images.{Content, MayLeave, Touched}
 use Rattle.pcm_media.specs.View.{View}
 use Rattle.array_shape.specs.declared.shape.Shape.{Shape}
@@ -9,6 +9,7 @@ use Rattle.record_table.specs.Upgrading.{upgraded}
 use Rattle.texts.specs.Written.{IsWritten}
 use Rattle.script_run.specs.declared.ended.Ended.{Ended}
 use Rattle.script_run.specs.declared.ended.Ended.TheVariants as script
+use Rattle.array_runs.specs.Records.{Exceeds, IsDamaged}
 use Rattle.array_runs.specs.declared.status.Status.{Status}
 use Rattle.array_runs.specs.declared.status.Status.TheVariants.{Good, Usage, TooLong, ReadFault, WriteFault, MediaFault, NoMemory, Damaged, BadRow, NotMars, BadShape}
 
@@ -27,19 +28,18 @@ pub record Idle (spares : Bool) (MayWrite Cause : Type 0) (old new : View) (cut 
   pub cause : Cause
 
 -- What was written and done, by the status: the work over an array that was opened, or that there was none to open. The medium may be
--- written only if it holds an array. Looks says that the records of the array are read before the work, so that memory may run out
--- meanwhile, and then data that is not spared may be in version 2. Broken says which page may be named as damaged, and Lacks why the words do not fit the array.
-abbrev pub OutcomeOf : Bool → (Ended → Type 0) → (ℕ → Type 0) → (Looks Lacks : Type 0) → View → Status → View → Bool → List ℕ → Type 0
-OutcomeOf spares Works Broken Looks Lacks old Good new cut text = Works script.All
-OutcomeOf spares Works Broken Looks Lacks old WriteFault new cut text = Works script.WriteFault
-OutcomeOf spares Works Broken Looks Lacks old MediaFault new cut text = Idle spares (HoldsArray old) ⊤ old new cut text ⊎ Works script.MediaFault
-OutcomeOf spares Works Broken Looks Lacks old NoMemory new cut text = Idle true ⊥ ⊤ old new cut text ⊎ (Idle spares (HoldsArray old) Looks old new cut text ⊎ Works script.NoMemory)
-OutcomeOf spares Works Broken Looks Lacks old (Damaged page) new cut text = Idle true (HoldsArray old) (Broken page) old new cut text
-OutcomeOf spares Works Broken Looks Lacks old (BadRow logger tid) new cut text = Idle true ⊥ (HasBadRow old logger tid) old new cut text
-OutcomeOf spares Works Broken Looks Lacks old NotMars new cut text = Idle true ⊥ (512 ≤ old.size → HasMark (header_of old.content.bytes) → ⊥) old new cut text
-OutcomeOf spares Works Broken Looks Lacks old (BadShape which given) new cut text =
+-- written only if it holds an array. If it looks, the records of the array are read before the work, so that a page may be named as damaged,
+-- and memory may run out meanwhile, and then data that is not spared may be in version 2. Whether the array has numbers for so many callers is
+-- tested after the opening and before the records are read. An input that is not taken has its cause by what there was to be read.
+abbrev pub OutcomeOf : (spares looks : Bool) → ℕ → (Ended → Type 0) → View → Status → View → Bool → List ℕ → Type 0
+OutcomeOf spares looks callers Works old Good new cut text = Works script.All
+OutcomeOf spares looks callers Works old WriteFault new cut text = Works script.WriteFault
+OutcomeOf spares looks callers Works old MediaFault new cut text = Idle spares (HoldsArray old) ⊤ old new cut text ⊎ Works script.MediaFault
+OutcomeOf spares looks callers Works old NoMemory new cut text = Idle true ⊥ ⊤ old new cut text ⊎ (Idle spares (HoldsArray old) (IsTrue looks × HoldsArray old × (Exceeds callers old → ⊥)) old new cut text ⊎ Works script.NoMemory)
+OutcomeOf spares looks callers Works old (Damaged page) new cut text = Idle true (HoldsArray old) (IsTrue looks × IsDamaged old page × (Exceeds callers old → ⊥)) old new cut text
+OutcomeOf spares looks callers Works old (BadRow logger tid) new cut text = Idle true ⊥ (HasBadRow old logger tid) old new cut text
+OutcomeOf spares looks callers Works old NotMars new cut text = Idle true ⊥ (512 ≤ old.size → HasMark (header_of old.content.bytes) → ⊥) old new cut text
+OutcomeOf spares looks callers Works old (BadShape which given) new cut text =
     Idle true ⊥ ((512 ≤ old.size) × HasMark (header_of old.content.bytes) × IsBadIn (header_of old.content.bytes) old.size which given) old new cut text
-OutcomeOf spares Works Broken Looks Lacks old Usage new cut text = Idle true (HoldsArray old) Lacks old new cut text
-OutcomeOf spares Works Broken Looks Lacks old TooLong new cut text = Idle true (HoldsArray old) ⊤ old new cut text
-OutcomeOf spares Works Broken Looks Lacks old ReadFault new cut text = Idle true (HoldsArray old) ⊤ old new cut text
-OutcomeOf spares Works Broken Looks Lacks old _ new cut text = ⊥
+OutcomeOf spares looks callers Works old Usage new cut text = Idle true (HoldsArray old) (Exceeds callers old) old new cut text
+OutcomeOf spares looks callers Works old status new cut text = ((status ≡ TooLong) ⊎ (status ≡ ReadFault)) × Idle true (HoldsArray old) ⊤ old new cut text

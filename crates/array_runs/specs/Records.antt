@@ -1,9 +1,9 @@
--- The records of the array on a medium, and what comes of work over them.
-use Rattle.std.specs.Prelude.{ℕ, ◌≡◌, ◌<◌, List, Bool}
+-- The records of the array on a medium.
+use Rattle.std.specs.Prelude.{ℕ, ◌≡◌, ◌<◌, List}
 use Rattle.pcm_media.specs.View.{View}
 use Rattle.array_shape.specs.declared.shape.Shape.{Shape}
 use Rattle.array_image.specs.Decided.{settled_data}
-use Rattle.eaw_device.specs.Opens.{IsArray, HoldsArray}
+use Rattle.eaw_device.specs.Opens.{IsArray}
 use Rattle.page_store.specs.Index.{Index}
 use Rattle.record_table.specs.Names.{names_of}
 use Rattle.record_table.specs.Shown.{table_of}
@@ -11,10 +11,7 @@ use Rattle.record_table.specs.Upgrading.{upgraded}
 use Rattle.history.specs.Legal.{records}
 use Rattle.caller_steps.specs.State.{State, opened}
 use Rattle.mars_core.specs.Over.{index_of}
-use Rattle.script_run.specs.declared.ended.Ended.{Ended}
 use Rattle.array_runs.specs.Forms.{index_in}
-use Rattle.array_runs.specs.Outcome.{OutcomeOf}
-use Rattle.array_runs.specs.declared.status.Status.{Status}
 
 -- the medium holds an array whose records are sound under the index that its data names
 pub record HoldsRecords (shape : Shape) (media : View) : Type 0 where
@@ -28,12 +25,6 @@ IsDamaged media page = (shape : Shape) × IsArray shape media × (index_in shape
 -- the medium holds an array with fewer transaction numbers than callers
 abbrev pub Exceeds : ℕ → View → Type 0
 Exceeds callers media = (shape : Shape) × IsArray shape media × (shape.numbers < callers)
-
--- What comes of work over the records of an array, by the status. Whether it has numbers for so many callers is tested after the opening and
--- before the records are read.
-abbrev pub OverRecords : Bool → ℕ → (Ended → Type 0) → View → Status → View → Bool → List ℕ → Type 0
-OverRecords spares callers Works old status new cut text =
-    OutcomeOf spares Works (λ page. IsDamaged old page × (Exceeds callers old → ⊥)) (HoldsArray old × (Exceeds callers old → ⊥)) (Exceeds callers old) old status new cut text
 
 -- the callers before the first line, over this data in version 2 under an index
 abbrev pub begun_on : Index → List ℕ → State

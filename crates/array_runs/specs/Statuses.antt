@@ -1,5 +1,5 @@
 -- The statuses of a run by kind, and the counts of faults that go with each.
-use Rattle.std.specs.Prelude.{ℕ, ◌≡◌, Result, Ok, Err}
+use Rattle.std.specs.Prelude.{ℕ, ◌≡◌, ◌≢◌, Result, Ok, Err}
 use Rattle.mars_base.specs.Causes.{Rose}
 use Rattle.eaw_device.specs.declared.fault.AttachFault.{AttachFault}
 use Rattle.eaw_device.specs.declared.fault.AttachFault.TheVariants as opening
@@ -26,15 +26,10 @@ IsRefusal (BadShape which given) = Unit {0}
 IsRefusal (Refused refusal) = Unit {0}
 IsRefusal _ = ⊥
 
--- nothing is written with this status
+-- nothing is written with this status, which is none of those
 abbrev pub IsSilent : Status → Type 0
-IsSilent Good = ⊥
-IsSilent WriteFault = ⊥
-IsSilent MediaFault = ⊥
-IsSilent NoMemory = ⊥
-IsSilent (BadFrame n) = ⊥
-IsSilent (Gap expected got) = ⊥
-IsSilent _ = Unit {0}
+IsSilent status = (status ≢ Good) × (status ≢ WriteFault) × (status ≢ MediaFault) × (status ≢ NoMemory)
+    × ((n : ℕ) → status ≢ BadFrame n) × ((expected got : ℕ) → status ≢ Gap expected got)
 
 -- the status of a script that ended this way
 abbrev pub script_status : Ended → Status

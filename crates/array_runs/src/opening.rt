@@ -4,7 +4,7 @@ ghost use Rattle.eaw_device.specs.Depths.{IsOfDepth};
 ghost use Rattle.eaw_device.specs.Opens.{Attached, KeepsData, OpensWithin};
 ghost use Rattle.array_runs.specs.Input.{InputSays};
 ghost use Rattle.array_runs.specs.Opening.{IsUnread, IsUnopened, Unopened};
-ghost use Rattle.array_runs.specs.Records.{OverRecords};
+ghost use Rattle.array_runs.specs.Outcome.{OutcomeOf};
 ghost use Rattle.array_runs.specs.Statuses.{Counts, IsEarly};
 
 use crate::status::{Status, status_of};
@@ -71,7 +71,7 @@ pub fn open_for<S: Source, M: Media, D: Depth>(
     ensures input { IfErr result (λ ended. IsTrue reads → IsTrue S.tells → InputSays ended.0 (S.left source.old) (S.left source.new)) }
     ensures counts { IfErr result (λ ended. (sink : ℕ) → Counts ended.0 (S.faults source.old) (S.faults source.new) sink sink (M.view media).faults (M.view ended.1).faults) }
     ensures kept { IfOk result (λ opened. S.faults source.new ≡ S.faults source.old) }
-    ensures outcome { IsTrue M.tells → IfErr result (λ ended. OverRecords true callers (λ none. ⊥) (M.view media) ended.0 (M.view ended.1) false []) }
+    ensures outcome { IsTrue M.tells → IfErr result (λ ended. OutcomeOf true true callers (λ none. ⊥) (M.view media) ended.0 (M.view ended.1) false []) }
     ensures within { IfErr result (λ ended. OpensWithin M.tells (M.view media) (M.view ended.1).moment) }
     ensures attached { IfOk result (λ opened. Attached M.tells (M.view media) (⟦<Eaw<M, D> as EawStore>⟧.view opened.2)) }
     ensures keeps { IfOk result (λ opened. KeepsData M.tells (M.view media) (⟦<Eaw<M, D> as EawStore>⟧.view opened.2).moment (⟦<Eaw<M, D> as EawStore>⟧.view opened.2).left_since) }

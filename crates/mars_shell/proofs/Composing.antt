@@ -43,7 +43,7 @@ use Rattle.mars_shell.specs.Joint.{JointWork}
 use Rattle.mars_shell.specs.Late.{depth_of}
 use Rattle.mars_shell.specs.Next.{AllSound, IsOfRecords, LeavesFresh}
 use Rattle.array_runs.specs.Outcome.{Idle, OutcomeOf}
-use Rattle.array_runs.specs.Records.{HoldsRecords, IsDamaged, Exceeds, OverRecords}
+use Rattle.array_runs.specs.Records.{HoldsRecords}
 use Rattle.mars_shell.specs.Run.{TakesTurns}
 use Rattle.mars_shell.specs.FramedRun.{RunsAs}
 use Rattle.told_commands.specs.Tables.{Tries, MakesTable}
@@ -82,22 +82,22 @@ premises media long shape form sound = (all_open media shape form sound, holds_r
 -- ---- what is left
 
 -- an outcome gives what each of its cases gives
-pub outcome_gives : (P : Type 0) (spares : Bool) (Works : Ended → Type 0) (Broken : ℕ → Type 0) (Looks Lacks : Type 0) (old : View) (status : Status) (new : View) (cut : Bool) (text : List ℕ)
-    → ((kept : Bool) (MayWrite Cause : Type 0) → Idle kept MayWrite Cause old new cut text → P) → ((ended : Ended) → Works ended → P) → OutcomeOf spares Works Broken Looks Lacks old status new cut text → P
-outcome_gives P spares Works Broken Looks Lacks old Good new cut text idle works outcome = works script.All outcome
-outcome_gives P spares Works Broken Looks Lacks old WriteFault new cut text idle works outcome = works script.WriteFault outcome
-outcome_gives P spares Works Broken Looks Lacks old MediaFault new cut text idle works outcome = ⊎_elim (λ i. idle _ _ _ i) (λ w. works script.MediaFault w) outcome
-outcome_gives P spares Works Broken Looks Lacks old NoMemory new cut text idle works outcome = ⊎_elim (λ i. idle _ _ _ i) (λ later. ⊎_elim (λ i. idle _ _ _ i) (λ w. works script.NoMemory w) later) outcome
-outcome_gives P spares Works Broken Looks Lacks old Usage new cut text idle works outcome = idle _ _ _ outcome
-outcome_gives P spares Works Broken Looks Lacks old TooLong new cut text idle works outcome = idle _ _ _ outcome
-outcome_gives P spares Works Broken Looks Lacks old ReadFault new cut text idle works outcome = idle _ _ _ outcome
-outcome_gives P spares Works Broken Looks Lacks old (Damaged page) new cut text idle works outcome = idle _ _ _ outcome
-outcome_gives P spares Works Broken Looks Lacks old (BadRow logger tid) new cut text idle works outcome = idle _ _ _ outcome
-outcome_gives P spares Works Broken Looks Lacks old NotMars new cut text idle works outcome = idle _ _ _ outcome
-outcome_gives P spares Works Broken Looks Lacks old (BadShape which given) new cut text idle works outcome = idle _ _ _ outcome
-outcome_gives P spares Works Broken Looks Lacks old (Refused refusal) new cut text idle works outcome = absurd outcome
-outcome_gives P spares Works Broken Looks Lacks old (BadFrame n) new cut text idle works outcome = absurd outcome
-outcome_gives P spares Works Broken Looks Lacks old (Gap expected got) new cut text idle works outcome = absurd outcome
+pub outcome_gives : (P : Type 0) (spares : Bool) (Works : Ended → Type 0) (looks : Bool) (callers : ℕ) (old : View) (status : Status) (new : View) (cut : Bool) (text : List ℕ)
+    → ((kept : Bool) (MayWrite Cause : Type 0) → Idle kept MayWrite Cause old new cut text → P) → ((ended : Ended) → Works ended → P) → OutcomeOf spares looks callers Works old status new cut text → P
+outcome_gives P spares Works looks callers old Good new cut text idle works outcome = works script.All outcome
+outcome_gives P spares Works looks callers old WriteFault new cut text idle works outcome = works script.WriteFault outcome
+outcome_gives P spares Works looks callers old MediaFault new cut text idle works outcome = ⊎_elim (λ i. idle _ _ _ i) (λ w. works script.MediaFault w) outcome
+outcome_gives P spares Works looks callers old NoMemory new cut text idle works outcome = ⊎_elim (λ i. idle _ _ _ i) (λ later. ⊎_elim (λ i. idle _ _ _ i) (λ w. works script.NoMemory w) later) outcome
+outcome_gives P spares Works looks callers old Usage new cut text idle works outcome = idle _ _ _ outcome
+outcome_gives P spares Works looks callers old TooLong new cut text idle works outcome = idle _ _ _ outcome.1
+outcome_gives P spares Works looks callers old ReadFault new cut text idle works outcome = idle _ _ _ outcome.1
+outcome_gives P spares Works looks callers old (Damaged page) new cut text idle works outcome = idle _ _ _ outcome
+outcome_gives P spares Works looks callers old (BadRow logger tid) new cut text idle works outcome = idle _ _ _ outcome
+outcome_gives P spares Works looks callers old NotMars new cut text idle works outcome = idle _ _ _ outcome
+outcome_gives P spares Works looks callers old (BadShape which given) new cut text idle works outcome = idle _ _ _ outcome
+outcome_gives P spares Works looks callers old (Refused refusal) new cut text idle works outcome = idle _ _ _ outcome.1
+outcome_gives P spares Works looks callers old (BadFrame n) new cut text idle works outcome = idle _ _ _ outcome.1
+outcome_gives P spares Works looks callers old (Gap expected got) new cut text idle works outcome = idle _ _ _ outcome.1
 
 module _ (tells : Bool) (told : IsTrue tells) (old new : View) (counts_now : (t : ℕ) (image : List ℕ) → IsTrue tells → t ≤ new.moment → MayLeave new.content image → new.left_since t image) (shape : Shape) where
   module _ (all : AllOpen shape old.content) where
@@ -131,12 +131,12 @@ module _ (tells : Bool) (told : IsTrue tells) (old new : View) (counts_now : (t 
 
     pub next_followed : (status : Status) (input : List ℕ) (cut : Bool) (text : List ℕ) → OutcomeFor Follow (λ place. Unit {0}) old status new input cut text → AllOpen shape new.content
     next_followed status input cut text outcome = ⊎_elim
-        (λ unopened. outcome_gives (AllOpen shape new.content) true (λ ended. ⊥) (λ page. ⊥) ⊥ ⊥ old status new cut text (idle_open cut text) (λ ended none. absurd none) unopened)
+        (λ unopened. outcome_gives (AllOpen shape new.content) true (λ ended. ⊥) false 0 old status new cut text (idle_open cut text) (λ ended none. absurd none) unopened)
         (λ ran. followed_open input cut text ran.0 ran.2) outcome
 
     pub next_open : (given : EawOptions) (status : Status) (input : List ℕ) (cut : Bool) (text : List ℕ) → OutcomeFor (Eaw given) (λ place. Unit {0}) old status new input cut text → AllOpen shape new.content
     next_open given status input cut text outcome =
-        outcome_gives (AllOpen shape new.content) true (λ ended. ObeysAs given.frames old input ended new cut text) (λ page. ⊥) ⊥ ⊥ old status new cut text (idle_open cut text) (obeyed_as given.frames input cut text) outcome
+        outcome_gives (AllOpen shape new.content) true (λ ended. ObeysAs given.frames old input ended new cut text) false 0 old status new cut text (idle_open cut text) (obeyed_as given.frames input cut text) outcome
 
   module _ (form : ℕ) (sound : AllSound shape form old.content)
       (in_two : (form : ℕ) (bytes : List ℕ) → (index_of_form form).sound bytes → length bytes < 2 ^ 32 → (index_of_form form).sound (upgraded bytes)) where
@@ -165,9 +165,9 @@ module _ (tells : Bool) (told : IsTrue tells) (old new : View) (counts_now : (t 
         )
 
     records_sound : (spares : Bool) (callers : ℕ) (Works : Ended → Type 0) (status : Status) (cut : Bool) (text : List ℕ) → ((ended : Ended) → Works ended → AllSound shape form new.content)
-        → OverRecords spares callers Works old status new cut text → AllSound shape form new.content
+        → OutcomeOf spares true callers Works old status new cut text → AllSound shape form new.content
     records_sound spares callers Works status cut text works outcome =
-        outcome_gives (AllSound shape form new.content) spares Works (λ page. IsDamaged old page × (Exceeds callers old → ⊥)) (HoldsArray old × (Exceeds callers old → ⊥)) (Exceeds callers old) old status new cut text
+        outcome_gives (AllSound shape form new.content) spares Works true callers old status new cut text
         (idle_sound cut text) works outcome
 
     -- and so are those in which a table was to be made

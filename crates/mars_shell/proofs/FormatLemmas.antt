@@ -1,5 +1,5 @@
 -- Making a fresh array: what might have been left since the entry, and its status.
-use Rattle.std.proofs.Common.{◌≡◌, ℕ, inl, ⊎_elim, List, Bool, refl, subst, arith}
+use Rattle.std.proofs.Common.{◌≡◌, ◌⊎◌, ℕ, inl, inr, ⊎_elim, List, Bool, refl, subst, arith}
 use Rattle.std.specs.Prelude.{IsTrue}
 use Rattle.pcm_media.specs.Images.{MayLeave}
 use Rattle.pcm_media.specs.View.{View, LeavesOnly}
@@ -8,7 +8,7 @@ use Rattle.eaw_device.specs.Made.{IsOldOrNew}
 use Rattle.command_words.specs.declared.words.FormatNumbers.{FormatNumbers}
 use Rattle.mars_shell.specs.Formats.{FormatSays}
 use Rattle.array_runs.specs.declared.status.Status.{Status}
-use Rattle.array_runs.specs.declared.status.Status.TheVariants.{Usage}
+use Rattle.array_runs.specs.declared.status.Status.TheVariants.{Usage, MediaFault, NoMemory}
 
 -- since the entry
 pub old_or_new : (tells : Bool) (told : IsTrue tells) (shape : Shape) (said : ℕ → List ℕ) (old new : View)
@@ -20,3 +20,10 @@ old_or_new tells told shape said old new only_now time image left =
 -- words that ask for a format do not ask for nothing
 pub no_usage : (asked : FormatNumbers) (size : ℕ) (status : Status) (Untold Untouched : Type 0) → FormatSays asked size status Untold Untouched → status ≡ Usage → ⊥
 no_usage asked size status Untold Untouched says is = subst (λ (s : Status). FormatSays asked size s Untold Untouched) is says
+
+-- a format that ends before its text has told nothing
+pub format_untold : (asked : FormatNumbers) (size : ℕ) (status : Status) (Untold Untouched : Type 0) → FormatSays asked size status Untold Untouched → (status ≡ MediaFault) ⊎ (status ≡ NoMemory) → Untold
+format_untold asked size status Untold Untouched says (inl is) =
+    let failed : FormatSays asked size MediaFault Untold Untouched = subst (λ (s : Status). FormatSays asked size s Untold Untouched) is says in
+    failed.1
+format_untold asked size status Untold Untouched says (inr is) = absurd (subst (λ (s : Status). FormatSays asked size s Untold Untouched) is says)

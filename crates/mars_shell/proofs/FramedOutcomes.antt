@@ -8,7 +8,8 @@ use Rattle.eaw_device.specs.Opens.{Opens, KeepsData, Attached, HoldsArray}
 use Rattle.mars_core.specs.declared.fault.CoreFault.{CoreFault}
 use Rattle.script_run.specs.declared.ended.Ended.{Ended}
 use Rattle.array_runs.specs.Forms.{index_at}
-use Rattle.array_runs.specs.Records.{begun_on, IsDamaged, Exceeds, OverRecords}
+use Rattle.array_runs.specs.Outcome.{OutcomeOf}
+use Rattle.array_runs.specs.Records.{begun_on}
 use Rattle.array_runs.specs.Statuses.{served_status}
 use Rattle.array_runs.specs.declared.status.Status.{Status}
 use Rattle.array_runs.proofs.Opened.{array}
@@ -25,12 +26,11 @@ pub framed_outcome : (tells : Bool) (told : IsTrue tells) (old : View) (only_now
     (depth : ℕ) (limit : store.depth ≡ depth) (later : StoreView) (new : View) (handed : IsHandedBack tells depth later new) (counts_now : (t : ℕ) (image : List ℕ) → IsTrue tells → t ≤ new.moment → MayLeave new.content image → new.left_since t image)
     (input : List ℕ) (cut : Bool) (text : List ℕ) (result : Result Ended CoreFault)
     → Serves (says_framed (index_at store.state.bytes) store input cut text) Opens (index_at store.state.bytes) store result cut text later
-    → OverRecords false 0 (λ ended. RunsAs true depth input cut text old ended new) old (served_status result) new cut text
+    → OutcomeOf false true 0 (λ ended. RunsAs true depth input cut text old ended new) old (served_status result) new cut text
 framed_outcome tells told old only_now store attached keeps depth limit later new handed counts_now input cut text result served =
     let Does = says_framed (index_at store.state.bytes) store input cut text in
     let outcome = records_outcome tells told old only_now store attached keeps depth limit later new handed counts_now 0 (omega arith) Does result cut text served in
-    outcome_as false (λ ended. TakesTurns depth (Does ended) old ended new) (λ ended. RunsAs true depth input cut text old ended new) (λ page. IsDamaged old page × (Exceeds 0 old → ⊥))
-    (HoldsArray old × (Exceeds 0 old → ⊥)) (Exceeds 0 old) old (served_status result) new cut text
+    outcome_as false (λ ended. TakesTurns depth (Does ended) old ended new) (λ ended. RunsAs true depth input cut text old ended new) true 0 old (served_status result) new cut text
     (λ ended taken. (
       store.shape,
       array tells told old only_now store attached keeps,
@@ -38,9 +38,9 @@ framed_outcome tells told old only_now store attached keeps depth limit later ne
     )) outcome
 
 -- the work was not begun
-pub framed_none : (depth : ℕ) (input : List ℕ) (old : View) (status : Status) (new : View) (cut : Bool) (text : List ℕ) → OverRecords true 0 (λ none. ⊥) old status new cut text
-    → OverRecords false 0 (λ ended. RunsAs true depth input cut text old ended new) old status new cut text
+pub framed_none : (depth : ℕ) (input : List ℕ) (old : View) (status : Status) (new : View) (cut : Bool) (text : List ℕ) → OutcomeOf true true 0 (λ none. ⊥) old status new cut text
+    → OutcomeOf false true 0 (λ ended. RunsAs true depth input cut text old ended new) old status new cut text
 framed_none depth input old status new cut text outcome =
-    let none = outcome_spared false (λ none. ⊥) (λ page. IsDamaged old page × (Exceeds 0 old → ⊥)) (HoldsArray old × (Exceeds 0 old → ⊥)) (Exceeds 0 old) old status new cut text outcome in
-    outcome_as false (λ none. ⊥) (λ ended. RunsAs true depth input cut text old ended new) (λ page. IsDamaged old page × (Exceeds 0 old → ⊥)) (HoldsArray old × (Exceeds 0 old → ⊥)) (Exceeds 0 old)
+    let none = outcome_spared false (λ none. ⊥) true 0 old status new cut text outcome in
+    outcome_as false (λ none. ⊥) (λ ended. RunsAs true depth input cut text old ended new) true 0
     old status new cut text (λ ended none. absurd none) none

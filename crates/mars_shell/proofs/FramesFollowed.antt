@@ -2,6 +2,7 @@
 use Rattle.array_image.specs.Decided.{settled_data}
 use Rattle.std.proofs.Common.{◌≡◌, ℕ, ◌≤◌, ◌⊎◌, inl, inr, ⊎_elim, List, length, Bool, true, false, refl, sym, ap, subst, ◌∙◌, arith}
 use Rattle.std.specs.Prelude.{IsTrue}
+use Rattle.std.proofs.lemmas.Bool.{false≢true}
 use Rattle.mars_base.specs.Causes.{Rose}
 use Rattle.pcm_media.specs.Images.{MayLeave}
 use Rattle.pcm_media.specs.View.{View}
@@ -116,6 +117,6 @@ module _ (old new : View) (input : List ℕ) (cut : Bool) (text : List ℕ) (giv
   pub complete_follow : (status : Status) → Counts status s s' k k' m m' → InputSays status given left → OutcomeFor Follow (λ place. Unit {0}) old status new input cut text → IsComplete Follow status
   complete_follow status counts says outcome = ⊎_elim
       (λ unopened. ⊎_elim (λ good. inl good) (λ none. inr (inl none))
-      (complete_of true (λ ended. ⊥) (λ page. ⊥) ⊥ ⊥ old new cut text given left s s' k k' m m' short shape is_array (λ page is. is) (λ is. is) no_source no_sink no_media status counts says unopened))
+      (complete_of true (λ ended. ⊥) false 0 old new cut text given left s s' k k' m m' short shape is_array (λ looks page is. absurd (false≢true looks)) (λ is. absurd (omega (arith, is.2))) no_source no_sink no_media status counts says unopened))
       (λ ran. subst (IsComplete Follow) (sym ran.1) (followed_so ran.0 (subst (λ (x : Status). Counts x s s' k k' m m') ran.1 counts)))
       outcome

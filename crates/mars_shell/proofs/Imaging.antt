@@ -28,7 +28,7 @@ use Rattle.script_run.specs.declared.ended.Ended.{Ended}
 use Rattle.script_run.specs.declared.ended.Ended.TheVariants as script
 use Rattle.array_runs.specs.Forms.{index_of_form, index_at, index_in}
 use Rattle.array_runs.specs.Outcome.{Idle, OpensInTwo}
-use Rattle.array_runs.specs.Records.{IsDamaged, Exceeds, OverRecords}
+use Rattle.array_runs.specs.Outcome.{OutcomeOf}
 use Rattle.array_runs.specs.declared.status.Refusal.{Refusal}
 use Rattle.array_runs.specs.declared.status.Status.{Status}
 use Rattle.array_runs.specs.declared.status.Status.TheVariants.{Good, WriteFault, Refused}
@@ -45,7 +45,7 @@ use Rattle.mars_shell.specs.Formats.{HasAsked, IsFormatted, FormatOutcome}
 use Rattle.mars_shell.specs.FramedRun.{RunsAs}
 use Rattle.mars_shell.specs.Joint.{JointWork}
 use Rattle.mars_shell.specs.Late.{depth_of}
-use Rattle.mars_shell.specs.Next.{AllSound, IsOf, AllAreOf, IsOfPrefix, IsOfRecords, ChangesNone, MayName, records_on}
+use Rattle.mars_shell.specs.Next.{AllSound, IsOf, AllAreOf, IsOfPrefix, LeavesOf, records_on}
 use Rattle.mars_shell.specs.PrefixLaw.{PrefixLaw, Recovers}
 use Rattle.mars_shell.specs.Run.{TakesTurns}
 use Rattle.array_runs.proofs.Short.{data_short}
@@ -201,9 +201,9 @@ module _ (old : View) (shape : Shape) (form : ℕ) (names : List (List ℕ)) (ta
           let same = this_shape at says in
           subst Said same (since (subst (λ (s : Shape). AllOpen s old.content) (sym same) (all_open old shape form all_sound)))
 
-      -- the tables that a command leaves of those that there were, and the records
-      abbrev HasTables : Words → Type 0
-      HasTables asked = (called : List (List ℕ)) × MayName asked names called × IsOf shape form called table image
+      -- what a command leaves of the tables and the records that there were
+      abbrev Has : Words → Type 0
+      Has asked = LeavesOf asked shape form names table image
 
       -- work that leaves images of one kind, or such as were there
       worked : (P : Type 0) → (IsOf shape form names table image → P) → (Is : Shape → Type 0) → (Is shape → P) → (at : Shape) (Of : List ℕ → Type 0) → (Of image → Is at) → WorksOn at Of old new → P
@@ -213,24 +213,24 @@ module _ (old : View) (shape : Shape) (form : ℕ) (names : List (List ℕ)) (ta
           (λ all. ⊎_elim (λ opens. inl opens) (λ is. inr (of is)) (works.since all image left)) in
           ⊎_elim (λ opens. as_before (like image opens)) gives seen
 
-      dumped : (cut : Bool) (text : List ℕ) (ended : Ended) → DumpsRecords old new cut text ended → HasTables Dump
-      dumped cut text ended dumps = worked (HasTables Dump) (λ of. (names, refl, of)) (λ s. ⊥) (λ none. absurd none) dumps.shape (λ i. ⊥) (λ none. none) dumps.works
+      dumped : (cut : Bool) (text : List ℕ) (ended : Ended) → DumpsRecords old new cut text ended → Has Dump
+      dumped cut text ended dumps = worked (Has Dump) (λ of. of) (λ s. ⊥) (λ none. absurd none) dumps.shape (λ i. ⊥) (λ none. none) dumps.works
 
-      tried : (name : List ℕ) (at : Shape) → Tries name at old new → HasTables (Make name)
-      tried name at tries = worked (HasTables (Make name)) (λ of. (names, inl refl, of)) (λ (s : Shape). HasRecords s old (names_on s old) image ⊎ HasRecords s old (names_on s old ++ name ∷ []) image)
-          (λ either. ⊎_elim (λ has. (names, inl refl, with_own image has)) (λ has. (names ++ name ∷ [], inr refl, with_more name image has)) either) at
+      tried : (name : List ℕ) (at : Shape) → Tries name at old new → Has (Make name)
+      tried name at tries = worked (Has (Make name)) (λ of. inl of) (λ (s : Shape). HasRecords s old (names_on s old) image ⊎ HasRecords s old (names_on s old ++ name ∷ []) image)
+          (λ either. ⊎_elim (λ has. inl (with_own image has)) (λ has. inr (with_more name image has)) either) at
           (λ (i : List ℕ). HasRecords at old (names_on at old) i ⊎ HasRecords at old (names_on at old ++ name ∷ []) i) (λ either. either) tries
 
-      made_by : (name : List ℕ) (cut : Bool) (text : List ℕ) (ended : Ended) → ByEnd (λ shape. Tries name shape old new) (MakesTable name old new cut text) cut text ended → HasTables (Make name)
+      made_by : (name : List ℕ) (cut : Bool) (text : List ℕ) (ended : Ended) → ByEnd (λ shape. Tries name shape old new) (MakesTable name old new cut text) cut text ended → Has (Make name)
       made_by name cut text script.All makes = tried name makes.shape makes.tries
       made_by name cut text script.WriteFault makes = tried name makes.shape makes.tries
       made_by name cut text script.MediaFault makes = tried name makes.1.0 makes.1.1
       made_by name cut text script.NoMemory makes = absurd makes
 
-      cleared : (at : Shape) → WorksOn at (HasRecords at old (names_on at old)) old new → HasTables Purge
-      cleared at clears = worked (HasTables Purge) (λ of. (names, refl, of)) (λ (s : Shape). HasRecords s old (names_on s old) image) (λ has. (names, refl, with_own image has)) at (HasRecords at old (names_on at old)) (λ has. has) clears
+      cleared : (at : Shape) → WorksOn at (HasRecords at old (names_on at old)) old new → Has Purge
+      cleared at clears = worked (Has Purge) (λ of. of) (λ (s : Shape). HasRecords s old (names_on s old) image) (λ has. with_own image has) at (HasRecords at old (names_on at old)) (λ has. has) clears
 
-      purged_by : (cut : Bool) (text : List ℕ) (ended : Ended) → ByEnd (λ shape. WorksOn shape (HasRecords shape old (names_on shape old)) old new) (PurgesRecords old new cut text) cut text ended → HasTables Purge
+      purged_by : (cut : Bool) (text : List ℕ) (ended : Ended) → ByEnd (λ shape. WorksOn shape (HasRecords shape old (names_on shape old)) old new) (PurgesRecords old new cut text) cut text ended → Has Purge
       purged_by cut text script.All purged = cleared purged.shape purged.works
       purged_by cut text script.WriteFault purged = cleared purged.shape purged.works
       purged_by cut text script.MediaFault purged = cleared purged.1.0 purged.1.1
@@ -238,31 +238,17 @@ module _ (old : View) (shape : Shape) (form : ℕ) (names : List (List ℕ)) (ta
 
       -- an array over whose records work was done
       over : (P : Type 0) → (IsOf shape form names table image → P) → (spares : Bool) (callers : ℕ) (Works : Ended → Type 0) (status : Status) (cut : Bool) (text : List ℕ) → ((ended : Ended) → Works ended → P)
-          → OverRecords spares callers Works old status new cut text → P
+          → OutcomeOf spares true callers Works old status new cut text → P
       over P as_before spares callers Works status cut text works outcome =
-          outcome_gives P spares Works (λ page. IsDamaged old page × (Exceeds callers old → ⊥)) (HoldsArray old × (Exceeds callers old → ⊥)) (Exceeds callers old) old status new cut text
+          outcome_gives P spares Works true callers old status new cut text
           (λ spared MayWrite Cause none. as_before (idle cut text spared MayWrite Cause none)) works outcome
-
-      pub unchanged : (Knows : Place → Type 0) (asked : Words) (status : Status) (input : List ℕ) (cut : Bool) (text : List ℕ) → ChangesNone asked → OutcomeFor asked Knows old status new input cut text
-          → (called : List (List ℕ)) × MayName asked names called × IsOf shape form called table image
-      unchanged Knows Dump status input cut text none outcome = over (HasTables Dump) (λ of. (names, refl, of)) true 0 (DumpsRecords old new cut text) status cut text (dumped cut text) outcome
-      unchanged Knows (Make name) status input cut text none outcome = ⊎_elim
-          (λ over-it. over (HasTables (Make name)) (λ of. (names, inl refl, of)) true 0 (ByEnd (λ shape. Tries name shape old new) (MakesTable name old new cut text) cut text) status cut text (made_by name cut text) over-it)
-          (λ refused. tried name refused.2.shape refused.2.tries) outcome
-      unchanged Knows Purge status input cut text none outcome = over (HasTables Purge) (λ of. (names, refl, of)) false 0 (ByEnd (λ shape. WorksOn shape (HasRecords shape old (names_on shape old)) old new) (PurgesRecords old new cut text) cut text) status cut text (purged_by cut text) outcome
-      unchanged Knows (Run given) status input cut text none outcome = absurd none
-      unchanged Knows (Callers numbers) status input cut text none outcome = absurd none
-      unchanged Knows (Drill numbers) status input cut text none outcome = absurd none
-      unchanged Knows (Eaw given) status input cut text none outcome = absurd none
-      unchanged Knows Follow status input cut text none outcome = absurd none
-      unchanged Knows (Format numbers) status input cut text none outcome = absurd none
 
       -- the same tables, and some records
       abbrev HasSome : Type 0
-      HasSome = (called : List (List ℕ)) × (called ≡ names) × (records : Table) × IsOf shape form called records image
+      HasSome = (records : Table) × IsOf shape form names records image
 
       as_before : IsOf shape form names table image → HasSome
-      as_before of = (names, refl, table, of)
+      as_before of = (table, of)
 
       turned : (depth : ℕ) (Says : Limits → List Turn → State → Type 0) (ended : Ended) → TakesTurns depth Says old ended new → HasSome
       turned depth Says ended taken =
@@ -270,24 +256,30 @@ module _ (old : View) (shape : Shape) (form : ℕ) (names : List (List ℕ)) (ta
           = in_shape (λ (s : Shape). OpensLike s old.content image ⊎ Recovers s (index_in s old) taken.final 0 image) taken.shape taken.holds.array.header (λ all. taken.prefix_law.since all image left) in
           let same = this_shape taken.shape taken.holds.array.header in
           ⊎_elim (λ opens. as_before (like image opens))
-          (λ recovers. (taken.final.names, names_left (index_in taken.shape old) taken.shape depth (settled_data taken.shape old.content.bytes) taken.turns taken.final taken.runs ∙ ap (λ (s : Shape). names_on s old) same ∙ reads.0, _, own taken.final.names _ image recovers.opens.0)) seen
+          (λ recovers. (
+            _,
+            subst (λ (called : List (List ℕ)). IsOf shape form called _ image)
+                (names_left (index_in taken.shape old) taken.shape depth (settled_data taken.shape old.content.bytes) taken.turns taken.final taken.runs ∙ ap (λ (s : Shape). names_on s old) same ∙ reads.0)
+                (own taken.final.names _ image recovers.opens.0),
+          )) seen
 
       run_by : (frames : Bool) (depth : ℕ) (input : List ℕ) (cut : Bool) (text : List ℕ) (ended : Ended) → RunsAs frames depth input cut text old ended new → HasSome
       run_by true depth input cut text ended framed = turned depth _ ended framed.2
       run_by false depth input cut text ended taken = turned depth _ ended taken
 
-      pub some : (Knows : Place → Type 0) (asked : Words) (status : Status) (input : List ℕ) (cut : Bool) (text : List ℕ) → IsOfRecords asked → OutcomeFor asked Knows old status new input cut text
-          → (called : List (List ℕ)) × MayName asked names called × (records : Table) × IsOf shape form called records image
-      some Knows (Run given) status input cut text of outcome = over HasSome as_before false 0 (λ ended. RunsAs given.frames (depth_of given.writing) input cut text old ended new) status cut text
+      pub leaves : (Knows : Place → Type 0) (asked : Words) (status : Status) (input : List ℕ) (cut : Bool) (text : List ℕ) → OutcomeFor asked Knows old status new input cut text → LeavesOf asked shape form names table image
+      leaves Knows (Run given) status input cut text outcome = over HasSome as_before false 0 (λ ended. RunsAs given.frames (depth_of given.writing) input cut text old ended new) status cut text
           (λ ended taken. run_by given.frames (depth_of given.writing) input cut text ended taken) outcome
-      some Knows (Callers numbers) status input cut text of outcome = over HasSome as_before false (passes_for numbers.callers numbers.readers)
+      leaves Knows (Callers numbers) status input cut text outcome = over HasSome as_before false (passes_for numbers.callers numbers.readers)
           (λ ended. TakesTurns (depth_of numbers.writing) (JointWork Knows numbers.callers numbers.readers input ended cut text) old ended new) status cut text
           (λ ended taken. turned (depth_of numbers.writing) (JointWork Knows numbers.callers numbers.readers input ended cut text) ended taken) outcome
-      some Knows (Drill numbers) status input cut text of outcome = over HasSome as_before false 0 (λ ended. TakesTurns (depth_of numbers.writing) (Drills numbers ended cut text) old ended new) status cut text
+      leaves Knows (Drill numbers) status input cut text outcome = over HasSome as_before false 0 (λ ended. TakesTurns (depth_of numbers.writing) (Drills numbers ended cut text) old ended new) status cut text
           (λ ended taken. turned (depth_of numbers.writing) (Drills numbers ended cut text) ended taken) outcome
-      some Knows Dump status input cut text of outcome = let has = unchanged Knows Dump status input cut text tt outcome in (has.0, has.1, table, has.2)
-      some Knows (Make name) status input cut text of outcome = let has = unchanged Knows (Make name) status input cut text tt outcome in (has.0, has.1, table, has.2)
-      some Knows Purge status input cut text of outcome = let has = unchanged Knows Purge status input cut text tt outcome in (has.0, has.1, table, has.2)
-      some Knows (Eaw given) status input cut text of outcome = absurd of
-      some Knows Follow status input cut text of outcome = absurd of
-      some Knows (Format numbers) status input cut text of outcome = absurd of
+      leaves Knows Dump status input cut text outcome = over (Has Dump) (λ of. of) true 0 (DumpsRecords old new cut text) status cut text (dumped cut text) outcome
+      leaves Knows (Make name) status input cut text outcome = ⊎_elim
+          (λ over-it. over (Has (Make name)) (λ of. inl of) true 0 (ByEnd (λ shape. Tries name shape old new) (MakesTable name old new cut text) cut text) status cut text (made_by name cut text) over-it)
+          (λ refused. tried name refused.2.shape refused.2.tries) outcome
+      leaves Knows Purge status input cut text outcome = over (Has Purge) (λ of. of) false 0 (ByEnd (λ shape. WorksOn shape (HasRecords shape old (names_on shape old)) old new) (PurgesRecords old new cut text) cut text) status cut text (purged_by cut text) outcome
+      leaves Knows (Eaw given) status input cut text outcome = tt
+      leaves Knows Follow status input cut text outcome = tt
+      leaves Knows (Format numbers) status input cut text outcome = tt

@@ -12,7 +12,7 @@ use Rattle.mars_core.specs.declared.fault.CoreFault.{CoreFault}
 use Rattle.script_run.specs.declared.ended.Ended.{Ended}
 use Rattle.array_runs.specs.Forms.{index_at}
 use Rattle.mars_shell.specs.Run.{TakesTurns}
-use Rattle.array_runs.specs.Records.{IsDamaged, Exceeds, OverRecords}
+use Rattle.array_runs.specs.Outcome.{OutcomeOf}
 use Rattle.mars_shell.specs.Served.{Serves}
 use Rattle.array_runs.specs.Statuses.{served_status}
 use Rattle.array_runs.specs.declared.status.Status.{Status}
@@ -27,10 +27,9 @@ module _ (tells : Bool) (told : IsTrue tells) (old : View) (only_now : (image : 
   -- callers took turns, or the records were not taken
   pub records_outcome : (callers : ℕ) → callers ≤ store.shape.numbers → (Does : Ended → Limits → List Turn → State → Type 0) (result : Result Ended CoreFault) (cut : Bool) (text : List ℕ)
       → Serves Does Opens (index_at store.state.bytes) store result cut text later
-      → OverRecords false callers (λ ended. TakesTurns depth (Does ended) old ended new) old (served_status result) new cut text
+      → OutcomeOf false true callers (λ ended. TakesTurns depth (Does ended) old ended new) old (served_status result) new cut text
   records_outcome callers enough Does (Ok ended) cut text served =
-      outcome_of false (λ ended. TakesTurns depth (Does ended) old ended new) (λ page. IsDamaged old page × (Exceeds callers old → ⊥)) (HoldsArray old × (Exceeds callers old → ⊥))
-      (Exceeds callers old) old new cut text ended (takes_turns tells told old only_now store attached keeps depth limit later new handed counts_now (Does ended) ended served)
+      outcome_of false (λ ended. TakesTurns depth (Does ended) old ended new) true callers old new cut text ended (takes_turns tells told old only_now store attached keeps depth limit later new handed counts_now (Does ended) ended served)
   records_outcome callers enough Does (Err fault) cut text off = untaken_outcome tells told old only_now store attached keeps (nat_lt 0 depth) later new handed.behind
       false (λ ended. TakesTurns depth (Does ended) old ended new) callers enough fault cut text off
 
@@ -39,8 +38,8 @@ module _ (callers : ℕ) (depth : ℕ) (Does : Ended → Limits → List Turn �
   With ended = TakesTurns depth (Does ended) old ended new
 
   -- the work was not begun
-  pub turns_none : OverRecords true callers (λ none. ⊥) old status new cut text → OverRecords false callers With old status new cut text
+  pub turns_none : OutcomeOf true true callers (λ none. ⊥) old status new cut text → OutcomeOf false true callers With old status new cut text
   turns_none outcome =
-      outcome_as false (λ none. ⊥) With (λ page. IsDamaged old page × (Exceeds callers old → ⊥)) (HoldsArray old × (Exceeds callers old → ⊥)) (Exceeds callers old)
+      outcome_as false (λ none. ⊥) With true callers
       old status new cut text (λ ended none. absurd none)
-      (outcome_spared false (λ none. ⊥) (λ page. IsDamaged old page × (Exceeds callers old → ⊥)) (HoldsArray old × (Exceeds callers old → ⊥)) (Exceeds callers old) old status new cut text outcome)
+      (outcome_spared false (λ none. ⊥) true callers old status new cut text outcome)

@@ -6,7 +6,7 @@ pub use Rattle.eaw_face.specs.Causes.{IsAlive}
 pub use Rattle.texts.specs.Written.{Wrote}
 pub use Rattle.array_runs.specs.Forms.{index_at}
 pub use Rattle.array_runs.specs.Input.{InputSays}
-pub use Rattle.array_runs.specs.Records.{OverRecords}
+pub use Rattle.array_runs.specs.Outcome.{OutcomeOf}
 pub use Rattle.array_runs.specs.Statuses.{Counts, IsEarly, IsRefusal}
 pub use Rattle.mars_shell.specs.Asked.{OutcomeFor}
 pub use Rattle.mars_shell.specs.Late.{depth_of, HasDepth}

@@ -1,5 +1,5 @@
 -- What a run leaves for the next one.
-use Rattle.std.specs.Prelude.{ℕ, ◌≡◌, ◌⊎◌, List, [], ◌∷◌, ◌++◌}
+use Rattle.std.specs.Prelude.{ℕ, ◌⊎◌, List, [], ◌∷◌, ◌++◌, ⊤}
 use Rattle.history.specs.Writes.{Table}
 use Rattle.array_image.specs.Decided.{settled_data}
 use Rattle.record_table.specs.Does.{OpensNamed}
@@ -43,17 +43,17 @@ IsOfRecords (Format numbers) = ⊥
 IsOfRecords Follow = ⊥
 IsOfRecords asked = Unit {0}
 
--- they ask for a command that changes no record
-abbrev pub ChangesNone : Words → Type 0
-ChangesNone Dump = Unit {0}
-ChangesNone (Make name) = Unit {0}
-ChangesNone Purge = Unit {0}
-ChangesNone asked = ⊥
-
--- The tables that a command leaves of those that there were: the same, or, where one is asked to be made, also the same and that one.
-abbrev pub MayName : Words → List (List ℕ) → List (List ℕ) → Type 0
-MayName (Make name) names left = (left ≡ names) ⊎ (left ≡ names ++ name ∷ [])
-MayName asked names left = left ≡ names
+-- What an image is of, if a command over an array with these tables and these records might have left it. The tables are the same, or, where
+-- one is asked to be made, also the same and that one. A dump, a purge and the making of a table leave the records, and others some. Nothing is
+-- said of commands that work without records, and of a format.
+abbrev pub LeavesOf : Words → Shape → ℕ → List (List ℕ) → Table → List ℕ → Type 0
+LeavesOf (Eaw given) shape form names table image = ⊤
+LeavesOf Follow shape form names table image = ⊤
+LeavesOf (Format numbers) shape form names table image = ⊤
+LeavesOf (Make name) shape form names table image = IsOf shape form names table image ⊎ IsOf shape form (names ++ name ∷ []) table image
+LeavesOf Dump shape form names table image = IsOf shape form names table image
+LeavesOf Purge shape form names table image = IsOf shape form names table image
+LeavesOf asked shape form names table image = (records : Table) × IsOf shape form names records image
 
 -- an array of the numbers asked for, whatever a loss of power leaves, with a sound tree
 abbrev pub LeavesFresh : FormatNumbers → Content → Type 0

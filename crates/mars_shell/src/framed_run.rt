@@ -1,6 +1,6 @@
 // The lines of callers over the records of an array, with the frames that it sends.
 ghost use Rattle.std.specs.Prelude.{◌≡◌, ℕ, List, None, false, true, IsTrue, IfErr};
-ghost use Rattle.mars_shell.specs.Contract.{IsAlive, Wrote, index_at, InputSays, OverRecords, Counts, depth_of, HasDepth, Serves, ServedCounts, Spares};
+ghost use Rattle.mars_shell.specs.Contract.{IsAlive, Wrote, index_at, InputSays, OutcomeOf, Counts, depth_of, HasDepth, Serves, ServedCounts, Spares};
 ghost use Rattle.mars_shell.specs.FramedRun.{RunsAs, says_framed};
 
 use crate::late::depth_of;
@@ -38,7 +38,7 @@ pub(crate) fn run_framed<S: Source, K: Sink, M: Media + Drop + Send, D: Depth + 
     ensures steady { IsTrue (S.steady source.old) → result.0 ≡ Status.ReadFault → ⊥ }
     ensures input { IsTrue S.tells → InputSays result.0 (S.left source.old) (S.left source.new) }
     ensures ran { Wrote K.tells (K.written sink.old) (K.written sink.new) (K.faults sink.old) (K.faults sink.new)
-        (λ cut text. (input : List ℕ) × (IsTrue S.tells → S.left source.old ≡ input) × (IsTrue M.tells → OverRecords false 0
+        (λ cut text. (input : List ℕ) × (IsTrue S.tells → S.left source.old ≡ input) × (IsTrue M.tells → OutcomeOf false true 0
         (λ ended. RunsAs true (depth_of writing) input cut text (M.view media) ended (M.view result.1)) (M.view media) result.0 (M.view result.1) cut text)) }
 {
     let depth = depth_of(writing);

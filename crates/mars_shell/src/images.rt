@@ -14,7 +14,7 @@ ghost use Rattle.array_runs.specs.Outcome.{OpensInTwo};
 ghost use Rattle.array_runs.specs.declared.status.Status.{Status};
 ghost use Rattle.mars_shell.specs.Asked.{OutcomeFor};
 ghost use Rattle.mars_shell.specs.Formats.{FormatOutcome, HasAsked};
-ghost use Rattle.mars_shell.specs.Next.{IsOf, AllAreOf, IsOfPrefix, IsOfRecords, ChangesNone, MayName, records_on};
+ghost use Rattle.mars_shell.specs.Next.{IsOf, AllAreOf, IsOfPrefix, LeavesOf, records_on};
 ghost use Rattle.mars_shell.specs.PrefixLaw.{PrefixLaw};
 ghost use Rattle.told_commands.specs.Told.{names_on};
 
@@ -47,17 +47,13 @@ pub fn what_images_hold<M: Media, G: Gate>()
         → PrefixLaw shape (M.view old) final (M.view new) → (image : List ℕ) → MayLeave (M.view new).content image → IsOfPrefix shape form final (length final.history) image }
     ensures kept { (old : M) (shape : Shape) (form : ℕ) (names : List (List ℕ)) (table : Table) → AllAreOf shape form names table (M.view old).content → (image : List ℕ)
         → OpensLike shape (M.view old).content image ⊎ OpensInTwo shape (M.view old).content image → IsOf shape form names table image }
-    ensures unchanged { (old : M) (shape : Shape) (form : ℕ) (names : List (List ℕ)) (table : Table) → AllAreOf shape form names table (M.view old).content
-        → (new : M) (image : List ℕ) → (M.view new).left_since (M.view old).moment image
-        → (gate : G) (asked : Words) (status : Status) (input : List ℕ) (cut : Bool) (text : List ℕ) → ChangesNone asked → OutcomeFor asked (G.told gate) (M.view old) status (M.view new) input cut text
-        → (left : List (List ℕ)) × MayName asked names left × IsOf shape form left table image }
     ensures named { (old : M) (shape : Shape) (form : ℕ) (names : List (List ℕ)) (table : Table) → AllAreOf shape form names table (M.view old).content
         → (new : M) (name : List ℕ) (status : Status) (input : List ℕ) (cut : Bool) (text : List ℕ) → (status ≡ Status.Good) ⊎ (status ≡ Status.WriteFault)
         → OutcomeFor (Make name) (λ place. Unit {0}) (M.view old) status (M.view new) input cut text → AllAreOf shape form (names ++ name ∷ []) table (M.view new).content }
-    ensures some { (old : M) (shape : Shape) (form : ℕ) (names : List (List ℕ)) (table : Table) → AllAreOf shape form names table (M.view old).content
+    ensures leaves { (old : M) (shape : Shape) (form : ℕ) (names : List (List ℕ)) (table : Table) → AllAreOf shape form names table (M.view old).content
         → (new : M) (image : List ℕ) → (M.view new).left_since (M.view old).moment image
-        → (gate : G) (asked : Words) (status : Status) (input : List ℕ) (cut : Bool) (text : List ℕ) → IsOfRecords asked → OutcomeFor asked (G.told gate) (M.view old) status (M.view new) input cut text
-        → (left : List (List ℕ)) × MayName asked names left × (records : Table) × IsOf shape form left records image }
+        → (gate : G) (asked : Words) (status : Status) (input : List ℕ) (cut : Bool) (text : List ℕ) → OutcomeFor asked (G.told gate) (M.view old) status (M.view new) input cut text
+        → LeavesOf asked shape form names table image }
 {
     version_two_keeps::<KeyList>();
     version_two_keeps::<BTreePages>();

@@ -1,6 +1,6 @@
 // Work over the records of the array that a medium holds.
 ghost use Rattle.std.specs.Prelude.{◌≡◌, ◌⊎◌, ℕ, List, None, false, IsTrue, IsFalse, IfOk, IfErr};
-ghost use Rattle.mars_shell.specs.Contract.{IsAlive, Wrote, index_at, InputSays, OverRecords, Counts, IsEarly, IsRefusal, depth_of, HasDepth, Serves, ServedCounts};
+ghost use Rattle.mars_shell.specs.Contract.{IsAlive, Wrote, index_at, InputSays, OutcomeOf, Counts, IsEarly, IsRefusal, depth_of, HasDepth, Serves, ServedCounts};
 ghost use Rattle.mars_shell.specs.OnCore.{RanOut};
 ghost use Rattle.mars_shell.specs.Run.{TakesTurns};
 
@@ -43,7 +43,7 @@ pub fn over_records<
     ensures input { IsTrue W.reads → IsTrue S.tells → InputSays result.0 (S.left source.old) (S.left source.new) }
     ensures unread { IsFalse W.reads → source.new ≡ source.old }
     ensures ran { Wrote K.tells (K.written sink.old) (K.written sink.new) (K.faults sink.old) (K.faults sink.new)
-        (λ cut text. (input : List ℕ) × (IsTrue W.reads → IsTrue S.tells → S.left source.old ≡ input) × (IsTrue M.tells → OverRecords false 0
+        (λ cut text. (input : List ℕ) × (IsTrue W.reads → IsTrue S.tells → S.left source.old ≡ input) × (IsTrue M.tells → OutcomeOf false true 0
         (λ ended. TakesTurns (depth_of writing) (W.does work.now input ended cut text) (M.view media) ended (M.view result.1))
         (M.view media) result.0 (M.view result.1) cut text)) }
 {

@@ -2,9 +2,10 @@
 ghost use Rattle.std.specs.Prelude.{◌≡◌, ◌⊎◌, ℕ, List, map, IsTrue, string_bytes};
 ghost use Rattle.mars_base.specs.Causes.{Rose};
 ghost use Rattle.texts.specs.Written.{Wrote};
-ghost use Rattle.command_words.specs.Asked.{AskForNothing, AsksFor};
+ghost use Rattle.command_words.specs.Asked.{AsksFor};
 ghost use Rattle.command_words.specs.declared.words.CallersNumbers.{CallersNumbers};
 ghost use Rattle.command_words.specs.declared.words.FormatNumbers.{FormatNumbers};
+ghost use Rattle.command_words.specs.declared.words.Words.{Words};
 ghost use Rattle.command_words.specs.declared.words.Words.TheVariants.{Callers, Format};
 ghost use Rattle.mars_shell.specs.Asked.{WordsSay, IfReads, OutcomeFor, IsComplete, IsFit, TellsLate};
 ghost use Rattle.mars_shell.specs.Formats.{FormatSays};
@@ -38,7 +39,7 @@ pub fn run<
     ensures words { WordsSay (map string_bytes words.now) result.0 (Unit {0}) (λ asked. Unit {0}) }
     // If the words ask for nothing, nothing is touched. A run that ends before the medium is opened leaves the medium as it was. If no line
     // is answered and no array is made, nothing is written.
-    ensures usage { AskForNothing (map string_bytes words.now) → (source.new ≡ source.old) × (sink.new ≡ sink.old) × (result.1 ≡ media) }
+    ensures usage { ((asked : Words) → AsksFor (map string_bytes words.now) asked → ⊥) → (source.new ≡ source.old) × (sink.new ≡ sink.old) × (result.1 ≡ media) }
     ensures early { (result.0 ≡ Status.TooLong) ⊎ (result.0 ≡ Status.ReadFault) → result.1 ≡ media }
     ensures silent { IsSilent result.0 → sink.new ≡ sink.old }
     // Unless the words ask for callers, no gate is told of anything.
@@ -56,7 +57,8 @@ pub fn run<
         (source.new ≡ source.old) (IsTrue S.tells → InputSays result.0 (S.left source.old) (S.left source.new))) }
     ensures formats { WordsSay (map string_bytes words.now) result.0 ((sink.new ≡ sink.old) × (result.1 ≡ media)) (λ asked. (numbers : FormatNumbers)
         → asked ≡ Format numbers → FormatSays numbers (M.view media).size result.0 (sink.new ≡ sink.old) (result.1 ≡ media)) }
-    // A dump, a purge and the making of a table write nothing if the medium failed or memory ran out, and callers and a drill if memory did.
+    // A format, a dump, a purge and the making of a table write nothing if the medium failed or memory ran out, and callers and a drill if
+    // memory did.
     ensures untold { WordsSay (map string_bytes words.now) result.0 (sink.new ≡ sink.old) (λ asked. TellsLate asked result.0 → sink.new ≡ sink.old) }
     // What the words ask for was done, and each status has its cause. For `run` the text answers the lines of the input one by one, and for
     // `drill` it is the summary of the replies. For both the history is legal and obeys the prefix law. For `dump` the text is the records,

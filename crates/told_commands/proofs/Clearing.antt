@@ -41,7 +41,8 @@ use Rattle.texts.specs.Written.{IsWritten}
 use Rattle.script_run.specs.declared.ended.Ended.{Ended}
 use Rattle.script_run.specs.declared.ended.Ended.TheVariants as script
 use Rattle.array_runs.specs.Forms.{index_of_form, index_at, SaysForm}
-use Rattle.array_runs.specs.Records.{HoldsRecords, IsDamaged, Exceeds, OverRecords, HasAll, begun_on}
+use Rattle.array_runs.specs.Outcome.{OutcomeOf}
+use Rattle.array_runs.specs.Records.{HoldsRecords, HasAll, begun_on}
 use Rattle.told_commands.specs.Purge.{ClearsTo, ClearsStore, ClearedCounts, IsAnswer, StopCause, cleared, PurgesRecords, purged_end, LeavesPurged}
 use Rattle.told_commands.specs.Told.{ByEnd, HasRecords, names_on, WorksOn, Tells, FaultCounts, Ran}
 use Rattle.array_runs.specs.Statuses.{Counts, IsEarly, served_status}
@@ -246,11 +247,11 @@ clears_over tells Opens form old mid new says r clears = record {
 
 -- what comes of a purge
 abbrev pub PurgeOutcome : View → Status → View → Bool → List ℕ → Type 0
-PurgeOutcome old status new cut text = OverRecords false 0 (ByEnd (λ shape. WorksOn shape (HasRecords shape old (names_on shape old)) old new) (PurgesRecords old new cut text) cut text) old status new cut text
+PurgeOutcome old status new cut text = OutcomeOf false true 0 (ByEnd (λ shape. WorksOn shape (HasRecords shape old (names_on shape old)) old new) (PurgesRecords old new cut text) cut text) old status new cut text
 
 -- nothing was done
-pub as_purged : (old : View) (status : Status) (new : View) → OverRecords false 0 (λ ended. ⊥) old status new false [] → PurgeOutcome old status new false []
-as_purged old status new outcome = outcome_as false (λ ended. ⊥) (ByEnd (λ shape. WorksOn shape (HasRecords shape old (names_on shape old)) old new) (PurgesRecords old new false []) false []) (λ page. IsDamaged old page × (Exceeds 0 old → ⊥)) (HoldsArray old × (Exceeds 0 old → ⊥)) (Exceeds 0 old) old status new false []
+pub as_purged : (old : View) (status : Status) (new : View) → OutcomeOf false true 0 (λ ended. ⊥) old status new false [] → PurgeOutcome old status new false []
+as_purged old status new outcome = outcome_as false (λ ended. ⊥) (ByEnd (λ shape. WorksOn shape (HasRecords shape old (names_on shape old)) old new) (PurgesRecords old new false []) false []) true 0 old status new false []
     (λ ended none. absurd none) outcome
 
 module _ (tells : Bool) (told : IsTrue tells) (old : View) (only_now : (image : List ℕ) → IsTrue tells → old.left_since old.moment image → MayLeave old.content image)

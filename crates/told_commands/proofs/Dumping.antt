@@ -18,7 +18,8 @@ use Rattle.texts.specs.Written.{IsWritten}
 use Rattle.script_run.specs.declared.ended.Ended.{Ended}
 use Rattle.script_run.specs.declared.ended.Ended.TheVariants as script
 use Rattle.array_runs.specs.Forms.{index_of_form, index_at, SaysForm}
-use Rattle.array_runs.specs.Records.{HoldsRecords, IsDamaged, Exceeds, OverRecords}
+use Rattle.array_runs.specs.Outcome.{OutcomeOf}
+use Rattle.array_runs.specs.Records.{HoldsRecords}
 use Rattle.array_runs.specs.Statuses.{Counts, IsEarly}
 use Rattle.array_runs.specs.declared.status.Status.{Status}
 use Rattle.array_runs.specs.declared.status.Status.TheVariants.{Good, NoMemory}
@@ -31,11 +32,11 @@ use Rattle.told_commands.specs.Told.{WorksOn, Tells, Ran}
 
 -- what comes of a dump
 abbrev pub DumpOutcome : View → Status → View → Bool → List ℕ → Type 0
-DumpOutcome old status new cut text = OverRecords true 0 (DumpsRecords old new cut text) old status new cut text
+DumpOutcome old status new cut text = OutcomeOf true true 0 (DumpsRecords old new cut text) old status new cut text
 
 -- nothing was done
-pub as_dumped : (old : View) (status : Status) (new : View) → OverRecords true 0 (λ ended. ⊥) old status new false [] → DumpOutcome old status new false []
-as_dumped old status new outcome = outcome_as true (λ ended. ⊥) (DumpsRecords old new false []) (λ page. IsDamaged old page × (Exceeds 0 old → ⊥)) (HoldsArray old × (Exceeds 0 old → ⊥)) (Exceeds 0 old) old status new false []
+pub as_dumped : (old : View) (status : Status) (new : View) → OutcomeOf true true 0 (λ ended. ⊥) old status new false [] → DumpOutcome old status new false []
+as_dumped old status new outcome = outcome_as true (λ ended. ⊥) (DumpsRecords old new false []) true 0 old status new false []
     (λ ended none. absurd none) outcome
 
 module _ (tells : Bool) (told : IsTrue tells) (old : View) (store mid later : StoreView) (new : View) (ran : Ran tells old store later new) (form : ℕ) (says : SaysForm tells (Opens store.shape) form store mid) where

@@ -27,7 +27,8 @@ use Rattle.texts.specs.Written.{IsWritten}
 use Rattle.script_run.specs.declared.ended.Ended.{Ended}
 use Rattle.script_run.specs.declared.ended.Ended.TheVariants as script
 use Rattle.array_runs.specs.Forms.{index_of_form, index_at, SaysForm}
-use Rattle.array_runs.specs.Records.{HoldsRecords, IsDamaged, Exceeds, OverRecords}
+use Rattle.array_runs.specs.Outcome.{OutcomeOf}
+use Rattle.array_runs.specs.Records.{HoldsRecords}
 use Rattle.array_runs.specs.Statuses.{Counts, IsEarly}
 use Rattle.told_commands.specs.Tables.{made_status, table_line, Tries, MakesTable, RefusalCause, Refuses, made_end, LeavesTable}
 use Rattle.told_commands.specs.Told.{ByEnd, HasRecords, names_on, Tells, FaultCounts, IsStop, Ran}
@@ -43,11 +44,11 @@ use Rattle.array_runs.proofs.Statuses.{outcome_as}
 -- what comes of the making of a table
 abbrev pub MakeOutcome : List ℕ → View → Status → View → Bool → List ℕ → Type 0
 MakeOutcome name old status new cut text =
-    OverRecords true 0 (ByEnd (λ shape. Tries name shape old new) (MakesTable name old new cut text) cut text) old status new cut text ⊎ ((refusal : Refusal) × (status ≡ Refused refusal) × Refuses name refusal old new cut text)
+    OutcomeOf true true 0 (ByEnd (λ shape. Tries name shape old new) (MakesTable name old new cut text) cut text) old status new cut text ⊎ ((refusal : Refusal) × (status ≡ Refused refusal) × Refuses name refusal old new cut text)
 
 -- nothing was done, whatever the name is
-pub as_made : (name : List ℕ) (old : View) (status : Status) (new : View) → OverRecords true 0 (λ ended. ⊥) old status new false [] → MakeOutcome name old status new false []
-as_made name old status new outcome = inl (outcome_as true (λ ended. ⊥) (ByEnd (λ shape. Tries name shape old new) (MakesTable name old new false []) false []) (λ page. IsDamaged old page × (Exceeds 0 old → ⊥)) (HoldsArray old × (Exceeds 0 old → ⊥)) (Exceeds 0 old) old status new false []
+pub as_made : (name : List ℕ) (old : View) (status : Status) (new : View) → OutcomeOf true true 0 (λ ended. ⊥) old status new false [] → MakeOutcome name old status new false []
+as_made name old status new outcome = inl (outcome_as true (λ ended. ⊥) (ByEnd (λ shape. Tries name shape old new) (MakesTable name old new false []) false []) true 0 old status new false []
     (λ ended none. absurd none) outcome)
 
 module _ (tells : Bool) (told : IsTrue tells) (old : View) (only_now : (image : List ℕ) → IsTrue tells → old.left_since old.moment image → MayLeave old.content image)

@@ -11,7 +11,7 @@ use Rattle.mars_core.specs.declared.fault.CoreFault.{CoreFault}
 use Rattle.mars_core.specs.declared.fault.CoreFault.TheVariants as core
 use Rattle.script_run.specs.declared.ended.Ended.{Ended}
 use Rattle.array_runs.specs.Forms.{index_at}
-use Rattle.array_runs.specs.Records.{IsDamaged, Exceeds, OverRecords}
+use Rattle.array_runs.specs.Outcome.{OutcomeOf}
 use Rattle.array_runs.specs.Untaken.{Untaken}
 use Rattle.array_runs.specs.Statuses.{Counts, IsEarly, IsRefusal, served_status}
 use Rattle.array_runs.specs.declared.status.Status.{Status}
@@ -106,11 +106,11 @@ pub ran_of : (tells : Bool) (old : View) (store later : StoreView) (new : View) 
 ran_of tells old store later new only_now attached keeps at_once behind counts_now = record { only_now = only_now; attached = attached; keeps = keeps; at_once = at_once; behind = behind; counts_now = counts_now }
 
 -- nothing was done, whether the data is spared or not
-pub idle_over : (spares : Bool) (old : View) (status : Status) (new : View) → OverRecords true 0 (λ ended. ⊥) old status new false [] → OverRecords spares 0 (λ ended. ⊥) old status new false []
+pub idle_over : (spares : Bool) (old : View) (status : Status) (new : View) → OutcomeOf true true 0 (λ ended. ⊥) old status new false [] → OutcomeOf spares true 0 (λ ended. ⊥) old status new false []
 idle_over spares old status new outcome =
-    outcome_spared spares (λ ended. ⊥) (λ page. IsDamaged old page × (Exceeds 0 old → ⊥)) (HoldsArray old × (Exceeds 0 old → ⊥)) (Exceeds 0 old) old status new false [] outcome
+    outcome_spared spares (λ ended. ⊥) true 0 old status new false [] outcome
 
 pub untaken_over : (tells : Bool) → IsTrue tells → (old : View) (store later : StoreView) (new : View) → Ran tells old store later new → (spares : Bool) (fault : CoreFault)
-    → Untaken spares Opens (index_at store.state.bytes) store fault false [] later → (let r : Result Ended CoreFault = Err fault in OverRecords spares 0 (λ ended. ⊥) old (served_status r) new false [])
+    → Untaken spares Opens (index_at store.state.bytes) store fault false [] later → (let r : Result Ended CoreFault = Err fault in OutcomeOf spares true 0 (λ ended. ⊥) old (served_status r) new false [])
 untaken_over tells told old store later new ran spares fault off =
     untaken_outcome tells told old ran.only_now store ran.attached ran.keeps false later new ran.behind spares (λ ended. ⊥) 0 (omega arith) fault false [] off

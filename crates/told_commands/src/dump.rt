@@ -21,14 +21,14 @@ pub struct Dump;
 
 impl ToldWork for Dump {
     ghost use Rattle.std.specs.Prelude.{true};
-    ghost use Rattle.array_runs.specs.Records.{OverRecords};
+    ghost use Rattle.array_runs.specs.Outcome.{OutcomeOf};
     ghost use Rattle.told_commands.specs.Dump.{LeavesRead, DumpsRecords};
 
     ghost spares = { true };
 
     ghost leaves = { λ work. LeavesRead };
 
-    ghost comes = { λ work old status new cut text. OverRecords true 0 (DumpsRecords old new cut text) old status new cut text };
+    ghost comes = { λ work old status new cut text. OutcomeOf true true 0 (DumpsRecords old new cut text) old status new cut text };
 
     // The text is formed in full before any of it is written.
     fn work_on<S: EawStore, I: KeyIndex>(

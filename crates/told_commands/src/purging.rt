@@ -24,7 +24,7 @@ pub struct Purge;
 
 impl ToldWork for Purge {
     ghost use Rattle.std.specs.Prelude.{false};
-    ghost use Rattle.array_runs.specs.Records.{OverRecords};
+    ghost use Rattle.array_runs.specs.Outcome.{OutcomeOf};
     ghost use Rattle.told_commands.specs.Purge.{LeavesPurged, PurgesRecords};
     ghost use Rattle.told_commands.specs.Told.{ByEnd, HasRecords, names_on, WorksOn};
 
@@ -32,7 +32,7 @@ impl ToldWork for Purge {
 
     ghost leaves = { λ work. LeavesPurged };
 
-    ghost comes = { λ work old status new cut text. OverRecords false 0 (ByEnd (λ shape. WorksOn shape (HasRecords shape old (names_on shape old)) old new) (PurgesRecords old new cut text) cut text) old status new cut text };
+    ghost comes = { λ work old status new cut text. OutcomeOf false true 0 (ByEnd (λ shape. WorksOn shape (HasRecords shape old (names_on shape old)) old new) (PurgesRecords old new cut text) cut text) old status new cut text };
 
     fn work_on<S: EawStore, I: KeyIndex>(
         &self,

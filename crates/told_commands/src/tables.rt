@@ -21,7 +21,7 @@ pub struct NewTable {
 
 impl ToldWork for NewTable {
     ghost use Rattle.std.specs.Prelude.{◌≡◌, ◌⊎◌, true};
-    ghost use Rattle.array_runs.specs.Records.{OverRecords};
+    ghost use Rattle.array_runs.specs.Outcome.{OutcomeOf};
     ghost use Rattle.told_commands.specs.Told.{ByEnd};
     ghost use Rattle.array_runs.specs.declared.status.Refusal.{Refusal};
     ghost use Rattle.array_runs.specs.declared.status.Status.TheVariants.{Refused};
@@ -31,7 +31,7 @@ impl ToldWork for NewTable {
 
     ghost leaves = { λ work. LeavesTable work.name };
 
-    ghost comes = { λ work old status new cut text. OverRecords true 0 (ByEnd (λ shape. Tries work.name shape old new) (MakesTable work.name old new cut text) cut text) old status new cut text
+    ghost comes = { λ work old status new cut text. OutcomeOf true true 0 (ByEnd (λ shape. Tries work.name shape old new) (MakesTable work.name old new cut text) cut text) old status new cut text
         ⊎ ((refusal : Refusal) × (status ≡ Refused refusal) × Refuses work.name refusal old new cut text) };
 
     fn work_on<S: EawStore, I: KeyIndex>(

@@ -7,7 +7,7 @@ ghost use Rattle.eaw_face.specs.StoreView.{StoreView};
 ghost use Rattle.eaw_device.specs.Opens.{Opens};
 ghost use Rattle.page_store.specs.Index.{Index};
 ghost use Rattle.array_runs.specs.Forms.{index_of_form, SaysForm};
-ghost use Rattle.array_runs.specs.Records.{OverRecords};
+ghost use Rattle.array_runs.specs.Outcome.{OutcomeOf};
 ghost use Rattle.array_runs.specs.declared.status.Status.{Status};
 ghost use Rattle.told_commands.specs.Told.{told_bytes, said, IsStop, FaultCounts, Tells, Leaves, Ran};
 
@@ -66,7 +66,7 @@ pub trait ToldWork {
     /// What the store is left as, under the index that its data names, gives what comes of it on the medium below. If nothing was done over
     /// the records, that comes of it too.
     fn laws<S: EawStore, M: Media>(&self)
-        ensures none { (old new : M) (status : Status) → OverRecords spares 0 (λ ended. ⊥) (M.view old) status (M.view new) false [] → comes self.now (M.view old) status (M.view new) false [] }
+        ensures none { (old new : M) (status : Status) → OutcomeOf spares true 0 (λ ended. ⊥) (M.view old) status (M.view new) false [] → comes self.now (M.view old) status (M.view new) false [] }
         ensures done { (old new : M) (store mid later : S) (form : ℕ) (end : Result (List ℕ) Status) (status : Status) (cut : Bool) (text : List ℕ)
             → IsTrue M.tells → Ran M.tells (M.view old) (S.view store) (S.view later) (M.view new) → SaysForm M.tells (Opens (S.view store).shape) form (S.view store) (S.view mid)
             → leaves self.now M.tells Opens (index_of_form form) (S.view mid) end (S.view later) → Tells end status cut text → comes self.now (M.view old) status (M.view new) cut text };

@@ -1,8 +1,6 @@
 use Rattle.std.proofs.Common.{inl, refl, sym, subst, ap, ◌∙◌, arith}
 use Rattle.std.proofs.lemmas.Result.{err_from_is_err_and}
-use Rattle.eaw_device.specs.Opens.{HoldsArray}
 use Rattle.array_runs.specs.Opening.{IsUnopened}
-use Rattle.array_runs.specs.Records.{IsDamaged, Exceeds}
 use Rattle.array_runs.specs.Statuses.{IsEarly, IsRefusal}
 use Rattle.array_runs.proofs.Endings.{counts_unwritten}
 use Rattle.array_runs.proofs.Opened.{array, left_alone, opened_within}
@@ -26,7 +24,7 @@ returns-in_err-input-clause-outcome g c = λ told.
     let old = g.M.Media.view c.args.media in
     let ended = c.in_err-input.field-0.0 in
     let exit = err_from_is_err_and c.from_residual.result c.from_residual.ensures.1 in
-    rw (exit.1, exit.2) (unopened_as (λ none. ⊥) (λ page. IsDamaged old page × (Exceeds c.args.callers old → ⊥)) (HoldsArray old × (Exceeds c.args.callers old → ⊥)) (Exceeds c.args.callers old) old ended.0
+    rw (exit.1, exit.2) (unopened_as (λ none. ⊥) true c.args.callers old ended.0
     (g.M.Media.view ended.1) c.in_err-input.ensures.kind (c.in_err-input.ensures.unopened told))
 
 pub returns-in_err-input-clause-usage : goal.returns-in_err-input-clause-usage

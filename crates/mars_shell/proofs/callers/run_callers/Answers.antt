@@ -3,7 +3,7 @@ use Rattle.std.proofs.lemmas.List.{append-nil}
 use Rattle.reader_work.specs.Readership.{passes_for}
 use Rattle.mars_shell.specs.Joint.{JointWork}
 use Rattle.mars_shell.specs.Run.{TakesTurns}
-use Rattle.array_runs.specs.Records.{OverRecords}
+use Rattle.array_runs.specs.Outcome.{OutcomeOf}
 use Rattle.array_runs.specs.Statuses.{IsEarly, IsRefusal}
 use Rattle.array_runs.specs.declared.status.Status.{Status}
 use Rattle.array_runs.proofs.Endings.{served_late, served_refused, input_read}
@@ -62,7 +62,7 @@ returns-clause-ran g c =
         input,
         c.in-Ok.ensures.read refl,
         λ told.
-            subst (λ (s : Status). OverRecords false (passes_for c.args.crew.now.numbers.callers c.args.crew.now.numbers.readers) (λ ended. TakesTurns (depth_of c.args.crew.now.numbers.writing) (JointWork (g.G.Gate.told c.args.crew.now.gate.now) c.args.crew.now.numbers.callers c.args.crew.now.numbers.readers input ended said.cut said.text) old ended new) old s new said.cut said.text) (sym c.served_status.ensures)
+            subst (λ (s : Status). OutcomeOf false true (passes_for c.args.crew.now.numbers.callers c.args.crew.now.numbers.readers) (λ ended. TakesTurns (depth_of c.args.crew.now.numbers.writing) (JointWork (g.G.Gate.told c.args.crew.now.gate.now) c.args.crew.now.numbers.callers c.args.crew.now.numbers.readers input ended said.cut said.text) old ended new) old s new said.cut said.text) (sym c.served_status.ensures)
             (records_outcome media.tells told old (met.only_now c.args.media) _ c.in-Ok.ensures.attached c.in-Ok.ensures.keeps (depth_of c.args.crew.now.numbers.writing) (c.in-Ok.ensures.limit ∙ c.depth_of-depth.ensures.depth) _ new (handed_back c.args.crew.now.numbers.writing _ _ c.requires.of_type _ _ _ c.into_media.ensures.behind _ c.into_media.ensures.most c.into_media.ensures.counted) (met.counts_now c.into_media.result)
             (passes_for c.args.crew.now.numbers.callers c.args.crew.now.numbers.readers) (rw c.passes_for-passes.ensures at c.in-Ok.ensures.enough) (λ ended. JointWork (g.G.Gate.told c.args.crew.now.gate.now) c.args.crew.now.numbers.callers c.args.crew.now.numbers.readers input ended said.cut said.text) c.serve_jointly-served.result.0 said.cut said.text (rw c.deref.ensures.value at (said.holds told))),
       );

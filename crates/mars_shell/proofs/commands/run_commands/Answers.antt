@@ -23,7 +23,7 @@ returns-in-Err-clause-ran g c =
       text = [];
       wrote = λ _. sym (append-nil _);
       counts = refl;
-      holds = (input, (λ _. refl), λ told. unopened_as (λ ended. ObeysAs c.args.options.frames old input ended new false []) (λ page. ⊥) ⊥ ⊥ old c.in-Err.ended.0 new c.in-Err.ensures.kind (c.in-Err.ensures.unopened told));
+      holds = (input, (λ _. refl), λ told. unopened_as (λ ended. ObeysAs c.args.options.frames old input ended new false []) false 0 old c.in-Err.ended.0 new c.in-Err.ensures.kind (c.in-Err.ensures.unopened told));
     }
 
 pub returns-clause-ran : goal.returns-clause-ran
@@ -44,7 +44,7 @@ returns-clause-ran g c =
         c.in-Ok.ensures.read refl,
         λ told.
             subst (λ (s : Status). OutcomeFor (Eaw c.args.options) (λ place. Unit {0}) old s new input said.ran.cut said.ran.text) (sym c.script_status.ensures)
-            (outcome_of true (λ end. ObeysAs c.args.options.frames old input end new said.ran.cut said.ran.text) (λ page. ⊥) ⊥ ⊥ old new said.ran.cut said.ran.text ended
+            (outcome_of true (λ end. ObeysAs c.args.options.frames old input end new said.ran.cut said.ran.text) false 0 old new said.ran.cut said.ran.text ended
             (obeys_as media.tells told old (g.met.M.Media.only_now c.args.media) _ c.in-Ok.ensures.attached c.in-Ok.ensures.keeps _ new c.into_media.ensures.behind (g.met.M.Media.counts_now c.into_media.result)
             input ended said.ran.cut said.ran.text said.alive c.args.options.frames (rw c.deref.ensures.value at (said.ran.holds told)))),
       );

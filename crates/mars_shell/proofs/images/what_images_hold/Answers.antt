@@ -7,7 +7,7 @@ use Rattle.record_table.specs.Names.{names_of}
 use Rattle.record_table.specs.Shown.{table_of}
 use Rattle.record_table.specs.Upgrading.{upgraded}
 use Rattle.array_runs.specs.Forms.{index_of_form}
-use Rattle.mars_shell.proofs.Imaging.{one, made, opens, reads, prefix, last, kept, unchanged, named, some}
+use Rattle.mars_shell.proofs.Imaging.{one, made, opens, reads, prefix, last, kept, named, leaves}
 use Rattle.mars_shell.proofs.images.what_images_hold.Goals as goal
 
 -- data in version 2 is sound, and has the same names and the same records, under this index
@@ -34,7 +34,6 @@ returns g c =
       first = λ old shape form names table all new final called base law. prefix (m.view old) shape form names table all (m.view new) final called base law;
       all = λ old shape form names table all new final called base law. last (m.view old) shape form names table all (m.view new) final called base law;
       kept = λ old shape form names table all image either. kept (m.view old) shape form names table all keeps image either;
-      unchanged = λ old shape form names table all new image left gate. unchanged (m.view old) shape form names table all keeps (m.view new) image left (g.G.Gate.told gate);
       named = λ old shape form names table all new name. named (m.view old) shape form names table all (m.view new) name;
-      some = λ old shape form names table all new image left gate. some (m.view old) shape form names table all keeps (m.view new) image left (g.G.Gate.told gate);
+      leaves = λ old shape form names table all new image left gate. leaves (m.view old) shape form names table all keeps (m.view new) image left (g.G.Gate.told gate);
     }

@@ -1,6 +1,6 @@
 use Rattle.std.proofs.Common.{Bool, sym, subst, refl}
 use Rattle.std.specs.Prelude.{false}
-use Rattle.array_runs.specs.Records.{OverRecords}
+use Rattle.array_runs.specs.Outcome.{OutcomeOf}
 use Rattle.mars_shell.specs.Late.{depth_of}
 use Rattle.mars_shell.specs.FramedRun.{RunsAs}
 use Rattle.mars_shell.proofs.lines.run_lines.Goals as goal
@@ -18,7 +18,7 @@ returns-then-options-clause-ran g c =
       holds = (
         ran.holds.0,
         ran.holds.1,
-        λ told. subst (λ (b : Bool). OverRecords false 0 (λ ended. RunsAs b (depth_of c.args.options.writing) ran.holds.0 ran.cut ran.text old ended new) old c.run_framed.result.0 new ran.cut ran.text)
+        λ told. subst (λ (b : Bool). OutcomeOf false true 0 (λ ended. RunsAs b (depth_of c.args.options.writing) ran.holds.0 ran.cut ran.text old ended new) old c.run_framed.result.0 new ran.cut ran.text)
             (sym c.if-options.true) (ran.holds.2 told),
       );
     }
@@ -36,7 +36,7 @@ returns-clause-ran g c =
       holds = (
         ran.holds.0,
         ran.holds.1 refl,
-        λ told. subst (λ (b : Bool). OverRecords false 0 (λ ended. RunsAs b (depth_of c.args.options.writing) ran.holds.0 ran.cut ran.text old ended new) old c.over_records.result.0 new ran.cut ran.text)
+        λ told. subst (λ (b : Bool). OutcomeOf false true 0 (λ ended. RunsAs b (depth_of c.args.options.writing) ran.holds.0 ran.cut ran.text old ended new) old c.over_records.result.0 new ran.cut ran.text)
             (sym c.if-options.false) (ran.holds.2 told),
       );
     }

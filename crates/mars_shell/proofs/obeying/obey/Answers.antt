@@ -6,7 +6,7 @@ use Rattle.mars_shell.specs.Commands.{ObeysAs}
 use Rattle.mars_shell.specs.Drill.{Drills}
 use Rattle.array_runs.proofs.Endings.{is_early, silent_kind, counts_unread, read_fault_early}
 use Rattle.mars_shell.proofs.Endings.{format_late}
-use Rattle.mars_shell.proofs.FormatLemmas.{no_usage}
+use Rattle.mars_shell.proofs.FormatLemmas.{no_usage, format_untold}
 use Rattle.reader_work.specs.Readership.{passes_for}
 use Rattle.mars_shell.specs.Joint.{JointWork}
 use Rattle.mars_shell.specs.Late.{depth_of}
@@ -125,7 +125,7 @@ returns-in-Dump-clause-complete g c =
     let new = g.M.Media.view c.run_told.result.1 in
     let said = c.run_told.ensures in
     rw c.in-Dump.is (λ fit no_source no_sink no_media.
-    complete_dump old new said.ran.cut said.ran.text _ _ _ _ _ _ fit.1.0 fit.1.1 no_source no_sink no_media c.run_told.result.0 said.late said.counts (said.ran.holds fit.0))
+    complete_dump old new said.ran.cut said.ran.text _ _ _ _ _ _ fit.2.0 fit.2.1 no_source no_sink no_media c.run_told.result.0 said.late said.counts (said.ran.holds fit.1))
 
 pub returns-in-Drill-clause-early : goal.returns-in-Drill-clause-early
 returns-in-Drill-clause-early g c = λ either. (c.over_records.ensures.early (is_early c.over_records.result.0 either)).1
@@ -165,7 +165,7 @@ returns-in-Drill-clause-complete g c =
     let said = c.over_records.ensures in
     let ran = said.ran in
     rw c.in-Drill.is (λ fit no_source no_sink no_media.
-    complete_records false 0 (λ ended. TakesTurns (depth_of numbers.writing) (Drills numbers ended ran.cut ran.text) old ended new) old c.over_records.result.0 new ran.cut ran.text [] [] _ _ _ _ _ _ (omega arith) fit.1.0 fit.1.1 (omega arith) no_source no_sink no_media said.counts (nothing_read c.over_records.result.0 (λ early. absurd (false≢true (said.early early).0))) (ran.holds.2 fit.0))
+    complete_records false 0 (λ ended. TakesTurns (depth_of numbers.writing) (Drills numbers ended ran.cut ran.text) old ended new) old c.over_records.result.0 new ran.cut ran.text [] [] _ _ _ _ _ _ (omega arith) fit.2.0 fit.2.1 (omega arith) no_source no_sink no_media said.counts (nothing_read c.over_records.result.0 (λ early. absurd (false≢true (said.early early).0))) (ran.holds.2 fit.1))
 
 pub returns-in-Eaw-clause-complete : goal.returns-in-Eaw-clause-complete
 returns-in-Eaw-clause-complete g c =
@@ -175,8 +175,8 @@ returns-in-Eaw-clause-complete g c =
     let said = c.run_commands.ensures in
     rw c.in-Eaw.is (λ fit no_source no_sink no_media.
     let input = said.ran.holds.0 in
-    complete_of true (λ ended. ObeysAs c.in-Eaw.options.frames old input ended new said.ran.cut said.ran.text) (λ page. ⊥) ⊥ ⊥ old new said.ran.cut said.ran.text given _ _ _ _ _ _ _
-    fit.0.1 fit.2.0 fit.2.1 (λ page is. is) (λ is. is) no_source no_sink no_media c.run_commands.result.0 said.counts (said.input fit.0.0) (said.ran.holds.2 fit.1))
+    complete_of true (λ ended. ObeysAs c.in-Eaw.options.frames old input ended new said.ran.cut said.ran.text) false 0 old new said.ran.cut said.ran.text given _ _ _ _ _ _ _
+    fit.0.1 fit.2.0 fit.2.1 (λ looks page is. absurd (false≢true looks)) (λ is. absurd (omega (arith, is.2))) no_source no_sink no_media c.run_commands.result.0 said.counts (said.input fit.0.0) (said.ran.holds.2 fit.1))
 
 pub returns-in-Format-clause-ran : goal.returns-in-Format-clause-ran
 returns-in-Format-clause-ran g c =
@@ -226,7 +226,7 @@ pub returns-in-Format-clause-formats : goal.returns-in-Format-clause-formats
 returns-in-Format-clause-formats g c = rw c.in-Format.is (λ numbers is. rw (let same : c.in-Format.numbers ≡ numbers = cc is in same) at c.run_format.ensures.says)
 
 pub returns-in-Format-clause-untold : goal.returns-in-Format-clause-untold
-returns-in-Format-clause-untold g c = rw c.in-Format.is (λ is. absurd is)
+returns-in-Format-clause-untold g c = rw c.in-Format.is (format_untold c.in-Format.numbers _ c.run_format.result.0 _ _ c.run_format.ensures.says)
 
 pub run_callers-requires-clause-few : goal.run_callers-requires-clause-few
 run_callers-requires-clause-few g c = λ κs lives. callers_few c.requires.asked.0 c.in-Callers.numbers (subst (AsksFor c.requires.asked.0) c.in-Callers.is c.requires.asked.1)
@@ -269,7 +269,7 @@ returns-in-Make-clause-complete g c =
     let new = g.M.Media.view c.run_told-in-Make.result.1 in
     let said = c.run_told-in-Make.ensures in
     rw c.in-Make.is (λ fit no_source no_sink no_media.
-    complete_make c.in-Make.name old new said.ran.cut said.ran.text _ _ _ _ _ _ fit.1.0 fit.1.1 no_source no_sink no_media c.run_told-in-Make.result.0 said.late said.counts (said.ran.holds fit.0))
+    complete_make c.in-Make.name old new said.ran.cut said.ran.text _ _ _ _ _ _ fit.2.0 fit.2.1 no_source no_sink no_media c.run_told-in-Make.result.0 said.late said.counts (said.ran.holds fit.1))
 
 pub returns-in-Purge-clause-early : goal.returns-in-Purge-clause-early
 returns-in-Purge-clause-early g c = λ either. absurd (c.run_told-in-Purge.ensures.late (is_early c.run_told-in-Purge.result.0 either))
@@ -303,7 +303,7 @@ returns-in-Purge-clause-complete g c =
     let new = g.M.Media.view c.run_told-in-Purge.result.1 in
     let said = c.run_told-in-Purge.ensures in
     rw c.in-Purge.is (λ fit no_source no_sink no_media.
-    complete_purge old new said.ran.cut said.ran.text _ _ _ _ _ _ fit.1.0 fit.1.1 no_source no_sink no_media c.run_told-in-Purge.result.0 said.late said.counts (said.ran.holds fit.0))
+    complete_purge old new said.ran.cut said.ran.text _ _ _ _ _ _ fit.2.0 fit.2.1 no_source no_sink no_media c.run_told-in-Purge.result.0 said.late said.counts (said.ran.holds fit.1))
 
 pub returns-in-Follow-clause-early : goal.returns-in-Follow-clause-early
 returns-in-Follow-clause-early g c = λ either. c.run_follow.ensures.spares.early (is_early c.run_follow.result.0 either)

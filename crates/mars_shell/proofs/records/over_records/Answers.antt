@@ -1,6 +1,6 @@
 use Rattle.std.proofs.Common.{[], false, ⊎_elim, refl, sym, subst, ◌∙◌, arith}
 use Rattle.std.proofs.lemmas.List.{append-nil}
-use Rattle.array_runs.specs.Records.{OverRecords}
+use Rattle.array_runs.specs.Outcome.{OutcomeOf}
 use Rattle.mars_shell.specs.Run.{TakesTurns}
 use Rattle.array_runs.specs.Statuses.{IsEarly, IsRefusal}
 use Rattle.array_runs.specs.declared.status.Status.{Status}
@@ -67,7 +67,7 @@ returns-clause-ran g c =
         input,
         (λ asked. c.in-Ok.ensures.read (c.reads.ensures ∙ asked)),
         λ told.
-            subst (λ (s : Status). OverRecords false 0 (λ ended. TakesTurns (depth_of c.args.writing) (work.does c.args.work.now input ended said.cut said.text) old ended new)
+            subst (λ (s : Status). OutcomeOf false true 0 (λ ended. TakesTurns (depth_of c.args.writing) (work.does c.args.work.now input ended said.cut said.text) old ended new)
             old s new said.cut said.text) (sym c.served_status.ensures)
             (records_outcome media.tells told old (met.only_now c.args.media) _ c.in-Ok.ensures.attached c.in-Ok.ensures.keeps (depth_of c.args.writing) (c.in-Ok.ensures.limit ∙ c.depth_of-depth.ensures.depth) _ new (handed_back c.args.writing _ _ c.requires.of_type _ _ _ c.into_media.ensures.behind _ c.into_media.ensures.most c.into_media.ensures.counted) (met.counts_now c.into_media.result)
             0 (omega arith) (λ ended. work.does c.args.work.now input ended said.cut said.text)
