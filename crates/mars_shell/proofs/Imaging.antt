@@ -10,7 +10,7 @@ use Rattle.array_shape.specs.declared.shape.Shape.{Shape}
 use Rattle.array_image.specs.Decided.{settled_data}
 use Rattle.row_bytes.specs.Header.{SaysShape}
 use Rattle.row_bytes.proofs.OneShape.{one_shape}
-use Rattle.eaw_device.specs.Opens.{header_of, Opens, AllOpen, HoldsArray, OpensLike}
+use Rattle.eaw_device.specs.Opens.{header_of, Opens, AllOpen, OpensLike}
 use Rattle.page_store.specs.Index.{Index}
 use Rattle.history.specs.Writes.{Table}
 use Rattle.history.specs.Key.{main_name}

@@ -4,7 +4,7 @@ use Rattle.std.specs.Prelude.{IsTrue, nat_lt}
 use Rattle.pcm_media.specs.Images.{MayLeave}
 use Rattle.pcm_media.specs.View.{View}
 use Rattle.eaw_face.specs.StoreView.{StoreView}
-use Rattle.eaw_device.specs.Opens.{Opens, KeepsData, Attached, HoldsArray}
+use Rattle.eaw_device.specs.Opens.{Opens, KeepsData, Attached}
 use Rattle.caller_steps.specs.State.{State}
 use Rattle.caller_steps.specs.Room.{Limits}
 use Rattle.caller_steps.specs.Run.{Turn}

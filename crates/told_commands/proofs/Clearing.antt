@@ -11,7 +11,7 @@ use Rattle.array_image.specs.Decided.{settled_data}
 use Rattle.device_recovery.specs.Recovered.{HasNoVote}
 use Rattle.eaw_face.specs.State as face
 use Rattle.eaw_face.specs.StoreView.{StoreView, LeavesOnly}
-use Rattle.eaw_device.specs.Opens.{Opens, KeepsData, Attached, HoldsArray, IsBehind}
+use Rattle.eaw_device.specs.Opens.{Opens, KeepsData, Attached, IsBehind}
 use Rattle.page_store.specs.Index.{Index}
 use Rattle.record_table.specs.Names.{names_of}
 use Rattle.record_table.specs.Shown.{table_of}

@@ -11,7 +11,7 @@ use Rattle.array_image.specs.Decided.{settled_data}
 use Rattle.device_recovery.specs.Recovered.{HasNoVote}
 use Rattle.eaw_face.specs.State.{State}
 use Rattle.eaw_face.specs.StoreView.{StoreView, LeavesOnly}
-use Rattle.eaw_device.specs.Opens.{Opens, HoldsArray}
+use Rattle.eaw_device.specs.Opens.{Opens}
 use Rattle.page_store.specs.Index.{Index}
 use Rattle.record_table.specs.Shown.{table_of}
 use Rattle.texts.specs.Written.{IsWritten}

@@ -12,7 +12,7 @@ use Rattle.device_recovery.specs.Recovered.{HasNoVote}
 use Rattle.eaw_face.specs.State.{State}
 use Rattle.eaw_face.specs.StoreView.{StoreView, LeavesOnly}
 use Rattle.eaw_face.proofs.Mirroring.{sent_then}
-use Rattle.eaw_device.specs.Opens.{Opens, KeepsData, Attached, HoldsArray, IsBehind}
+use Rattle.eaw_device.specs.Opens.{Opens, KeepsData, Attached, IsBehind}
 use Rattle.record_slots.specs.Places.{next_page}
 use Rattle.page_store.specs.Index.{Index, index_pages_of}
 use Rattle.record_table.specs.Making.{OnlyUpgrades, is_make_failed}

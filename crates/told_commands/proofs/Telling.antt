@@ -5,7 +5,7 @@ use Rattle.mars_base.specs.Causes.{Rose}
 use Rattle.pcm_media.specs.Images.{MayLeave}
 use Rattle.pcm_media.specs.View.{View}
 use Rattle.eaw_face.specs.StoreView.{StoreView}
-use Rattle.eaw_device.specs.Opens.{Opens, HoldsArray, Attached, KeepsData, IsBehind}
+use Rattle.eaw_device.specs.Opens.{Opens, Attached, KeepsData, IsBehind}
 use Rattle.mars_core.specs.Attached.{GivesBack, LeftAsItWas, is_media_fault}
 use Rattle.mars_core.specs.declared.fault.CoreFault.{CoreFault}
 use Rattle.mars_core.specs.declared.fault.CoreFault.TheVariants as core
