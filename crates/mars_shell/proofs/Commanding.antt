@@ -43,8 +43,10 @@ module _ (tells : Bool) (told : IsTrue tells) (old : View) (only_now : (image : 
     now = λ image left. ran.comes.now image (subst (λ (t : ℕ). store'.left_since t image) behind.moment (behind.left new.moment image (counts_now new.moment image told (omega arith) left)));
     since = λ all image left. ⊎_elim (λ was. inl (at_entry tells told old only_now store attached keeps store.shape all image was)) (λ made. inr made)
         (ran.comes.since.only old.moment image (keeps told store.shape all).later (behind.left old.moment image left));
-    quiet = λ good. subst (λ (s : Shape). HasNoVote s new.content.bytes) (shape_is good) (behind.quiet told (alive good) refl);
-    left = λ good. ap (λ (s : Shape). settled_data s new.content.bytes) (sym (shape_is good)) ∙ behind.bytes told (alive good) ∙ sym (λ i. ((shows ran.final (ran.stands good)).state i).bytes);
+    left = λ good. (
+      subst (λ (s : Shape). HasNoVote s new.content.bytes) (shape_is good) (behind.quiet told (alive good) refl),
+      ap (λ (s : Shape). settled_data s new.content.bytes) (sym (shape_is good)) ∙ behind.bytes told (alive good) ∙ sym (λ i. ((shows ran.final (ran.stands good)).state i).bytes),
+    );
   }
     where
       shape_is : ended ≡ All → store'.shape ≡ store.shape

@@ -9,7 +9,7 @@ use Rattle.eaw_device.specs.Opens.{Opens, AllOpen, OpensLike, IsArray, HoldsArra
 use Rattle.eaw_face.specs.State.{State}
 use Rattle.eaw_script.specs.Lines.{raw_script}
 use Rattle.eaw_script.specs.Progress.{Progress, MayStand, begun}
-use Rattle.eaw_script.specs.Mirrored.{framed_script, framed_begun}
+use Rattle.frame_lines.specs.Framed.{framed}
 use Rattle.script_run.specs.Script.{Script}
 use Rattle.script_run.specs.declared.ended.Ended.{Ended}
 use Rattle.script_run.specs.declared.ended.Ended.TheVariants.{All, NoMemory}
@@ -27,13 +27,13 @@ pub record ObeysBy {S : Type 0} (script : Script S) (first : Shape → State →
   pub now : (image : List ℕ) → MayLeave new.content image → (bytes : List ℕ) × Opens shape image bytes × MayStand (progress final) bytes
   pub since : AllOpen shape old.content → (image : List ℕ) → new.left_since old.moment image
       → OpensLike shape old.content image ⊎ ((bytes : List ℕ) × Opens shape image bytes × (MayStand (progress final) bytes ⊎ Contains (progress final).past bytes))
-  pub quiet : ended ≡ All → HasNoVote shape new.content.bytes
-  pub left : ended ≡ All → settled_data shape new.content.bytes ≡ (progress final).state.bytes
+  pub left : ended ≡ All → HasNoVote shape new.content.bytes × (settled_data shape new.content.bytes ≡ (progress final).state.bytes)
 
 -- The commands were answered by the model. If frames are asked for, those that each command sends stand before its reply: in sequence from
 -- 1, and at each whole reply those so far, applied in order to the data that was opened, give the committed data. Or then memory ran out
 -- before the first line.
 abbrev pub ObeysAs : (frames : Bool) → View → List ℕ → Ended → View → Bool → List ℕ → Type 0
 ObeysAs false old input ended new cut text = ObeysBy raw_script begun (λ progress. progress) old input ended new cut text
-ObeysAs true old input ended new cut text =
-    ObeysBy framed_script framed_begun (λ state. state.inner) old input ended new cut text ⊎ ((ended ≡ NoMemory) × Idle true (HoldsArray old) ⊤ old new cut text)
+ObeysAs true old input ended new cut text = ObeysBy (framed (λ progress bytes. progress.state.bytes ≡ bytes) raw_script)
+    (λ shape state. record { inner = begun shape state; shape = shape; opened = state.bytes; frames = [] })
+    (λ last. last.inner) old input ended new cut text ⊎ ((ended ≡ NoMemory) × Idle true (HoldsArray old) ⊤ old new cut text)
