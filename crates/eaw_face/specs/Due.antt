@@ -2,7 +2,7 @@
 use Rattle.std.specs.Prelude.{ℕ, ◌≡◌, ◌+◌, ◌^◌, ◌<◌, ◌≤◌, ◌⊎◌, Bool, true, false, IsTrue, List, [], ◌∷◌, length, drop, map, flat_map}
 use Rattle.mars_base.specs.Causes.{Rose}
 use Rattle.array_shape.specs.Parts.{parts_of_write}
-use Rattle.array_shape.specs.Logged.{Part, ranges_of}
+use Rattle.array_shape.specs.Logged.{ranges_of}
 use Rattle.eaw_face.specs.State.{Logs, listed}
 use Rattle.eaw_face.specs.StoreView.{StoreView}
 use Rattle.eaw_face.specs.Command.{Command, log_write, log_edit, commit, commit_group, abort, nested_top, partial_abort, atomic_write, log_read, read}

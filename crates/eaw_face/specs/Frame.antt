@@ -1,10 +1,11 @@
 -- A frame: what one commit wrote, as it goes over a link.
-use Rattle.std.specs.Prelude.{ℕ, ◌≡◌, ◌+◌, ◌%◌, ◌^◌, ◌<◌, ◌≤◌, List, [], ◌∷◌, ◌++◌, length, flat_map, All, codes, None}
+use Rattle.std.specs.Prelude.{ℕ, ◌≡◌, ◌+◌, ◌%◌, ◌^◌, ◌<◌, ◌≤◌, List, [], ◌∷◌, ◌++◌, length, flat_map, All, codes}
 use Rattle.byteorder.specs.Endian.{little_bytes}
+use Rattle.mars_base.specs.Room.{HaveRoom}
 use Rattle.array_shape.specs.declared.shape.Shape.{Shape}
 use Rattle.array_shape.specs.Places.{data_len}
 use Rattle.array_shape.specs.Logged.{Part, ranges_of}
-use Rattle.eaw_face.specs.Causes.{fit}
+use Rattle.eaw_face.specs.State.{count_on}
 
 -- what one number wrote, part by part
 pub record Group : Type 0 where
@@ -36,19 +37,13 @@ frame_bytes frame = mark ++ little_bytes 8 frame.sequence ++ little_bytes 2 (len
 abbrev pub IsByte : ℕ → Type 0
 IsByte b = b < 256
 
--- a part: it is not empty, and lies within one stripe
-pub record IsPart (part : Part) : Type 0 where
-  pub addr : part.0 < 2 ^ 64
-  pub some : 0 < length part.1
-  pub stripe : part.0 % 512 + length part.1 ≤ 512
-  pub bytes : All IsByte part.1
+-- a part: it is not empty, lies within one stripe, and is of bytes
+abbrev pub IsPart : Part → Type 0
+IsPart part = (part.0 < 2 ^ 64) × (0 < length part.1) × (part.0 % 512 + length part.1 ≤ 512) × All (λ (b : ℕ). b < 256) part.1
 
 -- a number with at least one part
-pub record IsGroup (group : Group) : Type 0 where
-  pub number : group.number < 256
-  pub some : 0 < length group.parts
-  pub few : length group.parts < 2 ^ 16
-  pub parts : All IsPart group.parts
+abbrev pub IsGroup : Group → Type 0
+IsGroup group = (group.number < 256) × (0 < length group.parts) × (length group.parts < 2 ^ 16) × All IsPart group.parts
 
 -- the numbers rise, from `low` on
 abbrev pub Rise : ℕ → List Group → Type 0
@@ -56,27 +51,21 @@ Rise low [] = Unit {0}
 Rise low (group ∷ groups) = (low ≤ group.number) × Rise (group.number + 1) groups
 
 -- a frame, which has at least one number
-pub record IsFrame (frame : Frame) : Type 0 where
-  pub sequence : frame.sequence < 2 ^ 64
-  pub some : 0 < length frame.groups
-  pub few : length frame.groups < 2 ^ 16
-  pub rise : Rise 0 frame.groups
-  pub groups : All IsGroup frame.groups
+abbrev pub IsFrame : Frame → Type 0
+IsFrame f = (f.sequence < 2 ^ 64) × (0 < length f.groups) × (length f.groups < 2 ^ 16) × Rise 0 f.groups × All IsGroup f.groups
 
 -- a part within the data of a shape
 abbrev pub IsInside : Shape → Part → Type 0
 IsInside shape part = part.0 + length part.1 ≤ data_len shape
 
 -- a number of the shape, whose parts lie in the data and have room in a log that is empty
-pub record IsGroupIn (shape : Shape) (group : Group) : Type 0 where
-  pub number : group.number < shape.numbers
-  pub inside : All (IsInside shape) group.parts
-  pub room : fit shape [] (ranges_of group.parts) None
+abbrev pub IsGroupIn : Shape → Group → Type 0
+IsGroupIn shape group = (group.number < shape.numbers) × All (λ (part : Part). part.0 + length part.1 ≤ data_len shape) group.parts
+    × HaveRoom shape.loggers shape.entries (λ g. 0) (λ g. count_on shape g (ranges_of group.parts))
 
 -- a frame that an array of this shape can follow
-pub record IsFrameIn (shape : Shape) (frame : Frame) : Type 0 where
-  pub is : IsFrame frame
-  pub groups : All (IsGroupIn shape) frame.groups
+abbrev pub IsFrameIn : Shape → Frame → Type 0
+IsFrameIn shape frame = IsFrame frame × All (IsGroupIn shape) frame.groups
 
 -- these bytes are just one whole frame that an array of this shape can follow
 pub record AreFrame (shape : Shape) (bytes : List ℕ) : Type 0 where

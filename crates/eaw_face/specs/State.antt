@@ -1,5 +1,5 @@
 -- The model of a store: plain data, and the parts that each live number has logged.
-use Rattle.std.specs.Prelude.{ℕ, nat_eq, if◌then◌else◌, List, [], ◌∷◌, length, filter, flat_map, slice_index_or, slice_set, Bool, Option, unwrap_or}
+use Rattle.std.specs.Prelude.{ℕ, nat_eq, if◌then◌else◌, List, [], length, filter, flat_map, slice_index_or, slice_set, Bool, Option, unwrap_or}
 use Rattle.std.specs.List.{list_any}
 use Rattle.mars_base.specs.Bytes.{put}
 use Rattle.array_shape.specs.declared.shape.Shape.{Shape}

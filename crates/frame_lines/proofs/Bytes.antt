@@ -37,11 +37,11 @@ bytes_each bytes_of Is each [] all = bytes_none
 bytes_each bytes_of Is each (x ∷ xs) all = bytes_append (bytes_of x) (flat_map bytes_of xs) (each x (All-head Is x xs all)) (bytes_each bytes_of Is each xs (All-tail Is x xs all))
 
 bytes_of_part : (p : Part) → IsPart p → IsBytes (part_bytes p)
-bytes_of_part p is = bytes_append (little_bytes 8 p.0 ++ little_bytes 2 (length p.1)) p.1 (bytes_append (little_bytes 8 p.0) (little_bytes 2 (length p.1)) (bytes_low 0 8 p.0) (bytes_low 0 2 (length p.1))) (bytes_all p.1 is.bytes)
+bytes_of_part p is = bytes_append (little_bytes 8 p.0 ++ little_bytes 2 (length p.1)) p.1 (bytes_append (little_bytes 8 p.0) (little_bytes 2 (length p.1)) (bytes_low 0 8 p.0) (bytes_low 0 2 (length p.1))) (bytes_all p.1 is.3)
 
 bytes_of_group : (g : Group) → IsGroup g → IsBytes (group_bytes g)
-bytes_of_group g is = bytes_cons g.number (little_bytes 2 (length g.parts) ++ flat_map part_bytes g.parts) is.number
-    (bytes_append (little_bytes 2 (length g.parts)) (flat_map part_bytes g.parts) (bytes_low 0 2 (length g.parts)) (bytes_each part_bytes IsPart bytes_of_part g.parts is.parts))
+bytes_of_group g is = bytes_cons g.number (little_bytes 2 (length g.parts) ++ flat_map part_bytes g.parts) is.0
+    (bytes_append (little_bytes 2 (length g.parts)) (flat_map part_bytes g.parts) (bytes_low 0 2 (length g.parts)) (bytes_each part_bytes IsPart bytes_of_part g.parts is.3))
 
 bytes_of_mark : IsBytes mark
 bytes_of_mark = bytes_cons 77 (70 ∷ 82 ∷ 49 ∷ []) (omega arith) (bytes_cons 70 (82 ∷ 49 ∷ []) (omega arith) (bytes_cons 82 (49 ∷ []) (omega arith) (bytes_cons 49 [] (omega arith) bytes_none)))
@@ -52,7 +52,7 @@ bytes_of_frame f is =
     let n = little_bytes 2 (length f.groups) in
     bytes_append ((mark ++ s) ++ n) (flat_map group_bytes f.groups)
     (bytes_append (mark ++ s) n (bytes_append mark s bytes_of_mark (bytes_low 0 8 f.sequence)) (bytes_low 0 2 (length f.groups)))
-    (bytes_each group_bytes IsGroup bytes_of_group f.groups is.groups)
+    (bytes_each group_bytes IsGroup bytes_of_group f.groups is.4)
 
 -- what comes behind the word of a frame is told by the line
 pub hex_is : (line text other : List ℕ) → line ≡ frame_word ++ text → line ≡ frame_word ++ other → text ≡ other

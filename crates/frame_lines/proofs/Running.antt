@@ -1,7 +1,8 @@
 -- Lines that are followed one after another.
 use Rattle.std.proofs.Common.{◌≡◌, ℕ, suc, ◌+◌, ◌≤◌, ◌⊎◌, inl, inr, ⊎_elim, Bool, true, false, List, [], ◌∷◌, ◌++◌, length, Result, Err, refl, sym, ◌∙◌, ap, subst, arith, append_assoc}
-use Rattle.std.specs.Prelude.{IsTrue}
-use Rattle.std.proofs.lemmas.List.{append-nil, length-append}
+use Rattle.std.specs.Prelude.{IsTrue, take, drop, flat_map}
+use Rattle.std.specs.List.{range_with_len}
+use Rattle.std.proofs.lemmas.List.{append-nil, length-append, take_at, drop_at}
 use Rattle.array_shape.specs.declared.shape.Shape.{Shape}
 use Rattle.array_shape.specs.Logged.{applied}
 use Rattle.eaw_face.specs.StoreView.{StoreView, LeavesOnly}
@@ -11,11 +12,14 @@ use Rattle.eaw_face.proofs.Mirroring.{sequence_append, followed_append}
 use Rattle.mirror.specs.Following.{HasFollowed, IsGap}
 use Rattle.mirror.specs.FollowerView.{FollowerView}
 use Rattle.texts.specs.Written.{IsWritten}
-use Rattle.frame_lines.specs.Lines.{IsMeant, Says, AllSay, applied_line, applied_lines}
+use Rattle.frame_lines.specs.Lines.{IsMeant, Says, AllSay, applied_line}
 use Rattle.frame_lines.specs.Taken.{IsBetween, GoesOn, Applied, OpensTaken, FollowedLine}
 use Rattle.frame_lines.specs.Followed.{StopsAt, LeavesNear, LeavesJust, LeavesStore, TellsApplied, FollowedLines, OpensFirst}
 use Rattle.frame_lines.specs.declared.ended.FollowEnd.{FollowEnd}
 use Rattle.frame_lines.specs.declared.ended.FollowEnd.TheVariants.{All as AllFollowed, BadFrame, Gap, WriteFault, MediaFault, NoMemory}
+
+front_of : (lines front rest : List (List ℕ)) → lines ≡ front ++ rest → take (length front) lines ≡ front
+front_of lines front rest are = ap (λ (l : List (List ℕ)). take (length front) l) are ∙ take_at front rest (length front) refl
 
 passed_over : (shape : Shape) (line : List ℕ) (front : List (List ℕ)) (frames : List Frame) → (IsMeant line → ⊥) → AllSay shape front frames → AllSay shape (front ++ line ∷ []) frames
 passed_over shape line [] frames not said = subst (λ (fs : List Frame). AllSay shape (line ∷ []) fs) (sym said) (not, refl)
@@ -29,11 +33,31 @@ said_too shape line f (l ∷ ls) [] says said = inl (said.0, said_too shape line
 said_too shape line f (l ∷ ls) (g ∷ gs) says (inl said) = inl (said.0, said_too shape line f ls (g ∷ gs) says said.1)
 said_too shape line f (l ∷ ls) (g ∷ gs) says (inr said) = inr (said.0, said_too shape line f ls gs says said.1)
 
+-- what is written of several, of which the first is the next after so many
+abbrev applied_lines : ℕ → List Frame → List ℕ
+applied_lines count frames = flat_map applied_line (range_with_len (count + 1) (length frames))
+
 told_too : (count : ℕ) (frames : List Frame) (f : Frame) → applied_lines count (frames ++ f ∷ []) ≡ applied_lines count frames ++ applied_line (count + length frames + 1)
 told_too count [] f = append-nil (applied_line (count + 1)) ∙ ap applied_line (let same : count + 1 ≡ count + 0 + 1 = omega arith in same)
 told_too count (g ∷ gs) f =
     ap (λ (t : List ℕ). applied_line (count + 1) ++ t) (told_too (count + 1) gs f ∙ ap (λ (n : ℕ). applied_lines (count + 1) gs ++ applied_line n) (let same : count + 1 + length gs + 1 ≡ count + suc (length gs) + 1 = omega arith in same))
     ∙ sym (append_assoc (applied_line (count + 1)) (applied_lines (count + 1) gs) (applied_line (count + suc (length gs) + 1)))
+
+-- lines were followed as far as the front
+followed_to : (shape : Shape) (Leaves : List Frame → List (List ℕ) → Type 0) (lines front rest : List (List ℕ)) (ended : FollowEnd) (cut : Bool) (text : List ℕ) (frames : List Frame)
+    → lines ≡ front ++ rest → AllSay shape front frames → AreInSequence 1 frames → TellsApplied ended cut text frames → Leaves frames rest
+    → StopsAt shape (length front) (length frames) rest ended → FollowedLines shape Leaves lines ended cut text
+followed_to shape Leaves lines front rest ended cut text frames are said sequence told leaves stops =
+    let behind : drop (length front) lines ≡ rest = ap (λ (l : List (List ℕ)). drop (length front) l) are ∙ drop_at front rest (length front) refl in
+    record {
+      frames = frames;
+      count = length front;
+      said = subst (λ (l : List (List ℕ)). AllSay shape l frames) (sym (front_of lines front rest are)) said;
+      sequence = sequence;
+      told = told;
+      leaves = subst (λ (l : List (List ℕ)). Leaves frames l) (sym behind) leaves;
+      stops = subst (λ (l : List (List ℕ)). StopsAt shape (length front) (length frames) l ended) (sym behind) stops;
+    }
 
 -- the first lines were followed, so many less one, and these are left
 pub record SoFar {S : Type 0} (tells : Bool) (view : S → StoreView) (first now : FollowerView S) (lines rest : List (List ℕ)) (n : ℕ) (text : List ℕ) : Type 0 where
@@ -84,17 +108,8 @@ module _ {S : Type 0} (tells : Bool) (view : S → StoreView) (first : FollowerV
       → ((image : List ℕ) → IsTrue tells → (view now.store).is_dead ≡ false → (view now.store).left_since (view now.store).moment image → Opens (view now.store).shape image (view now.store).state.bytes)
       → rest ≡ [] → SoFar tells view first now lines rest n text
       → FollowedLines (view first.store).shape (LeavesStore tells Opens (view first.store) (view now.store) AllFollowed) lines AllFollowed false text
-  ended_all Opens now rest n text only none far = record {
-    frames = far.frames;
-    front = far.front;
-    behind = rest;
-    lines_are = far.lines_are;
-    said = far.said;
-    sequence = far.sequence;
-    told = (refl, far.told);
-    leaves = just Opens far.frames (view now.store) only far.goes_on;
-    stops = none;
-  }
+  ended_all Opens now rest n text only none far = followed_to (view first.store).shape (LeavesStore tells Opens (view first.store) (view now.store) AllFollowed) lines far.front rest AllFollowed false text far.frames
+      far.lines_are far.said far.sequence (refl, far.told) (just Opens far.frames (view now.store) only far.goes_on) none
 
   module _ (shape : Shape) (shape_is : (view first.store).shape ≡ shape) (now new : FollowerView S) (line : List ℕ) (rest : List (List ℕ)) (n : ℕ) (text : List ℕ) (far : SoFar tells view first now lines (line ∷ rest) n text) where
     here : (f : Frame) → Says shape f line → Says (view first.store).shape f line
@@ -157,17 +172,8 @@ module _ {S : Type 0} (tells : Bool) (view : S → StoreView) (first : FollowerV
     -- the run ends at this line
     stopped : (Opens : Shape → List ℕ → List ℕ → Type 0) (ended : FollowEnd) (cut : Bool) (more : List ℕ) → TellsApplied ended cut (text ++ more) far.frames → LeavesStore tells Opens (view first.store) (view new.store) ended far.frames (line ∷ rest) → StopsAt (view first.store).shape (length far.front) (length far.frames) (line ∷ rest) ended
         → FollowedLines (view first.store).shape (LeavesStore tells Opens (view first.store) (view new.store) ended) lines ended cut (text ++ more)
-    stopped Opens ended cut more told leaves stops = record {
-      frames = far.frames;
-      front = far.front;
-      behind = line ∷ rest;
-      lines_are = far.lines_are;
-      said = far.said;
-      sequence = far.sequence;
-      told = told;
-      leaves = leaves;
-      stops = stops;
-    }
+    stopped Opens ended cut more told leaves stops = followed_to (view first.store).shape (LeavesStore tells Opens (view first.store) (view new.store) ended) lines far.front (line ∷ rest) ended cut (text ++ more) far.frames
+        far.lines_are far.said far.sequence told leaves stops
 
     still : GoesOn tells [] (view now.store) (view new.store) → GoesOn tells far.frames (view first.store) (view new.store)
     still same = subst (λ (fs : List Frame). GoesOn tells fs (view first.store) (view new.store)) (append-nil far.frames) (more_applied [] same)
@@ -188,25 +194,10 @@ module _ {S : Type 0} (tells : Bool) (view : S → StoreView) (first : FollowerV
         let next = applies f ended.2 ended.3 in
         let long = length-append far.frames (f ∷ []) in
         let applied_more : length (far.frames ++ f ∷ []) ≡ now.applied + 1 = omega (arith, far.count, long) in
-        record {
-          frames = next.frames;
-          front = next.front;
-          behind = rest;
-          lines_are = next.lines_are;
-          said = next.said;
-          sequence = next.sequence;
-          told = (
-            ended.0,
-            far.frames,
-            f,
-            more,
-            refl,
-            subst (λ (n : ℕ). IsWritten true more (applied_line n)) (sym applied_more) ended.4,
-            ap (λ (t : List ℕ). t ++ more) far.told,
-          );
-          leaves = just Opens next.frames (view new.store) only next.goes_on;
-          stops = tt;
-        }
+        followed_to (view first.store).shape (LeavesStore tells Opens (view first.store) (view new.store) WriteFault) lines next.front rest WriteFault cut (text ++ more) next.frames
+        next.lines_are next.said next.sequence
+        (ended.0, far.frames, f, more, refl, subst (λ (n : ℕ). IsWritten true more (applied_line n)) (sym applied_more) ended.4, ap (λ (t : List ℕ). t ++ more) far.told)
+        (just Opens next.frames (view new.store) only next.goes_on) tt
     ended_at Opens only near T MediaFault cut more ended = stopped Opens MediaFault cut more (ended.0, no_more more ended.1) near tt
     ended_at Opens only near T NoMemory cut more ended = stopped Opens NoMemory cut more (ended.0, no_more more ended.1) near tt
 
@@ -239,20 +230,17 @@ module _ {S : Type 0} (tells : Bool) (view : S → StoreView) (first : FollowerV
     -- what a loss of power leaves of this line
     pub opens_first : (Opens : Shape → List ℕ → List ℕ → Type 0) (image : List ℕ) → IsTrue tells → OpensTaken view Opens shape line now image → OpensFirst Opens (view first.store).shape (view first.store).state.bytes lines image
     opens_first Opens image told (inl before) = (
+      length far.front,
       far.frames,
-      far.front,
-      line ∷ rest,
-      far.lines_are,
-      far.said,
+      subst (λ (l : List (List ℕ)). AllSay (view first.store).shape l far.frames) (sym (front_of lines far.front (line ∷ rest) far.lines_are)) far.said,
       far.sequence,
       subst (λ (p : Shape × List ℕ). Opens p.0 image p.1) (λ i. (far.goes_on.data_is.shape i, far.goes_on.data_is.data_is told i)) before,
     )
     opens_first Opens image told (inr next) = (
+      length (far.front ++ line ∷ []),
       far.frames ++ next.0 ∷ [],
-      far.front ++ line ∷ [],
-      rest,
-      one_more,
-      said_too (view first.store).shape line next.0 far.front far.frames (here next.0 next.1) far.said,
+      subst (λ (l : List (List ℕ)). AllSay (view first.store).shape l (far.frames ++ next.0 ∷ [])) (sym (front_of lines (far.front ++ line ∷ []) rest one_more))
+          (said_too (view first.store).shape line next.0 far.front far.frames (here next.0 next.1) far.said),
       in_sequence next.0 next.2,
       subst (λ (p : Shape × List ℕ). Opens p.0 image p.1)
           (λ i. (far.goes_on.data_is.shape i, (ap (λ (b : List ℕ). applied (written_by next.0) b) (far.goes_on.data_is.data_is told) ∙ sym (followed_append far.frames (next.0 ∷ []) (view first.store).state.bytes)) i)) next.3,
@@ -263,9 +251,7 @@ pub none_followed : (tells : Bool) (Opens : Shape → List ℕ → List ℕ → 
     → FollowedLines store.shape (LeavesStore tells Opens store store NoMemory) lines NoMemory false []
 none_followed tells Opens store lines only = record {
   frames = [];
-  front = [];
-  behind = lines;
-  lines_are = refl;
+  count = 0;
   said = refl;
   sequence = tt;
   told = (refl, refl);

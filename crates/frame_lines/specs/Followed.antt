@@ -1,5 +1,6 @@
 -- What comes of lines that say frames.
-use Rattle.std.specs.Prelude.{ℕ, ◌≡◌, ◌⊎◌, ◌+◌, Bool, true, false, IsTrue, List, [], ◌∷◌, ◌++◌, length}
+use Rattle.std.specs.Prelude.{ℕ, ◌≡◌, ◌⊎◌, ◌+◌, Bool, true, false, IsTrue, List, [], ◌∷◌, ◌++◌, length, take, drop, flat_map}
+use Rattle.std.specs.List.{range_with_len}
 use Rattle.mars_base.specs.Causes.{Rose}
 use Rattle.array_shape.specs.declared.shape.Shape.{Shape}
 use Rattle.eaw_face.specs.StoreView.{StoreView}
@@ -7,7 +8,7 @@ use Rattle.eaw_face.specs.Frame.{Frame}
 use Rattle.eaw_face.specs.Mirroring.{AreInSequence, followed}
 use Rattle.mirror.specs.Following.{IsGap}
 use Rattle.texts.specs.Written.{IsWritten}
-use Rattle.frame_lines.specs.Lines.{IsMeant, Says, AllSay, applied_line, applied_lines}
+use Rattle.frame_lines.specs.Lines.{IsMeant, Says, AllSay, applied_line}
 use Rattle.frame_lines.specs.Taken.{GoesOn}
 use Rattle.frame_lines.specs.declared.ended.FollowEnd.{FollowEnd}
 use Rattle.frame_lines.specs.declared.ended.FollowEnd.TheVariants.{All as AllFollowed, BadFrame, Gap, WriteFault, MediaFault, NoMemory}
@@ -42,27 +43,25 @@ LeavesStore tells Opens old new _ frames behind = GoesOn tells frames old new ×
 
 -- Of each of these frames was told how many are by then; where the sink took no more, of the last one a front only.
 abbrev pub TellsApplied : FollowEnd → Bool → List ℕ → List Frame → Type 0
-TellsApplied WriteFault cut text frames = (cut ≡ true) × (before : List Frame) × (last : Frame) × (part : List ℕ)
-    × (frames ≡ before ++ last ∷ []) × IsWritten true part (applied_line (length frames)) × (text ≡ applied_lines 0 before ++ part)
-TellsApplied _ cut text frames = (cut ≡ false) × (text ≡ applied_lines 0 frames)
+TellsApplied WriteFault cut text frames = (cut ≡ true) × (before : List Frame) × (last : Frame) × (part : List ℕ) × (frames ≡ before ++ last ∷ [])
+    × IsWritten true part (applied_line (length frames)) × (text ≡ flat_map applied_line (range_with_len 1 (length before)) ++ part)
+TellsApplied _ cut text frames = (cut ≡ false) × (text ≡ flat_map applied_line (range_with_len 1 (length frames)))
 
--- Frames that the first lines say, in sequence from 1 on, were applied, and each was told. Then the lines ended, or were not followed further.
+-- Frames that so many first lines say, in sequence from 1 on, were applied, and each was told. Then the lines ended, or were not followed further.
 -- Leaves says what the frames leave, given the lines behind.
 pub record FollowedLines (shape : Shape) (Leaves : List Frame → List (List ℕ) → Type 0) (lines : List (List ℕ)) (ended : FollowEnd) (cut : Bool) (text : List ℕ) : Type 0 where
   pub frames : List Frame
-  pub front : List (List ℕ)
-  pub behind : List (List ℕ)
-  pub lines_are : lines ≡ front ++ behind
-  pub said : AllSay shape front frames
+  pub count : ℕ
+  pub said : AllSay shape (take count lines) frames
   pub sequence : AreInSequence 1 frames
   pub told : TellsApplied ended cut text frames
-  pub leaves : Leaves frames behind
-  pub stops : StopsAt shape (length front) (length frames) behind ended
+  pub leaves : Leaves frames (drop count lines)
+  pub stops : StopsAt shape count (length frames) (drop count lines) ended
 
--- an image opens with this data with some first of the frames applied that the lines say
+-- an image opens with this data with the frames applied that some first lines say
 abbrev pub OpensFirst : (Shape → List ℕ → List ℕ → Type 0) → Shape → List ℕ → List (List ℕ) → List ℕ → Type 0
-OpensFirst Opens shape bytes lines image = (frames : List Frame) × (front : List (List ℕ)) × (behind : List (List ℕ)) × (lines ≡ front ++ behind)
-    × AllSay shape front frames × AreInSequence 1 frames × Opens shape image (followed frames bytes)
+OpensFirst Opens shape bytes lines image = (count : ℕ) × (frames : List Frame)
+    × AllSay shape (take count lines) frames × AreInSequence 1 frames × Opens shape image (followed frames bytes)
 
 -- the counts of the sink and of the medium: the one that ended the run rose, and else they are as they were
 abbrev pub Counts : FollowEnd → ℕ → ℕ → ℕ → ℕ → Type 0

@@ -35,16 +35,13 @@ pub record GivesFramed {State : Type 0} (script : Script State) (Holds : State �
   pub sequence : AreInSequence 1 new.frames
   pub data_is : Holds new.inner (followed new.frames new.opened)
 
--- no frame more was written
-abbrev pub WritesNone : {State : Type 0} → Framed State → Framed State → Type 0
-WritesNone old new = new ≡ record old { inner = new.inner }
-
--- Answers with frames: memory runs out for the line, or for the frames or the reply of one that was done.
+-- Answers with frames: memory runs out for the line, or for the frames or the reply of one that was done, and then no frame more is written.
 abbrev pub framed : {State : Type 0} → (State → List ℕ → Type 0) → Script State → Script (Framed State)
 framed Holds script = record {
   gives = GivesFramed script Holds;
-  breaks = λ old line number new. script.breaks old.inner line number new.inner × WritesNone old new;
-  stops = λ old n line new. (script.stops old.inner n line new.inner ⊎ ((reply : List ℕ) × script.gives old.inner n line reply new.inner)) × WritesNone old new;
+  breaks = λ old line number new. script.breaks old.inner line number new.inner × (new ≡ record old { inner = new.inner });
+  stops = λ old n line new. (script.stops old.inner n line new.inner ⊎ ((reply : List ℕ) × script.gives old.inner n line reply new.inner))
+      × (new ≡ record old { inner = new.inner });
 }
 
 -- a store that mirrors and goes on sending, and whose frames are all given up

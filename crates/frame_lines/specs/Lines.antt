@@ -1,5 +1,5 @@
 -- Lines that say frames.
-use Rattle.std.specs.Prelude.{ℕ, ◌≡◌, ◌+◌, ◌⊎◌, List, [], ◌∷◌, ◌++◌, codes}
+use Rattle.std.specs.Prelude.{ℕ, ◌≡◌, ◌⊎◌, List, [], ◌∷◌, ◌++◌, codes}
 use Rattle.std.specs.Fmt.{decimal}
 use Rattle.array_shape.specs.declared.shape.Shape.{Shape}
 use Rattle.eaw_face.specs.Frame.{Frame, frame_bytes, IsFrameIn}
@@ -26,8 +26,3 @@ AllSay shape (line ∷ lines) (f ∷ fs) = ((IsMeant line → ⊥) × AllSay sha
 -- what is written of a frame that is applied: how many are, by then
 abbrev pub applied_line : ℕ → List ℕ
 applied_line count = codes "applied " ++ decimal count ++ 10 ∷ []
-
--- and of several, of which the first is the next after so many
-abbrev pub applied_lines : ℕ → List Frame → List ℕ
-applied_lines count [] = []
-applied_lines count (f ∷ fs) = applied_line (count + 1) ++ applied_lines (count + 1) fs

@@ -126,7 +126,7 @@ module _ (tells : Bool) (told : IsTrue tells) (old new : View) (counts_now : (t 
     followed_open input cut text ended follows image left =
         let same : follows.shape ≡ shape = one_shape (header_of old.content.bytes) follows.shape shape follows.array.header first_opens.header in
         let all_there : AllOpen follows.shape old.content = subst (λ (s : Shape). AllOpen s old.content) (sym same) all in
-        ⊎_elim (λ like. (like.2, subst (λ (s : Shape). Opens s image like.2) same like.4)) (λ first. (_, subst (λ (s : Shape). Opens s image (followed first.0 (settled_data follows.shape old.content.bytes))) same first.6))
+        ⊎_elim (λ like. (like.2, subst (λ (s : Shape). Opens s image like.2) same like.4)) (λ first. (_, subst (λ (s : Shape). Opens s image (followed first.1 (settled_data follows.shape old.content.bytes))) same first.4))
         (follows.since all_there image (counts_now old.moment image told (follows.later all_there) left))
 
     pub next_followed : (status : Status) (input : List ℕ) (cut : Bool) (text : List ℕ) → OutcomeFor Follow (λ place. Unit {0}) old status new input cut text → AllOpen shape new.content

@@ -70,13 +70,11 @@ module _ (tells : Bool) (told : IsTrue tells) (old : View) (only_now : (image : 
     array = array tells told old only_now store attached keeps;
     lines = record {
       frames = ran.frames;
-      front = ran.front;
-      behind = ran.behind;
-      lines_are = ran.lines_are;
+      count = ran.count;
       said = ran.said;
       sequence = ran.sequence;
       told = ran.told;
-      leaves = leaves_on ended ran.frames ran.behind ran.leaves;
+      leaves = leaves_on ended ran.frames _ ran.leaves;
       stops = ran.stops;
     };
     later = λ all. omega (arith, (keeps told store.shape all).later, time.later, behind.moment);

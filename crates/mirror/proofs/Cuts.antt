@@ -28,8 +28,8 @@ number_cut k a b x y small less same = (
 pub part_cut : IsCut part_bytes IsPart
 part_cut a b x y is also same =
     let three = λ (p : Part) (z : List ℕ). append_assoc (little_bytes 8 p.0 ++ little_bytes 2 (length p.1)) p.1 z ∙ append_assoc (little_bytes 8 p.0) (little_bytes 2 (length p.1)) (p.1 ++ z) in
-    let addr = number_cut 8 a.0 b.0 (little_bytes 2 (length a.1) ++ (a.1 ++ x)) (little_bytes 2 (length b.1) ++ (b.1 ++ y)) is.addr also.addr (sym (three a x) ∙ same ∙ three b y) in
-    let len = number_cut 2 (length a.1) (length b.1) (a.1 ++ x) (b.1 ++ y) (omega (arith, is.stripe)) (omega (arith, also.stripe)) addr.1 in
+    let addr = number_cut 8 a.0 b.0 (little_bytes 2 (length a.1) ++ (a.1 ++ x)) (little_bytes 2 (length b.1) ++ (b.1 ++ y)) is.0 also.0 (sym (three a x) ∙ same ∙ three b y) in
+    let len = number_cut 2 (length a.1) (length b.1) (a.1 ++ x) (b.1 ++ y) (omega (arith, is.2)) (omega (arith, also.2)) addr.1 in
     let bytes = front_same (length a.1) a.1 b.1 x y refl (sym len.0) len.1 in
     ((λ i. (addr.0 i, bytes.0 i)), bytes.1)
 
@@ -49,8 +49,8 @@ group_cut a b x y is also same =
     let n = λ (g : Group). little_bytes 2 (length g.parts) in
     let ps = λ (g : Group). flat_map part_bytes g.parts in
     let behind = rest_same a.number b.number ((n a ++ ps a) ++ x) ((n b ++ ps b) ++ y) same in
-    let count = number_cut 2 (length a.parts) (length b.parts) (ps a ++ x) (ps b ++ y) is.few also.few (sym (append_assoc (n a) (ps a) x) ∙ behind ∙ append_assoc (n b) (ps b) y) in
-    let parts = list_cut part_bytes IsPart part_cut a.parts b.parts x y count.0 is.parts also.parts count.1 in
+    let count = number_cut 2 (length a.parts) (length b.parts) (ps a ++ x) (ps b ++ y) is.2 also.2 (sym (append_assoc (n a) (ps a) x) ∙ behind ∙ append_assoc (n b) (ps b) y) in
+    let parts = list_cut part_bytes IsPart part_cut a.parts b.parts x y count.0 is.3 also.3 count.1 in
     let number = first_same a.number b.number ((n a ++ ps a) ++ x) ((n b ++ ps b) ++ y) same in
     ((λ i. record { number = number i; parts = parts.0 i }), parts.1)
 
@@ -61,9 +61,9 @@ frame_cut a b x y is also same =
     let gs = λ (f : Frame). flat_map group_bytes f.groups in
     let four = λ (f : Frame) (z : List ℕ). append_assoc ((mark ++ s f) ++ n f) (gs f) z ∙ append_assoc (mark ++ s f) (n f) (gs f ++ z) ∙ append_assoc mark (s f) (n f ++ (gs f ++ z)) in
     let behind = (front_same 4 mark mark (s a ++ (n a ++ (gs a ++ x))) (s b ++ (n b ++ (gs b ++ y))) refl refl (sym (four a x) ∙ same ∙ four b y)).1 in
-    let sequence = number_cut 8 a.sequence b.sequence (n a ++ (gs a ++ x)) (n b ++ (gs b ++ y)) is.sequence also.sequence behind in
-    let count = number_cut 2 (length a.groups) (length b.groups) (gs a ++ x) (gs b ++ y) is.few also.few sequence.1 in
-    let groups = list_cut group_bytes IsGroup group_cut a.groups b.groups x y count.0 is.groups also.groups count.1 in
+    let sequence = number_cut 8 a.sequence b.sequence (n a ++ (gs a ++ x)) (n b ++ (gs b ++ y)) is.0 also.0 behind in
+    let count = number_cut 2 (length a.groups) (length b.groups) (gs a ++ x) (gs b ++ y) is.2 also.2 sequence.1 in
+    let groups = list_cut group_bytes IsGroup group_cut a.groups b.groups x y count.0 is.4 also.4 count.1 in
     ((λ i. record { sequence = sequence.0 i; groups = groups.0 i }), groups.1)
 
 -- what is written is read back

@@ -29,7 +29,7 @@ abbrev zero_at : ℕ → Part
 zero_at addr = (addr, 0 ∷ [])
 
 zero_part : (addr : ℕ) → addr < 2 ^ 64 → addr % 512 ≡ 0 → IsPart (zero_at addr)
-zero_part addr small aligned = record { addr = small; some = omega arith; stripe = omega (arith, aligned); bytes = All-cons IsByte 0 [] (omega arith) (All-nil IsByte) }
+zero_part addr small aligned = (small, omega arith, omega (arith, aligned), All-cons IsByte 0 [] (omega arith) (All-nil IsByte))
 
 module _ (shape : Shape) (shaped : IsShape shape) where
   -- each logger has a page
@@ -55,17 +55,17 @@ module _ (shape : Shape) (shaped : IsShape shape) where
         one_group low ∷ later.0,
         omega (arith, later.1),
         (omega arith, later.2),
-        All-cons IsGroup (one_group low) later.0 (record {
-          number = omega (arith, fits, shaped.most_numbers);
-          some = omega arith;
-          few = omega arith;
-          parts = All-cons IsPart (zero_at 0) [] (zero_part 0 (omega arith) (omega arith)) (All-nil IsPart);
-        }) later.3,
-        All-cons (IsGroupIn shape) (one_group low) later.0 (record {
-          number = omega (arith, fits);
-          inside = All-cons (IsInside shape) (zero_at 0) [] (let page = page_at 0 (omega (arith, shaped.some_loggers)) in omega (arith, page)) (All-nil (IsInside shape));
-          room = λ g lt. let one = counted_one shape g (0, 1) in omega (arith, one, shaped.some_entries);
-        }) later.4,
+        All-cons IsGroup (one_group low) later.0 (
+          omega (arith, fits, shaped.most_numbers),
+          omega arith,
+          omega arith,
+          All-cons IsPart (zero_at 0) [] (zero_part 0 (omega arith) (omega arith)) (All-nil IsPart),
+        ) later.3,
+        All-cons (IsGroupIn shape) (one_group low) later.0 (
+          omega (arith, fits),
+          All-cons (IsInside shape) (zero_at 0) [] (let page = page_at 0 (omega (arith, shaped.some_loggers)) in omega (arith, page)) (All-nil (IsInside shape)),
+          (λ g lt. let one = counted_one shape g (0, 1) in omega (arith, one, shaped.some_entries)),
+        ) later.4,
       )
 
   groups_to_come : (groups : Groups) → HasNumbers shape groups → (bytes : List ℕ) × GroupsRest shape groups bytes

@@ -165,7 +165,7 @@ module _ (shape : Shape) (frame : List ℕ) (f : AreFrame shape frame) where
   count_said =
       ap (λ (l : List ℕ). little_number 2 (drop 12 l)) (sym f.is ∙ append_assoc s n gs)
       ∙ ap (λ (l : List ℕ). little_number 2 l) (drop_at s (n ++ gs) 12 front)
-      ∙ little_number-reads_back 2 (length f.frame.groups) gs f.good.is.few
+      ∙ little_number-reads_back 2 (length f.frame.groups) gs f.good.0.2
 
   pub groups_said : drop 14 frame ≡ gs
   groups_said =
@@ -201,7 +201,7 @@ module _ (shape : Shape) (low : ℕ) (g : Group) (more : List Group) (rest : Lis
   number_said = ap (λ (l : List ℕ). slice_index l 0) spread
 
   pub parts_counted : little_number 2 (drop 1 rest) ≡ length g.parts
-  parts_counted = ap (λ (l : List ℕ). little_number 2 (drop 1 l)) spread ∙ little_number-reads_back 2 (length g.parts) behind next.is.few
+  parts_counted = ap (λ (l : List ℕ). little_number 2 (drop 1 l)) spread ∙ little_number-reads_back 2 (length g.parts) behind next.is.2
 
   pub parts_said : drop 3 rest ≡ behind
   parts_said = ap (λ (l : List ℕ). drop 3 l) spread ∙ drop_at (g.number ∷ c) behind 3 (let two = length-bytes_low_first 0 2 (length g.parts) in omega (arith, two))
@@ -222,10 +222,10 @@ module _ (tells : Bool) (Opens : Shape → List ℕ → List ℕ → Type 0) (k 
     left = f.frame.groups;
     so_many = refl;
     all = refl;
-    are = f.good.is.groups;
-    good = f.good.groups;
+    are = f.good.0.4;
+    good = f.good.1;
     low = 0;
-    rise = f.good.is.rise;
+    rise = f.good.0.3;
     gone_low = All-nil (λ (g : Group). g.number < 0);
     said = rest_is ∙ groups_said old.shape frame f;
     members = none;
@@ -274,9 +274,9 @@ module _ (tells : Bool) (Opens : Shape → List ℕ → List ℕ → Type 0) (k 
         subst (λ (shape : Shape). HasParts shape count behind) (sym on.shape) (record {
           list = g.parts;
           is_count = sym (count_is ∙ parts_counted old.shape on.low g n.more rest n.next);
-          are = n.next.is.parts;
-          inside = n.next.good.inside;
-          room = n.next.good.room;
+          are = n.next.is.3;
+          inside = n.next.good.1;
+          room = n.next.good.2;
           rest = flat_map group_bytes n.more;
           is = behind_is ∙ parts_said old.shape on.low g n.more rest n.next;
         })
@@ -294,7 +294,7 @@ module _ (tells : Bool) (Opens : Shape → List ℕ → List ℕ → Type 0) (k 
 
       same_parts : (w.parts.list ≡ g.parts) × (w.parts.rest ≡ flat_map group_bytes n.more)
       same_parts = list_cut part_bytes IsPart part_cut w.parts.list g.parts w.parts.rest (flat_map group_bytes n.more)
-          (w.parts.is_count ∙ count_is ∙ parts_counted old.shape on.low g n.more rest n.next) w.parts.are n.next.is.parts
+          (w.parts.is_count ∙ count_is ∙ parts_counted old.shape on.low g n.more rest n.next) w.parts.are n.next.is.3
           (sym w.parts.is ∙ behind_is ∙ parts_said old.shape on.low g n.more rest n.next)
 
       wrote : Wrote tells g.number g.parts now new
@@ -305,7 +305,7 @@ module _ (tells : Bool) (Opens : Shape → List ℕ → List ℕ → Type 0) (k 
       some_ranges (p ∷ ps) some = omega arith
 
       some : 0 < length (ranges_of g.parts)
-      some = some_ranges g.parts n.next.is.some
+      some = some_ranges g.parts n.next.is.1
 
       live_there : (u : ℕ) → IsLive now u → IsLive new u
       live_there u live = record {
@@ -315,7 +315,7 @@ module _ (tells : Bool) (Opens : Shape → List ℕ → List ℕ → Type 0) (k 
 
       live_here : IsLive new g.number
       live_here = record {
-        small = subst (λ (s : Shape). g.number < s.numbers) (sym (wrote.shape ∙ on.shape)) n.next.good.number;
+        small = subst (λ (s : Shape). g.number < s.numbers) (sym (wrote.shape ∙ on.shape)) n.next.good.0;
         live = subst (λ (r : Logs (ℕ × ℕ)). IsSome (r g.number)) (sym wrote.ranges) (is_live_now now.ranges g.number (ranges_of g.parts) some);
       }
 
@@ -350,7 +350,7 @@ module _ (tells : Bool) (Opens : Shape → List ℕ → List ℕ → Type 0) (k 
             gone_low = All-push (λ (h : Group). h.number < g.number + 1) on.gone g (All-weaker (λ (h : Group). h.number < g.number) (λ (h : Group). h.number < g.number + 1) (λ h lt. omega (arith, lt)) on.gone below_now) (omega arith);
             said = sym w.behind ∙ same_parts.1;
             members =
-                last_in bits bits' g.number (omega (arith, n.next.good.number, most)) (λ u le. on.above u (omega (arith, le, n.next.least)))
+                last_in bits bits' g.number (omega (arith, n.next.good.0, most)) (λ u le. on.above u (omega (arith, le, n.next.least)))
                 (subst (λ (m : ℕ). has bits' m ≡ true) is_number here) (λ u other. same_bits u (λ same. other (same ∙ is_number)))
                 ∙ ap (λ (l : List ℕ). l ++ g.number ∷ []) on.members ∙ sym more_numbers;
             above = λ u le. same_bits u (λ same. omega (arith, le, same, is_number)) ∙ on.above u (omega (arith, le, n.next.least));

@@ -26,14 +26,14 @@ parts_long (p ∷ ps) are =
     let rest = parts_long ps (All-tail IsPart p ps are) in
     let both = length-append (part_bytes p) (flat_map part_bytes ps) in
     let here = part_long p in
-    let stripe = (All-head IsPart p ps are).stripe in
+    let stripe = (All-head IsPart p ps are).2 in
     omega (arith, rest, both, here, stripe)
 
 module _ (shape : Shape) (in_range : IsShape shape) where
   group_long : (g : Group) → IsGroup g → IsGroupIn shape g → length (group_bytes g) ≤ 3 + 522 * (shape.loggers * shape.entries)
   group_long g is good =
-      let all = parts_long g.parts is.parts in
-      let most = fit_most shape in_range.some_loggers (ranges_of g.parts) good.room in
+      let all = parts_long g.parts is.3 in
+      let most = fit_most shape in_range.some_loggers (ranges_of g.parts) good.2 in
       let many = length-ranges_of g.parts in
       let both = length-append (little_bytes 2 (length g.parts)) (flat_map part_bytes g.parts) in
       let two = length-bytes_low_first 0 2 (length g.parts) in
@@ -49,8 +49,8 @@ module _ (shape : Shape) (in_range : IsShape shape) where
 
   frame_long : (f : Frame) → IsFrameIn shape f → length (frame_bytes f) ≤ frame_most shape
   frame_long f good =
-      let all = groups_long f.groups good.is.groups good.groups in
-      let few = rise_most shape 0 f.groups (omega arith) good.is.rise good.groups in
+      let all = groups_long f.groups good.0.4 good.1 in
+      let few = rise_most shape 0 f.groups (omega arith) good.0.3 good.1 in
       let product = mul-le-mul_right (3 + 522 * (shape.loggers * shape.entries)) (let least : length f.groups ≤ shape.numbers = omega (arith, few) in least) in
       let a = length-append (mark ++ little_bytes 8 f.sequence ++ little_bytes 2 (length f.groups)) (flat_map group_bytes f.groups) in
       let b = length-append (mark ++ little_bytes 8 f.sequence) (little_bytes 2 (length f.groups)) in

@@ -41,13 +41,13 @@ module _ (shape : Shape) (part : Part) (more rest : List ℕ) (next : NextPart s
   spread = next.said ∙ append_assoc (head_bytes ++ len_bytes) part.1 more ∙ append_assoc head_bytes len_bytes (part.1 ++ more)
 
   pub addr_said : little_number 8 rest ≡ part.0
-  addr_said = ap (λ (l : List ℕ). little_number 8 l) spread ∙ little_number-reads_back 8 part.0 (len_bytes ++ (part.1 ++ more)) next.is.addr
+  addr_said = ap (λ (l : List ℕ). little_number 8 l) spread ∙ little_number-reads_back 8 part.0 (len_bytes ++ (part.1 ++ more)) next.is.0
 
   behind_addr : drop 8 rest ≡ len_bytes ++ (part.1 ++ more)
   behind_addr = ap (λ (l : List ℕ). drop 8 l) spread ∙ drop_at head_bytes (len_bytes ++ (part.1 ++ more)) 8 (length-bytes_low_first 0 8 part.0)
 
   pub len_said : little_number 2 (drop 8 rest) ≡ length part.1
-  len_said = ap (λ (l : List ℕ). little_number 2 l) behind_addr ∙ little_number-reads_back 2 (length part.1) (part.1 ++ more) (omega (arith, next.is.stripe))
+  len_said = ap (λ (l : List ℕ). little_number 2 l) behind_addr ∙ little_number-reads_back 2 (length part.1) (part.1 ++ more) (omega (arith, next.is.2))
 
   heads : length (head_bytes ++ len_bytes) ≡ 10
   heads = let one = length-bytes_low_first 0 8 part.0 in let two = length-bytes_low_first 0 2 (length part.1) in omega (arith, one, two, length-append head_bytes len_bytes)
@@ -179,7 +179,7 @@ module _ (tells : Bool) (Opens : Shape → List ℕ → List ℕ → Type 0) (nu
     p = next.part
 
     one : parts_of_write p.0 p.1 ≡ p ∷ []
-    one = one_write_part p.0 p.1 next.next.is.some next.next.is.stripe
+    one = one_write_part p.0 p.1 next.next.is.1 next.next.is.2
 
     same_list : on.gone ++ on.left ≡ on.gone ++ (p ∷ next.parts)
     same_list = ap (λ (l : List Part). on.gone ++ l) next.are
@@ -290,7 +290,7 @@ module _ (tells : Bool) (Opens : Shape → List ℕ → List ℕ → Type 0) (nu
       behind_same = behind_is ∙ more_said old.shape n.part more rest n.next (10 + little_number 2 (drop 8 rest)) (ap (λ (m : ℕ). 10 + m) (len_said old.shape n.part more rest n.next))
 
       pub read_some : 0 < length part
-      read_some = subst (λ (l : List ℕ). 0 < length l) (sym part_same) n.next.is.some
+      read_some = subst (λ (l : List ℕ). 0 < length l) (sym part_same) n.next.is.1
 
       pub read_inside : addr + length part ≤ data_len now.shape
       read_inside = subst (λ (q : ℕ × List ℕ × Shape). q.0 + length q.1 ≤ data_len q.2) (λ i. (sym addr_same i, sym part_same i, sym on.wrote.shape i)) n.next.inside

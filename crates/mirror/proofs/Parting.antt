@@ -39,17 +39,17 @@ module _ (shape : Shape) (shaped : IsShape shape) (parts : Parts) where
       let r1 = little_bytes 2 (length p.1) ++ (p.1 ++ (flat_map part_bytes ps ++ rest)) in
       let r2 = p.1 ++ (flat_map part_bytes ps ++ rest) in
       let free : slice_index parts.held k < shape.entries = free_here shape parts.held (p.0, length p.1) (ranges_of ps) within (room k logger) in
-      let addr : p.0 < data_len shape = omega (arith, inside, is.some) in
-      number_first (AfterAddress shape parts) 8 bytes p.0 r1 is.addr (said ∙ four (little_bytes 8 p.0) (little_bytes 2 (length p.1)) p.1 (flat_map part_bytes ps) rest) (
+      let addr : p.0 < data_len shape = omega (arith, inside, is.1) in
+      number_first (AfterAddress shape parts) 8 bytes p.0 r1 is.0 (said ∙ four (little_bytes 8 p.0) (little_bytes 2 (length p.1)) p.1 (flat_map part_bytes ps) rest) (
         addr,
         free,
-        number_first (AfterLength shape p.0 (parts.count - 1) held parts.behind) 2 r1 (length p.1) r2 (omega (arith, is.stripe)) refl (
-          is.some,
-          is.stripe,
+        number_first (AfterLength shape p.0 (parts.count - 1) held parts.behind) 2 r1 (length p.1) r2 (omega (arith, is.2)) refl (
+          is.1,
+          is.2,
           record {
             first = p.1;
             count = refl;
-            small = is.bytes;
+            small = is.3;
             rest = flat_map part_bytes ps ++ rest;
             is = refl;
             after = record {
@@ -91,7 +91,7 @@ module _ (shape : Shape) (shaped : IsShape shape) (parts : Parts) where
         record {
           list = (r.high, b.first) ∷ q.list;
           count = omega (arith, q.count, some);
-          are = All-cons IsPart (r.high, b.first) q.list (record { addr = r.fits; some = omega (arith, lengths.0, b.count); stripe = omega (arith, lengths.1, b.count); bytes = b.small }) q.are;
+          are = All-cons IsPart (r.high, b.first) q.list (r.fits, omega (arith, lengths.0, b.count), omega (arith, lengths.1, b.count), b.small) q.are;
           inside = All-cons (IsInside shape) (r.high, b.first) q.list inside q.inside;
           room = λ g lt. (room_over shape parts.held (r.high, length b.first) (ranges_of q.list) within addressed.1 g).1 (q.room g lt);
           rest = q.rest;
@@ -132,7 +132,7 @@ pub rise_most : (shape : Shape) (low : ℕ) (groups : List Group) → low ≤ sh
 rise_most shape low [] least rise good = omega (arith, least)
 rise_most shape low (g ∷ gs) least rise good =
     let here = All-head (IsGroupIn shape) g gs good in
-    let rest = rise_most shape (g.number + 1) gs (omega (arith, here.number)) rise.1 (All-tail (IsGroupIn shape) g gs good) in
+    let rest = rise_most shape (g.number + 1) gs (omega (arith, here.0)) rise.1 (All-tail (IsGroupIn shape) g gs good) in
     omega (arith, rest, rise.0)
 
 -- from a group on: its number, the count of its parts, its parts, and what is behind it
@@ -144,17 +144,17 @@ module _ (shape : Shape) (shaped : IsShape shape) (groups : Groups) where
       record {
         number = g.number;
         least = rise.0;
-        most = good.number;
+        most = good.0;
         rest = r1;
         is = said ∙ ap (λ (l : List ℕ). g.number ∷ l) (append_assoc (little_bytes 2 (length g.parts)) (flat_map part_bytes g.parts) (flat_map group_bytes gs));
-        after = number_first (AfterPartCount shape (behind groups g.number)) 2 r1 (length g.parts) (flat_map part_bytes g.parts ++ flat_map group_bytes gs) is.few refl (
-          is.some,
+        after = number_first (AfterPartCount shape (behind groups g.number)) 2 r1 (length g.parts) (flat_map part_bytes g.parts ++ flat_map group_bytes gs) is.2 refl (
+          is.1,
           record {
             list = g.parts;
             count = refl;
-            are = is.parts;
-            inside = good.inside;
-            room = λ k lt. let fits = good.room k lt in let none = none_held k (omega (arith, lt, shaped.most_loggers)) in omega (arith, fits, none);
+            are = is.3;
+            inside = good.1;
+            room = λ k lt. let fits = good.2 k lt in let none = none_held k (omega (arith, lt, shaped.most_loggers)) in omega (arith, fits, none);
             rest = flat_map group_bytes gs;
             is = refl;
             after = record { list = gs; count = omega (arith, count); rise = rise.1; are = are; good = goods; is = refl };
@@ -176,12 +176,12 @@ module _ (shape : Shape) (shaped : IsShape shape) (groups : Groups) where
         let q = counted.1 in
         let next = q.after in
         let g : Group = record { number = r.number; parts = q.list } in
-        let is : IsGroup g = record { number = omega (arith, r.most, shaped.most_numbers); some = omega (arith, counted.0, q.count); few = subst (λ (n : ℕ). n < 256 ^ 2) (sym q.count) r.after.fits; parts = q.are } in
-        let good : IsGroupIn shape g = record {
-          number = r.most;
-          inside = q.inside;
-          room = λ k lt. let fits = q.room k lt in let none = none_held k (omega (arith, lt, shaped.most_loggers)) in omega (arith, fits, none);
-        } in
+        let is : IsGroup g = (omega (arith, r.most, shaped.most_numbers), omega (arith, counted.0, q.count), subst (λ (n : ℕ). n < 256 ^ 2) (sym q.count) r.after.fits, q.are) in
+        let good : IsGroupIn shape g = (
+          r.most,
+          q.inside,
+          (λ k lt. let fits = q.room k lt in let none = none_held k (omega (arith, lt, shaped.most_loggers)) in omega (arith, fits, none)),
+        ) in
         record {
           list = g ∷ next.list;
           count = omega (arith, next.count, some);

@@ -64,7 +64,7 @@ module _ (shape : Shape) where
     are_parts (p ∷ ps) placed bytes =
         let here = placed.0 in
         All-cons IsPart p ps
-        (record { addr = omega (arith, here.inside, small_data); some = here.some; stripe = here.page; bytes = All-head HasBytes p ps bytes })
+        (omega (arith, here.inside, small_data), here.some, here.page, All-head HasBytes p ps bytes)
         (are_parts ps placed.1 (All-tail HasBytes p ps bytes))
 
     are_inside : (ps : List Part) → AllPlaced shape ps → All (IsInside shape) ps
@@ -74,8 +74,8 @@ module _ (shape : Shape) where
     module _ (number : ℕ) (lt : number < shape.numbers) where
       pub good_group : (p : Part) (ps : List Part) → IsSendable shape (p ∷ ps) → All HasBytes (p ∷ ps) → (let g : Group = record { number = number; parts = p ∷ ps } in IsGroup g × IsGroupIn shape g)
       good_group p ps s bytes = (
-        record { number = omega (arith, lt, in_range.most_numbers); some = omega arith; few = omega (arith, parts_fit (p ∷ ps) s); parts = are_parts (p ∷ ps) s.placed bytes },
-        record { number = lt; inside = are_inside (p ∷ ps) s.placed; room = s.room },
+        (omega (arith, lt, in_range.most_numbers), omega arith, omega (arith, parts_fit (p ∷ ps) s), are_parts (p ∷ ps) s.placed bytes),
+        (lt, are_inside (p ∷ ps) s.placed, s.room),
       )
 
       -- a frame of this one group
@@ -84,10 +84,7 @@ module _ (shape : Shape) where
       good_frame sequence (p ∷ ps) some small s bytes =
           let good = good_group p ps s bytes in
           let g : Group = record { number = number; parts = p ∷ ps } in
-          record {
-            is = record { sequence = small; some = omega arith; few = omega arith; rise = (omega arith, tt); groups = All-cons IsGroup g [] good.0 (All-nil IsGroup) };
-            groups = All-cons (IsGroupIn shape) g [] good.1 (All-nil (IsGroupIn shape));
-          }
+          ((small, omega arith, omega arith, (omega arith, tt), All-cons IsGroup g [] good.0 (All-nil IsGroup)), All-cons (IsGroupIn shape) g [] good.1 (All-nil (IsGroupIn shape)))
 
 pub some_group : (number : ℕ) (ps : List Part) → 0 < length ps → 0 < length (group_of number ps)
 some_group number [] some = absurd (omega (arith, some))

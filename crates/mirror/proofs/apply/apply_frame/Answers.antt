@@ -40,7 +40,7 @@ log_parts-requires-clause-number g c =
     let n = next_group s.tells s.opens c.loop-group._group c.args.frame.now c.loop-group.rest.now c.loop-group.numbers.bits old (s.view c.loop-group.store) on
     (subst (λ (m : ℕ). c.loop-group._group < m) (count_is c.read_u16-count.result c.args.frame.now c.read_u16-count.ensures) c.loop-group-test.true) in
     let number = c.cut_group-number.ensures.number ∙ number_said old.shape on.low n.group n.more c.loop-group.rest.now n.next in
-    subst (λ (q : ℕ × Shape). q.0 < q.1.numbers) (λ i. (sym number i, sym on.shape i)) n.next.good.number
+    subst (λ (q : ℕ × Shape). q.0 < q.1.numbers) (λ i. (sym number i, sym on.shape i)) n.next.good.0
 
 pub log_parts-requires-clause-free : goal.log_parts-requires-clause-free
 log_parts-requires-clause-free g c =
@@ -72,7 +72,7 @@ with-numbers-requires g c =
     (subst (λ (m : ℕ). c.loop-group._group < m) (count_is c.read_u16-count.result c.args.frame.now c.read_u16-count.ensures) c.loop-group-test.true) in
     let number = c.cut_group-number.ensures.number ∙ number_said old.shape on.low n.group n.more c.loop-group.rest.now n.next in
     let shaped = g.met.S.EawStore.shaped c.args.store.now in
-    omega (arith, number, n.next.good.number, shaped.most_numbers)
+    omega (arith, number, n.next.good.0, shaped.most_numbers)
 
 pub loop-group-preserved : goal.loop-group-preserved
 loop-group-preserved g c =
