@@ -2,7 +2,6 @@
 use Rattle.std.specs.Prelude.{ℕ, List, [], ◌∷◌, ◌++◌, codes}
 use Rattle.std.specs.Fmt.{decimal}
 use Rattle.array_shape.specs.Numbers.{number_of}
-use Rattle.texts.specs.MediaFault.{media_fault}
 use Rattle.array_runs.specs.declared.status.Refusal.{Refusal}
 use Rattle.array_runs.specs.declared.status.Refusal.TheVariants.{Exists, TablesFull, PagesFull}
 use Rattle.array_runs.specs.declared.status.Status.{Status}
@@ -21,7 +20,7 @@ status_text Usage = codes "usage"
 status_text TooLong = codes "too long"
 status_text ReadFault = codes "read fault"
 status_text WriteFault = codes "write fault"
-status_text MediaFault = media_fault
+status_text MediaFault = codes "media fault"
 status_text NoMemory = codes "no memory"
 status_text (Damaged page) = codes "damaged " ++ decimal page
 status_text (BadRow logger tid) = codes "bad row " ++ (decimal logger ++ 32 ∷ decimal tid)

@@ -1,5 +1,6 @@
 -- What readers of a script ask for.
-use Rattle.std.specs.Prelude.{ℕ, zero, suc, nat_eq, if◌then◌else◌, List, [], ◌∷◌, ◌++◌}
+use Rattle.std.specs.Prelude.{ℕ, ◌+◌, nat_eq, if◌then◌else◌, List, [], ◌∷◌, ◌++◌, map}
+use Rattle.std.specs.List.{range_with_len}
 use Rattle.history.specs.declared.key.Key.{Key}
 use Rattle.script_text.specs.declared.joint_line.JointLine.{JointLine}
 use Rattle.script_text.specs.declared.joint_line.JointLine.TheVariants.{Read}
@@ -12,10 +13,9 @@ keys_by reader (line ∷ lines) = keys_by reader lines
 
 -- what each of n readers asks for, from this one on
 abbrev pub keys_from : ℕ → ℕ → List JointLine → List (List Key)
-keys_from reader zero lines = []
-keys_from reader (suc n) lines = keys_by reader lines ∷ keys_from (suc reader) n lines
+keys_from reader n lines = map (λ (one : ℕ). keys_by one lines) (range_with_len reader n)
 
 -- all that the readers from this one on ask for, if these lines are the rest
 abbrev pub all_asked : ℕ → List (List Key) → List JointLine → List (List Key)
 all_asked reader [] lines = []
-all_asked reader (keys ∷ asks) lines = (keys ++ keys_by reader lines) ∷ all_asked (suc reader) asks lines
+all_asked reader (keys ∷ asks) lines = (keys ++ keys_by reader lines) ∷ all_asked (reader + 1) asks lines

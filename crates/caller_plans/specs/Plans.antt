@@ -1,62 +1,44 @@
 -- What each caller of a script plans.
-use Rattle.std.specs.Prelude.{ℕ, zero, suc, Bool, true, false, not, nat_eq, if◌then◌else◌, List, [], ◌∷◌, ◌++◌, Option, Some, None}
+use Rattle.std.specs.Prelude.{ℕ, zero, suc, Bool, true, false, nat_eq, if◌then◌else◌, List, [], ◌∷◌, ◌++◌, Option, Some, None, option_map, option_to_list}
 use Rattle.std.specs.List.{AllZip}
+use Rattle.std.specs.Map.{update}
 use Rattle.history.specs.declared.call.Call.{Call}
 use Rattle.history.specs.declared.call.Call.TheVariants.{Begin, Table, Control}
 use Rattle.history.specs.declared.call.TableCall.{TableCall}
-use Rattle.history.specs.declared.call.Control.TheVariants.{Commit, Abort, Offer, Settle, Purge}
+use Rattle.history.specs.declared.call.Control.TheVariants.{Commit, Abort, Offer}
 use Rattle.script_text.specs.declared.joint_line.JointLine.{JointLine}
-use Rattle.script_text.specs.declared.joint_line.JointLine.TheVariants.{Nothing, Told, Read, Bad}
+use Rattle.script_text.specs.declared.joint_line.JointLine.TheVariants.{Told, Bad}
 use Rattle.script_text.specs.JointLine.{JointLineSays}
 use Rattle.caller_plans.specs.declared.plan.Plan.{Plan}
 use Rattle.caller_plans.specs.declared.plan.PlanEnd.TheVariants as end
 use Rattle.caller_plans.specs.declared.fate.LineFault.{LineFault}
 use Rattle.caller_plans.specs.declared.fate.LineFault.TheVariants as fault
 
--- The transactions that a caller's calls make, from outside a transaction or after these calls of one that has begun. A call outside a
--- transaction is passed over, and so are a begin within one, each settle and each purge: what is offered is settled without a call.
-abbrev pub planned : Option (List TableCall) → List Call → List Plan
-planned None [] = []
-planned (Some made) [] = record { calls = made; end = end.Unended } ∷ []
-planned None (Begin ∷ calls) = planned (Some []) calls
-planned None (call ∷ calls) = planned None calls
-planned (Some made) (Begin ∷ calls) = planned (Some made) calls
-planned (Some made) (Table call ∷ calls) = planned (Some (made ++ call ∷ [])) calls
-planned (Some made) (Control Commit ∷ calls) = record { calls = made; end = end.Commit } ∷ planned None calls
-planned (Some made) (Control Abort ∷ calls) = record { calls = made; end = end.Abort } ∷ planned None calls
-planned (Some made) (Control Offer ∷ calls) = record { calls = made; end = end.Offer } ∷ planned None calls
-planned (Some made) (Control Settle ∷ calls) = planned (Some made) calls
-planned (Some made) (Control Purge ∷ calls) = planned (Some made) calls
+-- A call of a caller that is outside a transaction, or has made these calls of one that has begun: whether it is stray, where the caller is
+-- after it, and the plan that it ends, if any. Stray, and passed over, are a call outside a transaction, a begin within one, each settle and
+-- each purge: what is offered is settled without a call.
+abbrev pub after_call : Option (List TableCall) → Call → Bool × Option (List TableCall) × List Plan
+after_call None Begin = (false, Some [], [])
+after_call (Some made) (Table call) = (false, Some (made ++ call ∷ []), [])
+after_call (Some made) (Control Commit) = (false, None, record { calls = made; end = end.Commit } ∷ [])
+after_call (Some made) (Control Abort) = (false, None, record { calls = made; end = end.Abort } ∷ [])
+after_call (Some made) (Control Offer) = (false, None, record { calls = made; end = end.Offer } ∷ [])
+after_call begun call = (true, begun, [])
 
--- whether a caller is within a transaction after a call, given whether it was before
-abbrev pub within_after : Bool → Call → Bool
-within_after was Begin = true
-within_after was (Control Commit) = false
-within_after was (Control Abort) = false
-within_after was (Control Offer) = false
-within_after was call = was
+-- the transactions that a caller's calls in these lines make, from there on
+abbrev pub planned : ℕ → Option (List TableCall) → List JointLine → List Plan
+planned caller begun [] = option_to_list (option_map (λ made. record { calls = made; end = end.Unended }) begun)
+planned caller begun (Told other call ∷ lines) =
+    if nat_eq other caller then (after_call begun call).2 ++ planned caller (after_call begun call).1 lines else planned caller begun lines
+planned caller begun (line ∷ lines) = planned caller begun lines
 
--- a call outside a transaction, a begin within one, a settle, or a purge
-abbrev pub is_stray : Bool → Call → Bool
-is_stray within Begin = within
-is_stray within (Control Settle) = true
-is_stray within (Control Purge) = true
-is_stray within call = not within
-
--- the calls of a caller, in order
-abbrev pub calls_by : ℕ → List JointLine → List Call
-calls_by caller [] = []
-calls_by caller (Told other call ∷ lines) = if nat_eq other caller then call ∷ calls_by caller lines else calls_by caller lines
-calls_by caller (line ∷ lines) = calls_by caller lines
-
--- the lines from the n-th on that are bad or stray, given which callers are within a transaction
-abbrev pub faults_from : ℕ → (ℕ → Bool) → List JointLine → List LineFault
-faults_from n within [] = []
-faults_from n within (Nothing ∷ lines) = faults_from (suc n) within lines
-faults_from n within (Read reader key ∷ lines) = faults_from (suc n) within lines
-faults_from n within (Bad ∷ lines) = fault.Bad n ∷ faults_from (suc n) within lines
-faults_from n within (Told caller call ∷ lines) =
-    (if is_stray (within caller) call then fault.Stray n ∷ [] else []) ++ faults_from (suc n) (λ other. if nat_eq other caller then within_after (within caller) call else within other) lines
+-- the lines from the n-th on that are bad or stray, given where each caller is
+abbrev pub faults_from : ℕ → (ℕ → Option (List TableCall)) → List JointLine → List LineFault
+faults_from n begun [] = []
+faults_from n begun (Bad ∷ lines) = fault.Bad n ∷ faults_from (suc n) begun lines
+faults_from n begun (Told caller call ∷ lines) = (if (after_call (begun caller) call).0 then fault.Stray n ∷ [] else [])
+    ++ faults_from (suc n) (update nat_eq begun caller (after_call (begun caller) call).1) lines
+faults_from n begun (line ∷ lines) = faults_from (suc n) begun lines
 
 -- what each line says, with this many callers and readers
 abbrev pub AllSay : (callers readers : ℕ) → List (List ℕ) → List JointLine → Type 0
@@ -65,4 +47,4 @@ AllSay callers readers lines said = AllZip (JointLineSays callers readers) lines
 -- what each of n callers plans, from this one on
 abbrev pub plans_from : ℕ → ℕ → List JointLine → List (List Plan)
 plans_from caller zero lines = []
-plans_from caller (suc n) lines = planned None (calls_by caller lines) ∷ plans_from (suc caller) n lines
+plans_from caller (suc n) lines = planned caller None lines ∷ plans_from (suc caller) n lines

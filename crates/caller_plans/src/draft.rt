@@ -1,8 +1,7 @@
 // What a caller plans, as far as its calls have been read.
-ghost use Rattle.std.specs.Prelude.{◌≡◌, List, [], ◌∷◌, ◌++◌, Some, None, IfOk, OnOk, option_map, false};
-ghost use Rattle.history.specs.declared.call.Call.{Call};
-ghost use Rattle.caller_plans.specs.Plans.{is_stray, within_after};
-ghost use Rattle.caller_plans.specs.Drafts.{empty_draft, drafted, is_within, plan_ended};
+ghost use Rattle.std.specs.Prelude.{◌≡◌, [], ◌∷◌, ◌++◌, Some, None, IfOk, OnOk, option_map, false};
+ghost use Rattle.caller_plans.specs.Plans.{after_call};
+ghost use Rattle.caller_plans.specs.Drafts.{empty_draft, drafted, plan_ended};
 
 use crate::plan::{Asked, Plan, PlanEnd, Plans};
 use history::{Call, Control, TableCall};
@@ -28,7 +27,7 @@ impl Draft {
 
     /// Whether the call is outside a transaction, is a begin within one, or is a settle or a purge.
     pub fn is_stray(&self, call: &Call) -> bool
-        ensures { result ≡ is_stray (is_within self.now) call.now }
+        ensures { result ≡ (after_call self.now.begun call.now).0 }
     {
         match call {
             Call::Begin => self.begun.is_some(),
@@ -40,9 +39,9 @@ impl Draft {
 
     /// Adds a call that is not stray.
     pub fn add(&mut self, alloc: Global, call: &Call) -> Result<(), NoMemory>
-        requires { is_stray (is_within self.old) call.now ≡ false }
-        ensures planned { OnOk result ((calls : List Call) → drafted self.new calls ≡ drafted self.old (call.now ∷ calls)) }
-        ensures within { OnOk result (is_within self.new ≡ within_after (is_within self.old) call.now) }
+        requires { (after_call self.old.begun call.now).0 ≡ false }
+        ensures begun { OnOk result (self.new.begun ≡ (after_call self.old.begun call.now).1) }
+        ensures plans { OnOk result (self.new.plans ≡ self.old.plans ++ (after_call self.old.begun call.now).2) }
     {
         match call {
             Call::Begin => self.begin(alloc),
@@ -85,7 +84,7 @@ impl Draft {
 
     /// The plans of the caller, if it makes no more calls.
     pub fn ended(mut self) -> Result<Plans, NoMemory>
-        ensures { IfOk result (λ plans. plans ≡ drafted self []) }
+        ensures { IfOk result (λ plans. plans ≡ drafted 0 self []) }
     {
         self.end(PlanEnd::Unended)?;
         Ok(self.plans)

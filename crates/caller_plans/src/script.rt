@@ -1,5 +1,5 @@
 // What a script says for its callers and readers.
-ghost use Rattle.std.specs.Prelude.{◌≡◌, ◌<◌, ℕ, List, [], length, replicate, false, IfOk, OnOk};
+ghost use Rattle.std.specs.Prelude.{◌≡◌, ◌<◌, ℕ, List, [], length, replicate, None, IfOk, OnOk};
 ghost use Rattle.script_run.specs.Lines.{lines_of};
 ghost use Rattle.script_text.specs.declared.joint_line.JointLine.{JointLine};
 ghost use Rattle.script_text.specs.declared.joint_line.JointLine.TheVariants.{Told, Read};
@@ -35,7 +35,7 @@ pub fn read_script(
     readers: u8,
 ) -> Result<Script, NoMemory>
     ensures { IfOk result (λ script. (said : List JointLine) × AllSay callers readers (lines_of input.now) said
-        × (script.faults ≡ faults_from 1 (λ caller. false) said) × (script.plans.items ≡ plans_from 0 callers said)
+        × (script.faults ≡ faults_from 1 (λ caller. None) said) × (script.plans.items ≡ plans_from 0 callers said)
         × (script.asks.items ≡ keys_from 0 readers said)) }
 {
     let mut reading = Reading::new(alloc, callers, readers)?;

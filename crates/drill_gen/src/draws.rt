@@ -1,6 +1,5 @@
 // Numbers drawn from a seed.
-ghost use Rattle.std.specs.Prelude.{◌≡◌, ◌<◌, ◌^◌, ◌+◌, ◌*◌, ◌%◌};
-ghost use Rattle.drill_gen.specs.Draws.{draw};
+ghost use Rattle.std.specs.Prelude.{◌≡◌, ◌<◌, ◌^◌, ◌+◌, ◌*◌, ◌/◌, ◌%◌};
 
 /// Continues from a number of 31 bits.
 #[derive(Clone, Copy)]
@@ -14,7 +13,7 @@ impl Draws {
         requires { self.old.x < 2 ^ 31 }
         ensures small { self.new.x < 2 ^ 31 }
         ensures on { self.new.x ≡ (self.old.x * 1103515245 + 12345) % 2 ^ 31 }
-        ensures drawn { result ≡ draw self.new.x }
+        ensures drawn { result ≡ self.new.x / 65536 }
         ensures below { result < 32768 }
     {
         self.x = (self.x * 1_103_515_245 + 12_345) % 2_147_483_648;

@@ -2,7 +2,7 @@
 ghost use Rattle.std.specs.Prelude.{◌≡◌, ◌<◌, ◌^◌, ◌%◌, ◌∷◌, ◌++◌, nat_eq, if◌then◌else◌, codes, OnOk};
 ghost use Rattle.std.specs.Fmt.{decimal};
 ghost use Rattle.record_slots.specs.Text.{IsValue};
-ghost use Rattle.drill_gen.specs.Draws.{draw, drawn_on};
+ghost use Rattle.drill_gen.specs.Draws.{drawn_on};
 ghost use Rattle.drill_gen.specs.Drill.{alone, paired, drawn_from, put_from};
 
 use crate::draws::Draws;

@@ -1,5 +1,5 @@
 -- The lines of the elements of a list, from one of them on.
-use Rattle.std.proofs.Common.{◌≡◌, ℕ, zero, suc, ◌<◌, List, [], ◌∷◌, ◌++◌, length, drop, slice_index_or, refl, sym, ap, ◌∙◌, arith}
+use Rattle.std.proofs.Common.{◌≡◌, ℕ, zero, suc, ◌+◌, ◌<◌, List, [], ◌∷◌, ◌++◌, length, drop, slice_index_or, refl, sym, ap, ◌∙◌, arith}
 use Rattle.std.proofs.lemmas.List.{append_assoc}
 use Rattle.history_text.specs.Text.{numbered}
 
@@ -14,5 +14,5 @@ nothing_left (x ∷ xs) = nothing_left xs
 
 -- one element's lines, and those of the elements after it
 pub one_more : {X : Type 0} (line : ℕ → X → List ℕ) (text : List ℕ) (all : List X) (i : ℕ) (d : X) → i < length all
-    → (text ++ line i (slice_index_or all i d)) ++ numbered line (suc i) (drop (suc i) all) ≡ text ++ numbered line i (drop i all)
+    → (text ++ line i (slice_index_or all i d)) ++ numbered line (i + 1) (drop (suc i) all) ≡ text ++ numbered line i (drop i all)
 one_more line text all i d less = append_assoc text _ _ ∙ ap (λ (xs : List _). text ++ numbered line i xs) (sym (cons_at all i d less))

@@ -1,8 +1,8 @@
 -- The text of callers' work: the lines that were passed over, the history, what became of the other transactions, the records, and what
 -- readers were answered.
-use Rattle.std.specs.Prelude.{ℕ, suc, nat_eq, if◌then◌else◌, List, [], ◌∷◌, ◌++◌, codes}
+use Rattle.std.specs.Prelude.{ℕ, nat_eq, if◌then◌else◌, List, [], ◌∷◌, ◌++◌, codes}
 use lib.Pointwise.{pointwise}
-use Rattle.std.specs.List.{flat_map}
+use Rattle.std.specs.List.{flat_map, enumerate_from}
 use Rattle.std.specs.Fmt.{decimal}
 use Rattle.history.specs.Key.{main_name}
 use Rattle.history.specs.Table.{found}
@@ -32,8 +32,7 @@ fate_line caller n (Refused reply) = told_line caller (codes "refused " ++ decim
 
 -- what is written of the elements of a list one after another, numbered from n on
 abbrev pub numbered : {A : Type 0} → (ℕ → A → List ℕ) → ℕ → List A → List ℕ
-numbered line n [] = []
-numbered line n (x ∷ xs) = line n x ++ numbered line (suc n) xs
+numbered {A} line n xs = flat_map (λ (entry : ℕ × A). line entry.0 entry.1) (enumerate_from n xs)
 
 -- the number of a key, and before it the name of its table, unless that is `main`
 abbrev pub key_text : Key → List ℕ
@@ -56,12 +55,8 @@ answer_text NoTable = codes "no table"
 abbrev pub answer_line : ℕ → Answer → List ℕ
 answer_line reader answer = codes "read " ++ (decimal reader ++ 32 ∷ (answer_text answer ++ 10 ∷ []))
 
--- the lines of what each reader was answered; they are numbered from 0
-abbrev pub answer_lines : List (List Answer) → List ℕ
-answer_lines told = numbered (λ reader answers. flat_map (answer_line reader) answers) 0 told
-
--- the text of work that came to its end: the callers are numbered from 0, and the plans of each from 1; behind it is what readers were
--- answered
+-- the text of work that came to its end: the callers are numbered from 0, and the plans of each from 1; behind it is what each reader was
+-- answered, and the readers are numbered from 0
 abbrev pub work_text : List LineFault → List Done → List (List Fate) → List (Key × List ℕ) → List (List Answer) → List ℕ
-work_text faults history fates records told =
-    flat_map fault_line faults ++ flat_map done_lines history ++ numbered (λ caller. numbered (fate_line caller) 1) 0 fates ++ flat_map record_line records ++ answer_lines told
+work_text faults history fates records told = flat_map fault_line faults ++ flat_map done_lines history
+    ++ numbered (λ caller. numbered (fate_line caller) 1) 0 fates ++ flat_map record_line records ++ numbered (λ reader. flat_map (answer_line reader)) 0 told

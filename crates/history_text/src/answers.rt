@@ -4,7 +4,7 @@ ghost use Rattle.std.specs.List.{flat_map};
 ghost use Rattle.history.specs.declared.answer.Answer as Answer;
 ghost use Rattle.history.specs.Table.{found};
 ghost use Rattle.script_text.specs.Replies.{reply_text};
-ghost use Rattle.history_text.specs.Text.{answer_line, answer_lines, answer_text};
+ghost use Rattle.history_text.specs.Text.{answer_line, answer_text, numbered};
 
 use crate::keys::append_key;
 use history::{Answer, Answers, Key, Reply};
@@ -16,7 +16,7 @@ use texts::{Piece, append_pieces};
 /// Appends the lines of all readers, which are numbered from 0. At `Err` some of them may have been appended.
 pub fn write_answers(text: &mut Vec<u8>, told: &[Answers]) -> Result<(), NoMemory>
     requires few { length told.now ≤ 255 }
-    ensures { OnOk result (text.new.items ≡ text.old.items ++ answer_lines told.now) }
+    ensures { OnOk result (text.new.items ≡ text.old.items ++ numbered (λ reader. flat_map (answer_line reader)) 0 told.now) }
 {
     for (reader, answers) in told.iter().enumerate() {
         write_reader(text, reader as u8, answers.as_slice())?;

@@ -22,7 +22,7 @@ use Rattle.command_words.specs.declared.words.DrillNumbers.{DrillNumbers}
 use Rattle.drill_gen.specs.Drill.{drill}
 use Rattle.script_run.specs.declared.responder.Stop.{Stop}
 use Rattle.script_run.specs.declared.responder.Stop.TheVariants.{Media, NoMemory}
-use Rattle.mars_shell.specs.Drill.{last_key}
+use Rattle.mars_shell.specs.Tally.{last_key}
 use Rattle.mars_shell.specs.Lines.{goes_on}
 use Rattle.mars_shell.specs.Made.{without_reply, GoOn, Made, MadeAll, EndsEarly, SummedUp}
 use Rattle.mars_shell.specs.Tally.{tally_of, tally_text, counted, Goes}

@@ -27,7 +27,7 @@ use Rattle.mars_manager.proofs.Asking.{none_here}
 use Rattle.caller_plans.specs.declared.plan.Plan.{Plan}
 use Rattle.caller_plans.specs.declared.fate.Fate.{Fate}
 use Rattle.caller_plans.specs.declared.fate.LineFault.{LineFault}
-use Rattle.caller_plans.specs.Plans.{AllSay, planned, calls_by, faults_from, plans_from}
+use Rattle.caller_plans.specs.Plans.{AllSay, after_call, planned, faults_from, plans_from}
 use Rattle.caller_work.specs.declared.end.WorkEnd.{WorkEnd}
 use Rattle.caller_work.specs.declared.end.WorkEnd.TheVariants as work
 use Rattle.caller_work.specs.declared.tries.Tries.TheVariants.{Times}
@@ -61,7 +61,7 @@ as_many caller (suc callers) said = ap suc (as_many (suc caller) callers said)
 -- and each reader what it asks for
 pub as_many_asks : (reader readers : ℕ) (said : List JointLine) → length (keys_from reader readers said) ≡ readers
 as_many_asks reader zero said = refl
-as_many_asks reader (suc readers) said = ap suc (as_many_asks (suc reader) readers said)
+as_many_asks reader (suc readers) said = ap suc (as_many_asks (reader + 1) readers said)
 
 -- there is an answer list for each reader
 pub as_many_answers : (names : List (List ℕ)) (base : Table) (list : List Done) (asks : List (List Key)) (told : List (List Answer)) → AllAnswer names base list asks told → length told ≡ length asks
@@ -94,13 +94,13 @@ callers_within callers zero most within = within
 callers_within callers (suc readers) most within = omega (arith, within)
 
 -- and these are a caller's plans
-pub plans_at : (first callers caller at : ℕ) (said : List JointLine) → caller < callers → first + caller ≡ at → of_caller (plans_from first callers said) caller ≡ planned None (calls_by at said)
+pub plans_at : (first callers caller at : ℕ) (said : List JointLine) → caller < callers → first + caller ≡ at → of_caller (plans_from first callers said) caller ≡ planned at None said
 plans_at first zero caller at said less is = absurd (omega arith)
-plans_at first (suc callers) zero at said less is = ap (λ (n : ℕ). planned None (calls_by n said)) (let e : first ≡ at = omega arith in e)
+plans_at first (suc callers) zero at said less is = ap (λ (n : ℕ). planned n None said) (let e : first ≡ at = omega arith in e)
 plans_at first (suc callers) (suc caller) at said less is = plans_at (suc first) callers caller at said (omega arith) (omega arith)
 
 -- and nobody else has any
-plans_beyond : (callers readers caller : ℕ) → callers ≤ caller → (lines : List (List ℕ)) (said : List JointLine) → AllSay callers readers lines said → calls_by caller said ≡ []
+plans_beyond : (callers readers caller : ℕ) → callers ≤ caller → (lines : List (List ℕ)) (said : List JointLine) → AllSay callers readers lines said → planned caller None said ≡ []
 plans_beyond callers readers caller beyond [] [] all = refl
 plans_beyond callers readers caller beyond [] (one ∷ said) all = absurd all
 plans_beyond callers readers caller beyond (line ∷ lines) [] all = absurd all
@@ -108,7 +108,7 @@ plans_beyond callers readers caller beyond (line ∷ lines) (Nothing ∷ said) a
 plans_beyond callers readers caller beyond (line ∷ lines) (Read reader key ∷ said) all = plans_beyond callers readers caller beyond lines said all.1
 plans_beyond callers readers caller beyond (line ∷ lines) (Bad ∷ said) all = plans_beyond callers readers caller beyond lines said all.1
 plans_beyond callers readers caller beyond (line ∷ lines) (Told other call ∷ said) all =
-    ap (λ (b : Bool). if b then call ∷ calls_by caller said else calls_by caller said) (ne_eqb other caller (λ e. let l = all.0.0 in omega arith))
+    ap (λ (b : Bool). if b then (after_call None call).2 ++ planned caller (after_call None call).1 said else planned caller None said) (ne_eqb other caller (λ e. let l = all.0.0 in omega arith))
     ∙ plans_beyond callers readers caller beyond lines said all.1
 
 -- the same text for equal things
@@ -143,7 +143,7 @@ module _ (tells : Bool) (core last : CoreView) (callers readers tries : ℕ) (in
   within caller less = omega (arith, less, counted)
 
   abbrev his : ℕ → List Plan
-  his caller = planned None (calls_by caller said)
+  his caller = planned caller None said
 
   planned_at : (caller : ℕ) → caller < callers → of_caller plans caller ≡ his caller
   planned_at caller less = ap (λ (all : List (List Plan)). of_caller all caller) plans_are ∙ plans_at 0 callers caller caller said less (omega arith)
@@ -167,7 +167,7 @@ module _ (tells : Bool) (core last : CoreView) (callers readers tries : ℕ) (in
 
   module _ (caller : ℕ) (beyond : callers ≤ caller) where
     no_plans : his caller ≡ []
-    no_plans = ap (planned None) (plans_beyond callers readers caller beyond (lines_of input) said says)
+    no_plans = plans_beyond callers readers caller beyond (lines_of input) said says
 
     no_fates : of_caller fates caller ≡ []
     no_fates = get_or_past fates caller [] (omega (arith, worked.each, counted, beyond))
@@ -194,7 +194,7 @@ module _ (tells : Bool) (core last : CoreView) (callers readers tries : ℕ) (in
 
   joint_work : IsTrue tells → (ended : Ended) (cut : Bool) (text : List ℕ) → (ended ≢ ends.MediaFault → ended ≢ ends.NoMemory → end ≡ work.All) → (ended ≡ ends.MediaFault) ↔ (end ≡ work.MediaFault)
       → (ended ≢ ends.MediaFault → ended ≢ ends.NoMemory → AllAnswer last.state.names last.state.base last.state.history (keys_from 0 readers said) told)
-      → TellsEnd ended cut text (work_text (faults_from 1 (λ caller. false) said) last.state.history fates (entries (records last.state.base last.state.history)) told) (flat_map done_lines last.state.history ++ media_line)
+      → TellsEnd ended cut text (work_text (faults_from 1 (λ caller. None) said) last.state.history fates (entries (records last.state.base last.state.history)) told) (flat_map done_lines last.state.history ++ media_line)
       → JointWork Knows callers readers input ended cut text core.limits worked.turns last.state
   joint_work tells_all ended cut text whole fault answered tells_work = record {
     enough = ready.enough;
@@ -214,7 +214,7 @@ module _ (tells : Bool) (core last : CoreView) (callers readers tries : ℕ) (in
 
   pub joint_turns : IsTrue tells → (ended : Ended) (cut : Bool) (text : List ℕ) → (ended ≢ ends.MediaFault → ended ≢ ends.NoMemory → end ≡ work.All) → (ended ≡ ends.MediaFault) ↔ (end ≡ work.MediaFault)
       → (ended ≢ ends.MediaFault → ended ≢ ends.NoMemory → AllAnswer last.state.names last.state.base last.state.history (keys_from 0 readers said) told)
-      → TellsEnd ended cut text (work_text (faults_from 1 (λ caller. false) said) last.state.history fates (entries (records last.state.base last.state.history)) told) (flat_map done_lines last.state.history ++ media_line)
+      → TellsEnd ended cut text (work_text (faults_from 1 (λ caller. None) said) last.state.history fates (entries (records last.state.base last.state.history)) told) (flat_map done_lines last.state.history ++ media_line)
       → TurnsOn (JointWork Knows callers readers input ended cut text) core ended last
   joint_turns tells_all ended cut text whole fault answered tells_work = record {
     turns = worked.turns;

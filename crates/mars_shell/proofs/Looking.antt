@@ -34,7 +34,7 @@ use Rattle.caller_steps.specs.Room.{Limits}
 use Rattle.caller_steps.specs.Step.{StepOf, Step}
 use Rattle.mars_core.specs.Over.{ShowsAll}
 use Rattle.mars_shell.specs.Lines.{goes_on}
-use Rattle.mars_shell.specs.Drill.{last_key}
+use Rattle.mars_shell.specs.Tally.{last_key}
 use Rattle.mars_shell.proofs.Resting.{AllUnoffered}
 
 -- ---- keys have 64 bits

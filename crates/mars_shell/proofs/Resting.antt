@@ -19,7 +19,7 @@ use Rattle.caller_steps.specs.Run.{Turn}
 use Rattle.caller_steps.specs.Step.{StepOf, Step, Runs}
 use Rattle.caller_steps.specs.Fate.{is_refusal, is_media, Stays, EndsWith, Moves}
 use Rattle.caller_steps.proofs.Fates.{step_moves}
-use Rattle.drill_gen.specs.Draws.{draw, drawn_on}
+use Rattle.drill_gen.specs.Draws.{drawn_on}
 use Rattle.drill_gen.specs.Drill.{drawn_from, alone, paired, in_turn, drill}
 use Rattle.drill_gen.specs.declared.transaction.Transaction.{Transaction}
 use Rattle.mars_shell.specs.Lines.{goes_on}
@@ -147,10 +147,10 @@ end_drawn true = refl
 end_drawn false = refl
 
 last_ends : (x : ℕ) → ends (Control (drawn_from x).end) ≡ true
-last_ends x = end_ends (nat_eq (draw (drawn_on x 5) % 8) 0)
+last_ends x = end_ends (nat_eq (drawn_on x 5 / 65536 % 8) 0)
 
 last_drawn : (x : ℕ) → is_drawn (Control (drawn_from x).end) ≡ true
-last_drawn x = end_drawn (nat_eq (draw (drawn_on x 5) % 8) 0)
+last_drawn x = end_drawn (nat_eq (drawn_on x 5 / 65536 % 8) 0)
 
 -- by whether the caller is the one, and, of two, whether it is the other
 alone_by : (one : Bool) (e f g h : Bool) → e ≡ true → (if one then e else (if one then f else (if one then g else (if one then h else true)))) ≡ true

@@ -1,13 +1,13 @@
 -- What comes of a script whose callers work on threads.
-use Rattle.std.specs.Prelude.{ℕ, ◌≡◌, ◌≢◌, ◌≤◌, ◌<◌, ◌↔◌, List, ◌++◌, length, Bool, false, IsTrue, None}
-use Rattle.std.specs.List.{flat_map, AllZip}
+use Rattle.std.specs.Prelude.{ℕ, ◌≡◌, ◌≢◌, ◌≤◌, ◌<◌, ◌↔◌, List, ◌++◌, length, map, Bool, IsTrue, None}
+use Rattle.std.specs.List.{flat_map, range_with_len, AllZip}
 use Rattle.std.specs.FinMap.{entries}
 use Rattle.history.specs.Legal.{records}
 use Rattle.caller_steps.specs.State.{State, commits_of}
 use Rattle.caller_steps.specs.Room.{Limits}
 use Rattle.caller_steps.specs.Run.{Turn, AreOf, turns_of}
 use Rattle.caller_plans.specs.declared.fate.Fate.{Fate}
-use Rattle.caller_plans.specs.Plans.{planned, calls_by, faults_from}
+use Rattle.caller_plans.specs.Plans.{planned, faults_from}
 use Rattle.caller_work.specs.declared.gate.Place.{Place}
 use Rattle.caller_work.specs.declared.gate.Place.TheVariants as place
 use Rattle.caller_work.specs.Fated.{AreFated}
@@ -17,7 +17,7 @@ use Rattle.script_run.specs.Lines.{lines_of}
 use Rattle.texts.specs.MediaFault.{media_line}
 use Rattle.script_text.specs.JointLine.{JointLineSays}
 use Rattle.script_text.specs.declared.joint_line.JointLine.{JointLine}
-use Rattle.caller_plans.specs.Asks.{keys_from}
+use Rattle.caller_plans.specs.Asks.{keys_by}
 use Rattle.history.specs.Answers.{AreAnswers}
 use Rattle.reader_work.specs.Readership.{passes_for}
 use Rattle.history.specs.declared.answer.Answer.{Answer}
@@ -38,11 +38,12 @@ pub record JointWork (Knows : Place → Type 0) (callers readers : ℕ) (input :
   pub whose : AreOf callers turns
   pub fates : List (List Fate)
   pub each : length fates ≡ callers
-  pub fated : (caller : ℕ) → AreFated (turns_of caller turns) (planned None (calls_by caller said)) (of_caller fates caller) (commits_of caller final.history) (commits_of caller final.doubt)
-  pub whole : ended ≢ MediaFault → ended ≢ NoMemory → (caller : ℕ) → length (of_caller fates caller) ≡ length (planned None (calls_by caller said))
-  pub known : (caller : ℕ) → caller < callers → 0 < length (planned None (calls_by caller said)) → Knows (place.Ended caller 1)
+  pub fated : (caller : ℕ) → AreFated (turns_of caller turns) (planned caller None said) (of_caller fates caller) (commits_of caller final.history) (commits_of caller final.doubt)
+  pub whole : ended ≢ MediaFault → ended ≢ NoMemory → (caller : ℕ) → length (of_caller fates caller) ≡ length (planned caller None said)
+  pub known : (caller : ℕ) → caller < callers → 0 < length (planned caller None said) → Knows (place.Ended caller 1)
   pub fault : (ended ≡ MediaFault) ↔ IsTrue final.is_dead
   pub told : List (List Answer)
-  pub answered : ended ≢ MediaFault → ended ≢ NoMemory → AllZip (AreAnswers final.names final.base final.history 0) (keys_from 0 readers said) told
-  pub tells : TellsEnd ended cut text (work_text (faults_from 1 (λ caller. false) said) final.history fates (entries (records final.base final.history)) told)
+  pub answered : ended ≢ MediaFault → ended ≢ NoMemory
+      → AllZip (AreAnswers final.names final.base final.history 0) (map (λ reader. keys_by reader said) (range_with_len 0 readers)) told
+  pub tells : TellsEnd ended cut text (work_text (faults_from 1 (λ caller. None) said) final.history fates (entries (records final.base final.history)) told)
       (flat_map done_lines final.history ++ media_line)

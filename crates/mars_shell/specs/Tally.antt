@@ -1,5 +1,5 @@
 -- The tally of the replies to a script, and the summary that is made of it.
-use Rattle.std.specs.Prelude.{ℕ, ◌≡◌, ◌+◌, ◌%◌, ◌^◌, Bool, if◌then◌else◌, List, ◌++◌, length, count_by, bytes_eq, codes, IsTrue, Result, Ok, Err}
+use Rattle.std.specs.Prelude.{ℕ, ◌≡◌, ◌+◌, ◌-◌, ◌%◌, ◌^◌, Bool, if◌then◌else◌, List, ◌++◌, length, count_by, bytes_eq, codes, IsTrue, Result, Ok, Err}
 use Rattle.std.specs.Fmt.{decimal}
 use Rattle.std.specs.List.{sum_by}
 use Rattle.history.specs.declared.call.Call.{Call}
@@ -27,6 +27,10 @@ tally_of turns = record {
   busy = count_by (λ (turn : Turn). counts (codes "busy") turn.2 turn.1) turns;
   refused = count_by (λ (turn : Turn). counts (codes "refused") turn.2 turn.1) turns;
 }
+
+-- the last key that a table can have
+abbrev pub last_key : ℕ
+last_key = 2 ^ 64 - 1
 
 -- the sum of the keys of rows, modulo 2^64
 abbrev pub key_sum : List (ℕ × List ℕ) → ℕ

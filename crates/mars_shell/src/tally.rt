@@ -6,7 +6,8 @@ ghost use Rattle.mars_shell.specs.Tally.{tally_of, total, counted, Goes};
 use history::{Call, Control, Reply};
 use script_run::Stop;
 
-/// How many commits and aborts were done, how many calls found their keys locked, and how many found the array full.
+/// How many commits and aborts were done, how many calls found their keys locked, and how many were refused for
+/// good, as where the array is full.
 #[derive(Clone, Copy)]
 pub struct Tally {
     pub committed: u64,
@@ -37,19 +38,19 @@ impl Tally {
             Reply::Committed(_) => self.committed += 1,
             Reply::Fine => self.count_fine(call),
             Reply::Busy { .. } => self.busy += 1,
-            Reply::LogFull { .. } | Reply::SlotsFull { .. } | Reply::PagesFull { .. } => {
-                self.refused += 1
-            }
+            Reply::NoTable
+            | Reply::NoSave { .. }
+            | Reply::SavesFull
+            | Reply::LogFull { .. }
+            | Reply::SlotsFull { .. }
+            | Reply::PagesFull { .. } => self.refused += 1,
             Reply::Found(_)
             | Reply::Absent
             | Reply::Listed(_)
             | Reply::Saved(_)
             | Reply::Purged(_)
             | Reply::NoTransaction
-            | Reply::NoTable
             | Reply::Already
-            | Reply::NoSave { .. }
-            | Reply::SavesFull
             | Reply::Media
             | Reply::NoMemory
             | Reply::Dead

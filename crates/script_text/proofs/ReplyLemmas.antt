@@ -5,7 +5,7 @@ use Rattle.std.specs.Fmt.{decimal}
 use Rattle.std.proofs.lemmas.List.{append-nil}
 use Rattle.history.specs.declared.call.Reply.{Reply}
 use Rattle.history.specs.declared.call.Reply.TheVariants.{Listed, LogFull, Media}
-use Rattle.texts.specs.MediaFault.{media_fault, numbered_media_line}
+use Rattle.texts.specs.MediaFault.{numbered_media_line}
 use Rattle.script_text.specs.Replies.{reply_text, told_line, row_lines, reply_line, bad_line}
 
 -- the number, a space, the words and the newline
@@ -48,7 +48,7 @@ bad_line_is n = simp append_assoc
 -- the line of a fault of the medium
 pub media_line_is : (caller : ℕ) → reply_line caller Media ≡ numbered_media_line caller
 unfolding reply_line
-media_line_is caller = append-nil (told_line caller media_fault) ∙ append_assoc (decimal caller) (32 ∷ media_fault) (10 ∷ [])
+media_line_is caller = append-nil (told_line caller (codes "media fault")) ∙ append_assoc (decimal caller) (32 ∷ codes "media fault") (10 ∷ [])
 
 -- the line that counts rows
 pub rows_pieces : (caller count : ℕ) (number many : List ℕ) → number ≡ decimal caller → many ≡ decimal count

@@ -2,7 +2,6 @@
 use Rattle.std.specs.Prelude.{ℕ, List, [], ◌∷◌, ◌++◌, length, codes}
 use Rattle.std.specs.List.{flat_map}
 use Rattle.std.specs.Fmt.{decimal}
-use Rattle.texts.specs.MediaFault.{media_fault}
 use Rattle.history.specs.declared.call.Reply.{Reply}
 use Rattle.history.specs.declared.call.Reply.TheVariants.{Fine, Found, Absent, Listed, Saved, Committed, Purged, NoTransaction, NoTable, Already, NoSave, SavesFull, Busy, LogFull, SlotsFull, PagesFull, Media, Dead, NoMemory, Damaged}
 
@@ -24,7 +23,7 @@ reply_text (Busy holder) = codes "busy " ++ decimal holder
 reply_text (LogFull logger held needed) = codes "log full " ++ decimal logger ++ 32 ∷ decimal held ++ 32 ∷ decimal needed
 reply_text (SlotsFull n) = codes "slots full " ++ decimal n
 reply_text (PagesFull n) = codes "pages full " ++ decimal n
-reply_text Media = media_fault
+reply_text Media = codes "media fault"
 reply_text Dead = codes "dead"
 reply_text NoMemory = codes "no memory"
 reply_text (Damaged page) = codes "damaged " ++ decimal page

@@ -2,13 +2,9 @@
 use Rattle.std.specs.Prelude.{ℕ, List, [], ◌∷◌, ◌++◌, codes}
 use Rattle.std.specs.Fmt.{decimal}
 
--- the words for a fault of the medium
-abbrev pub media_fault : List ℕ
-media_fault = codes "media fault"
-
--- a line of these words alone
+-- a line of the words for a fault of the medium alone
 abbrev pub media_line : List ℕ
-media_line = media_fault ++ 10 ∷ []
+media_line = codes "media fault" ++ 10 ∷ []
 
 -- the line that says so in answer to a caller or a number
 abbrev pub numbered_media_line : ℕ → List ℕ

@@ -1,13 +1,14 @@
-use Rattle.std.proofs.Common.{ℕ, Bool, ◌≡◌, ◌+◌, [], ◌∷◌, List, length, suc, sym, ap, subst, ◌∙◌, arith}
+use Rattle.std.proofs.Common.{ℕ, Option, ◌≡◌, ◌+◌, [], ◌∷◌, List, length, suc, sym, ap, subst, ◌∙◌, arith}
 use Rattle.std.specs.Prelude.{Result, Ok, Err, IfOk}
 use Rattle.std.proofs.lemmas.List.{append-nil, length-replicate}
+use Rattle.history.specs.declared.call.TableCall.{TableCall}
 use Rattle.history.specs.declared.key.Key.{Key}
 use Rattle.script_run.specs.Lines.{lines_of}
 use Rattle.caller_plans.specs.declared.draft.Draft.{Draft}
 use Rattle.caller_plans.specs.declared.fate.LineFault.{LineFault}
 use Rattle.caller_plans.specs.Plans.{AllSay, faults_from}
 use Rattle.caller_plans.specs.Asks.{all_asked}
-use Rattle.caller_plans.specs.Drafts.{empty_draft, are_within, all_drafted, all_faults}
+use Rattle.caller_plans.specs.Drafts.{empty_draft, begun_in, all_drafted, all_faults}
 use Rattle.caller_plans.proofs.Drafting.{first_within, first_drafted, first_asked, asked_last}
 use Rattle.caller_plans.proofs.script.read_script.Goals as goal
 
@@ -19,7 +20,7 @@ loop-line-init c =
         rest,
         says,
         ap (λ (fs : List LineFault). all_faults 1 (record { faults = fs; drafts = c.in_ok-reading.reading.drafts; asks = c.in_ok-reading.reading.asks }) rest) c.in_ok-reading.ensures.faults
-            ∙ ap (λ (w : ℕ → Bool). faults_from 1 w rest) (ap are_within drafts ∙ first_within c.args.callers),
+            ∙ ap (λ (b : ℕ → Option (List TableCall)). faults_from 1 b rest) (ap begun_in drafts ∙ first_within c.args.callers),
         ap (λ (ds : List Draft). all_drafted 0 ds rest) drafts ∙ first_drafted 0 c.args.callers rest,
         ap (λ (ks : List (List Key)). all_asked 0 ks rest) c.in_ok-reading.ensures.asks ∙ first_asked 0 c.args.readers rest,
       );

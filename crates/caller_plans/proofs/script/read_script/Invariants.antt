@@ -1,4 +1,4 @@
-use Rattle.std.proofs.Common.{◌≡◌, ◌≤◌, ◌+◌, false, List, length}
+use Rattle.std.proofs.Common.{◌≡◌, ◌≤◌, ◌+◌, None, List, length}
 use Rattle.script_run.specs.Lines.{lines_of}
 use Rattle.script_text.specs.declared.joint_line.JointLine.{JointLine}
 use Rattle.caller_plans.specs.Asks.{keys_from, all_asked}
@@ -11,7 +11,7 @@ abbrev pub invariant-loop-line : goal.invariant-loop-line
 invariant-loop-line l = record {
   reads : (rest : List JointLine) → AllSay l.callers l.readers (lines_of l.rest) rest
       → (said : List JointLine) × AllSay l.callers l.readers (lines_of l.input) said
-      × (all_faults l.number l.reading rest ≡ faults_from 1 (λ caller. false) said) × (all_drafted 0 l.reading.drafts.items rest ≡ plans_from 0 l.callers said)
+      × (all_faults l.number l.reading rest ≡ faults_from 1 (λ caller. None) said) × (all_drafted 0 l.reading.drafts.items rest ≡ plans_from 0 l.callers said)
       × (all_asked 0 l.reading.asks.items rest ≡ keys_from 0 l.readers said);
   count : length l.reading.drafts.items ≡ l.callers;
   readers : length l.reading.asks.items ≡ l.readers;

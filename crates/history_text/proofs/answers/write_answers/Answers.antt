@@ -15,7 +15,7 @@ loop-reader-init c = refl
 pub loop-reader-preserved : goal.loop-reader-preserved
 loop-reader-preserved c =
     ap (λ (text : List ℕ). text ++ numbered lines (c.loop-reader.reader + 1) (drop (c.loop-reader.reader + 1) c.args.told.now)) (c.in_ok-write_reader.ensures ∙ ap (λ (answers : List Answer). c.loop-reader.text.items ++ lines c.loop-reader.reader answers) (c.as_slice.ensures ∙ c.index-told-reader.is))
-    ∙ ap (λ (n : ℕ). (c.loop-reader.text.items ++ lines c.loop-reader.reader (slice_index_or c.args.told.now c.loop-reader.reader c.index-told-reader.result)) ++ numbered lines n (drop n c.args.told.now)) (let e : c.loop-reader.reader + 1 ≡ suc c.loop-reader.reader = omega arith in e)
+    ∙ ap (λ (n : ℕ). (c.loop-reader.text.items ++ lines c.loop-reader.reader (slice_index_or c.args.told.now c.loop-reader.reader c.index-told-reader.result)) ++ numbered lines (c.loop-reader.reader + 1) (drop n c.args.told.now)) (let e : c.loop-reader.reader + 1 ≡ suc c.loop-reader.reader = omega arith in e)
     ∙ one_more lines c.loop-reader.text.items c.args.told.now c.loop-reader.reader c.index-told-reader.result (omega (arith, c.loop-reader-test.true)) ∙ c.loop-reader.invariant
 
 pub returns : goal.returns

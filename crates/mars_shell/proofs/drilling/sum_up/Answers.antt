@@ -9,7 +9,7 @@ use Rattle.record_table.proofs.Sharing.{Laws}
 use Rattle.history.specs.Key.{main_name}
 use Rattle.caller_steps.specs.Core.{CoreView, Steps}
 use Rattle.mars_core.specs.Held.{Held, core_of}
-use Rattle.mars_shell.specs.Drill.{last_key}
+use Rattle.mars_shell.specs.Tally.{last_key}
 use Rattle.mars_shell.specs.Made.{MadeAll, EndsEarly}
 use Rattle.mars_shell.proofs.Making.{made_none, drill_inside, no_fault, stop_cause}
 use Rattle.mars_shell.proofs.Drilled.{early_wider, begin_early, look_early, looked_early, summed, drilled_alive, drilled_none, drilled_free, drilled_shown}

@@ -11,7 +11,7 @@ loop-caller-init c = refl
 pub loop-caller-preserved : goal.loop-caller-preserved
 loop-caller-preserved c =
     ap (λ (text : List ℕ). text ++ numbered (λ caller. numbered (fate_line caller) 1) (c.loop-caller.caller + 1) (drop (c.loop-caller.caller + 1) c.args.fates.now)) (c.in_ok-write_fates.ensures ∙ ap (λ (fates : List Fate). c.loop-caller.text.items ++ numbered (fate_line c.loop-caller.caller) 1 fates) (c.as_slice.ensures ∙ c.index-fates-caller.is))
-    ∙ ap (λ (n : ℕ). (c.loop-caller.text.items ++ numbered (fate_line c.loop-caller.caller) 1 (slice_index_or c.args.fates.now c.loop-caller.caller c.index-fates-caller.result)) ++ numbered (λ caller. numbered (fate_line caller) 1) n (drop n c.args.fates.now)) (let e : c.loop-caller.caller + 1 ≡ suc c.loop-caller.caller = omega arith in e)
+    ∙ ap (λ (n : ℕ). (c.loop-caller.text.items ++ numbered (fate_line c.loop-caller.caller) 1 (slice_index_or c.args.fates.now c.loop-caller.caller c.index-fates-caller.result)) ++ numbered (λ caller. numbered (fate_line caller) 1) (c.loop-caller.caller + 1) (drop n c.args.fates.now)) (let e : c.loop-caller.caller + 1 ≡ suc c.loop-caller.caller = omega arith in e)
     ∙ one_more c.loop-caller.text.items c.args.fates.now c.loop-caller.caller c.index-fates-caller.result (omega (arith, c.loop-caller-test.true)) ∙ c.loop-caller.invariant
 
 pub returns : goal.returns

@@ -11,4 +11,4 @@ returns-clause-plans c =
     let loop = c.loop-draft in
     let all : loop.yielded ≡ c.args.self.drafts.items =
     All-taken start.result loop.yielded (c.next.new.self, (loop.draft-iterator, loop.yielded_by, c.in-None.ensures.steps)) ∙ start.ensures.into_iter_gives.0 in
-    loop.invariant ∙ (ap (map (λ (draft : Draft). drafted draft [])) all ∙ sym (drafted_last 0 c.args.self.drafts.items))
+    loop.invariant ∙ (ap (map (λ (draft : Draft). drafted 0 draft [])) all ∙ sym (drafted_last 0 c.args.self.drafts.items))

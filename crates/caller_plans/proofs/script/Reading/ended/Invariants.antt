@@ -5,4 +5,4 @@ use Rattle.caller_plans.proofs.script.Reading.ended.Given as goal
 
 -- the plans of the drafts so far
 abbrev pub invariant-loop-draft : goal.invariant-loop-draft
-invariant-loop-draft l = l.plans.items ≡ map (λ (draft : Draft). drafted draft []) l.yielded
+invariant-loop-draft l = l.plans.items ≡ map (λ (draft : Draft). drafted 0 draft []) l.yielded

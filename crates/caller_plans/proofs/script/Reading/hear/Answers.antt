@@ -2,8 +2,7 @@ use Rattle.std.proofs.Common.{ℕ, ◌≡◌, Some, length, get_or, slice_get, r
 use Rattle.std.proofs.lemmas.Option.{slice_get_read}
 use Rattle.std.specs.Prelude.{Result, Ok, Err, OnOk}
 use Rattle.caller_plans.specs.declared.draft.Draft.{Draft}
-use Rattle.caller_plans.specs.Plans.{is_stray}
-use Rattle.caller_plans.specs.Drafts.{is_within}
+use Rattle.caller_plans.specs.Plans.{after_call}
 use Rattle.caller_plans.proofs.Drafting.{takes_stray, takes_added}
 use Rattle.caller_plans.proofs.script.Reading.hear.Goals as goal
 
@@ -27,6 +26,6 @@ returns c =
     let now : slice_get drafts c.args.caller ≡ Some changed = slice_get_read drafts (length drafts) c.args.caller changed refl c.requires (c.index_mut.ensures.value ∙ ap (λ (i : ℕ). get_or drafts i changed) c.from-2.ensures) in
     let same : changed ≡ draft = cc in
     both c.add.result
-    (λ makes goes. rw c.from-2.ensures (takes_added c.args.number c.args.caller c.args.call.now c.args.self.now _ changed now c.add.new.self
-    (ap (λ (d : Draft). is_stray (is_within d) c.args.call.now) same ∙ (sym c.is_stray.ensures ∙ c.if-is_stray.false)) refl refl refl makes goes))
-    c.add.ensures.planned c.add.ensures.within
+    (λ plans begun. rw c.from-2.ensures (takes_added c.args.number c.args.caller c.args.call.now c.args.self.now _ changed now c.add.new.self
+    (ap (λ (d : Draft). (after_call d.begun c.args.call.now).0) same ∙ (sym c.is_stray.ensures ∙ c.if-is_stray.false)) refl refl refl plans begun))
+    c.add.ensures.plans c.add.ensures.begun
