@@ -1,5 +1,5 @@
 -- What a purge takes out of the index, by the keys that it tries.
-use Rattle.std.proofs.Common.{◌≡◌, ◌⊎◌, ◌∙◌, ℕ, suc, inl, inr, true, false, List, [], ◌∷◌, ◌++◌, length, filter, refl, sym, ap, subst}
+use Rattle.std.proofs.Common.{◌≡◌, ◌⊎◌, ◌∙◌, ℕ, suc, inl, inr, true, false, List, [], ◌∷◌, ◌++◌, length, map, filter, Contains, refl, sym, ap, subst, arith}
 use Rattle.history.specs.declared.key.Key.{Key}
 use Rattle.history.specs.declared.call.Reply.{Reply}
 use Rattle.history.specs.declared.call.Reply.TheVariants.{Purged}
@@ -61,6 +61,12 @@ tried_later key (one ∷ later) tries (inr tried) = inr (tried_later key later t
 pub tried_before : (key : Key) (later tries : List Try) → IsTried key tries → IsTried key (later ++ tries)
 tried_before key [] tries tried = tried
 tried_before key (one ∷ later) tries tried = inr (tried_before key later tries tried)
+
+-- a key that was tried is among those tried
+pub tried_among : (key : Key) (tries : List Try) → IsTried key tries → Contains (map (λ (one : Try). one.0) tries) key
+tried_among key [] tried = absurd tried
+tried_among key (one ∷ tries) (inl is) = (0, omega arith, is)
+tried_among key (one ∷ tries) (inr tried) = let at = tried_among key tries tried in (suc at.0, omega (arith, at.1), at.2)
 
 module _ (names : List (List ℕ)) (P Q : Key → Type 0) (before : (one other : Key) → P one → Q other → ComesBefore names one other) where
   pub order_append : (later tries : List Try) → Each Q later → Each P tries → AreInOrder names later → AreInOrder names tries → AreInOrder names (later ++ tries)

@@ -1,5 +1,5 @@
 -- A purge: keys without records, whose stripes no live transaction touches, are taken out of the index.
-use Rattle.std.specs.Prelude.{ℕ, ◌≡◌, ◌<◌, ◌^◌, ◌⊎◌, Bool, true, false, if◌then◌else◌, IsTrue, IsFalse, List, [], ◌∷◌, length, filter, slice_get, Some, None, IsSome}
+use Rattle.std.specs.Prelude.{ℕ, ◌≡◌, ◌<◌, ◌^◌, ◌⊎◌, Bool, true, false, if◌then◌else◌, IsTrue, IsFalse, List, [], ◌∷◌, length, map, filter, slice_get, Contains, Some, None, IsSome}
 use Rattle.std.specs.List.{AllByRecursion}
 use Rattle.std.specs.FinMap.{get}
 use Rattle.history.specs.declared.key.Key.{Key}
@@ -75,7 +75,7 @@ pub record Purges (limits : Limits) (old : State) (n : ℕ) (new : State) : Type
   pub tried : List (Key × Bool)
   pub order : AreInOrder old.names tried
   pub absent : AllByRecursion (λ (one : Key × Bool). IsAbsent old one.0) tried
-  pub all : (key : Key) → key.key < 2 ^ 64 → IsAbsent old key → IsTried key tried
+  pub all : (key : Key) → key.key < 2 ^ 64 → IsAbsent old key → Contains (map (λ (one : Key × Bool). one.0) tried) key
   pub count : n ≡ length (filter (λ (one : Key × Bool). one.1) tried)
   pub index : Index
   pub trail : Tries limits old old.index tried index

@@ -47,7 +47,7 @@ use Rattle.mars_core.proofs.Saving.{saves_same}
 use Rattle.caller_steps.specs.Prefix.{HasPrefixOf}
 use Rattle.caller_steps.specs.Purging as face
 use Rattle.caller_steps.specs.Purging.{Try, IsTouched, IsTried, Becomes, Lost, PurgeCause}
-use Rattle.caller_steps.proofs.Trying.{lost_count, each_as}
+use Rattle.caller_steps.proofs.Trying.{lost_count, each_as, tried_among}
 use Rattle.caller_steps.specs.Offers.{is_unoffered, is_engaged}
 use Rattle.caller_steps.specs.Fate.{is_busy, is_media, Moves}
 use Rattle.caller_steps.specs.Run.{is_purge}
@@ -301,12 +301,12 @@ module _ (tells : Bool) (Opens : Shape → List ℕ → List ℕ → Type 0) (in
             tried = cleared.tried;
             order = cleared.order;
             absent = each_as (IsAbsent index p.store.state.bytes) (face.IsAbsent (state_at index p.store seats.names base history (live_in seats) (offers_in seats) doubt)) (absent_so told) cleared.tried cleared.absent;
-            all = λ key small is. elim (tried_or_still p.store.state.bytes q.store.state.bytes cleared.tried key cleared.trail is.0) [
+            all = λ key small is. tried_among key cleared.tried (elim (tried_or_still p.store.state.bytes q.store.state.bytes cleared.tried key cleared.trail is.0) [
               | inl tried ↦ tried
               | inr there ↦ (let at = named_key index q.store.state.bytes key there in
                   cleared.all key (at.0, subst (λ (ns : List (List ℕ)). at.0 < length ns) ready_then.named at.1, ap (λ (ns : List (List ℕ)). slice_get ns at.0) (sym ready_then.named) ∙ at.2, small)
                   (there, ap (λ (x : TableState). get x.table key) (clears.spares.state told refl) ∙ (was_absent told key is).1))
-            ];
+            ]);
             count = cleared.count ∙ ap length cleared.keys_are ∙ sym (lost_count cleared.tried);
             index = index_of index q.store.state.bytes;
             trail = tries_so p.store.state.bytes q.store.state.bytes cleared.tried cleared.trail;
