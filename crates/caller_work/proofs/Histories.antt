@@ -260,7 +260,7 @@ module _ (caller : ℕ) (said : Heard) where
     live_calls = ap (λ (l : Option Granted). map first_of (unwrap_or l [])) live ∙ calls
 
     committed_as : (at : ℕ) → commits plan.end ≡ true → IsDoneAs plan (done_as at)
-    committed_as at is_end = record { commits = is_end; calls = live_calls }
+    committed_as at is_end = (is_end, live_calls)
 
     at_commit : (reply : Reply) → IsIdle own → commits plan.end ≡ true → (is_busy reply ≡ true → ⊥) → Came plan (end_outcome end.Commit reply) own (own_after caller own (Control Commit, reply))
     at_commit (says.Committed at) idle is_end never = came_free plan (Ok (Committed at)) own (own_after caller own (Control Commit, says.Committed at))
@@ -368,7 +368,7 @@ module _ (caller : ℕ) (said : Heard) where
       why : IsKind reply → is_last reply ≡ false → is_busy reply ≡ false → IsRefusedAs said plan reply
       why (inl last) not_last free = absurd (true≢false (sym last ∙ not_last))
       why (inr (inl busy)) not_last free = absurd (true≢false (sym busy ∙ free))
-      why (inr (inr final)) not_last free = record { asked = call; planned = planned; refused = parts.0 (Table call, reply) free (one_here (Table call, reply)); final = final }
+      why (inr (inr final)) not_last free = (call, planned, parts.0 (Table call, reply) free (one_here (Table call, reply)), final)
 
       go : (Takes calls plan.end rest made → (before : Granted) (own : Own) → AreSaid caller own rest → Within rest → own.live ≡ Some before → IsIdle own → map first_of before ++ calls ≡ plan.calls → Came plan made own (after own rest))
           → (b : Bool) → is_refusal reply ≡ b → MatchBool b (GivesUp reply rest made) (Takes calls plan.end rest made) → Came plan made own (after (next own (Table call) reply) rest)
@@ -524,7 +524,7 @@ module _ (caller : ℕ) (said : Heard) where
   one_told (first ∷ rest) done behind e = (first, rest, refl, (let same : as_told first ≡ done = cc in same), (let same : map as_told rest ≡ behind = cc in same))
 
   done_told : (plan : Plan) (first done : Done) → as_told first ≡ done → IsDoneAs plan done → IsDoneAs plan first
-  done_told plan first done is fits = record { commits = fits.commits; calls = ap (λ (d : Done). map first_of d.calls) is ∙ fits.calls }
+  done_told plan first done is fits = (fits.0, ap (λ (d : Done). map first_of d.calls) is ∙ fits.1)
 
   rest_told : (plan : Plan) (plans : List Plan) (dones doubt : List Done) → IsRest (plan ∷ plans) (map as_told dones) doubt → IsRest (plan ∷ plans) dones doubt
   rest_told plan plans dones doubt (inl none) = inl (none_told dones doubt none)
@@ -581,7 +581,7 @@ module _ (caller : ℕ) (said : Heard) where
     rest_doubted plan plans left =
         let open_is : now.offers caller ≡ unoffered = knows.none left.waits in
         let one = one_call doubt left.all (doubted ∙ ap (doubt_in own) open_is ∙ pick_false own.waits (unwrap_or own.live [] ∷ []) (option_to_list own.doubt) left.waits ∙ ap option_to_list left.doubt) in
-        ([], inr (one.0, one.1, record { commits = left.ends; calls = ap (map first_of) one.2 ∙ left.calls }, (λ ends. refl)), ap (mine_in caller own) open_is ∙ sym (append-nil own.mine))
+        ([], inr (one.0, one.1, (left.ends, ap (map first_of) one.2 ∙ left.calls), (λ ends. refl)), ap (mine_in caller own) open_is ∙ sym (append-nil own.mine))
 
     rest_waiting : (plan : Plan) (plans : List Plan) → IsWaiting plan own → (more : List Done) × IsRest (plan ∷ plans) more doubt × (mine_in caller own (now.offers caller) ≡ own.mine ++ more)
     rest_waiting plan plans left = go (now.offers caller) refl
@@ -595,13 +595,13 @@ module _ (caller : ℕ) (said : Heard) where
         go : (offer : state.Offer) → now.offers caller ≡ offer → (more : List Done) × IsRest (plan ∷ plans) more doubt × (mine_in caller own offer ≡ own.mine ++ more)
         go unoffered is =
             let one = one_call doubt (unwrap_or own.live []) (doubted ∙ ap (doubt_in own) is ∙ ap (λ (b : Bool). if b then unwrap_or own.live [] ∷ [] else option_to_list own.doubt) left.waits) in
-            ([], inr (one.0, one.1, record { commits = ap commits left.offers; calls = ap (map first_of) one.2 ∙ its }, (λ ends. refl)), sym (append-nil own.mine))
+            ([], inr (one.0, one.1, (ap commits left.offers, ap (map first_of) one.2 ∙ its), (λ ends. refl)), sym (append-nil own.mine))
         go offered is = ([], inl (no_calls doubt (doubted ∙ ap (doubt_in own) is ∙ sure)), sym (append-nil own.mine))
         go (unsettled n) is =
             let done : Done = record { caller = caller; calls = unwrap_or own.live []; at = n; last = n } in
             let nothing : doubt ≡ [] = no_calls doubt (doubted ∙ ap (doubt_in own) is ∙ sure) in (
               done ∷ [],
-              inr (done, ap (λ (l : List Done). done ∷ l) nothing, record { commits = ap commits left.offers; calls = its }, (λ ends. absurd (let no : end.Offer ≡ end.Commit = sym left.offers ∙ ends in cc))),
+              inr (done, ap (λ (l : List Done). done ∷ l) nothing, (ap commits left.offers, its), (λ ends. absurd (let no : end.Offer ≡ end.Commit = sym left.offers ∙ ends in cc))),
               refl,
             )
 
