@@ -46,11 +46,11 @@ module _ (limits : Limits) (old : State) (caller : ℕ) where
   entry_single key slot = unless_single (is_rewritten (log_of (calls_of old caller)) key) _ (test_single _ _)
 
   write_single : (key : Key) (slot : Option ℕ) → IsSingle (write_fits limits old caller key slot)
-  write_single key None = both_single _ _ (test_single _ _) (both_single _ _ (actions_single limits _ _ (limits.actions old.index.bytes key)) (entry_single key old.index.due))
+  write_single key None = both_single _ _ (test_single _ _) (both_single _ _ (actions_single limits _ _ (limits.actions old.index.bytes key)) (entry_single key old.index.keys.due))
   write_single key (Some slot) = entry_single key slot
 
   room_single : (call : TableCall) → IsSingle (room_for limits old caller call)
-  room_single (Put name key value) = write_single (of_table name key) (old.index.slot_of (of_table name key))
+  room_single (Put name key value) = write_single (of_table name key) (old.index.keys.slot_of (of_table name key))
   room_single (Del name key) = unless_single _ _ (each_single (entry_fits limits old caller (of_table name key)) _ (entry_single (of_table name key)))
   room_single _ = pass_single
 

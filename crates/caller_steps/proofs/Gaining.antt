@@ -18,34 +18,34 @@ some_none slot e = absurd (cc)
 not_empty : {X : Type 0} (key : Key) (keys : List Key) → ◌≡◌ {A = List Key} (key ∷ keys) [] → X
 not_empty key keys e = absurd (cc)
 
-pub changed_slots : (first now : Index) (changes : List Change) → Changed first changes now → now.used_slots + length (lost_in changes) ≡ first.used_slots + length (gained_in changes)
+pub changed_slots : (first now : Index) (changes : List Change) → Changed first changes now → now.keys.used_slots + length (lost_in changes) ≡ first.keys.used_slots + length (gained_in changes)
 changed_slots first now [] g = let e = g.1 in omega arith
 changed_slots first now (gain key ∷ changes) g = let i = changed_slots first g.0 changes g.1 in let e = g.4 in omega arith
 changed_slots first now (loss key ∷ changes) g = let i = changed_slots first g.0 changes g.1 in let e = g.4 in omega arith
 
 -- a key that an index lacks is none of those that it has gained, and the index lacked it at first
-apart_one : (key other : Key) (before now : Index) → now.slot_of ≡ update is_same_key before.slot_of key (Some before.due) → now.slot_of other ≡ None → other ≢ key
+apart_one : (key other : Key) (before now : Index) → now.keys.slot_of ≡ update is_same_key before.keys.slot_of key (Some before.keys.due) → now.keys.slot_of other ≡ None → other ≢ key
 apart_one key other before now set lacks same =
-    some_none before.due (sym (at_key before.slot_of key (Some before.due)) ∙ ap (λ (f : Key → Option ℕ). f key) (sym set) ∙ subst (λ k. now.slot_of k ≡ None) same lacks)
+    some_none before.keys.due (sym (at_key before.keys.slot_of key (Some before.keys.due)) ∙ ap (λ (f : Key → Option ℕ). f key) (sym set) ∙ subst (λ k. now.keys.slot_of k ≡ None) same lacks)
 
-lacked_before : (key other : Key) (before now : Index) → now.slot_of ≡ update is_same_key before.slot_of key (Some before.due) → now.slot_of other ≡ None → before.slot_of other ≡ None
+lacked_before : (key other : Key) (before now : Index) → now.keys.slot_of ≡ update is_same_key before.keys.slot_of key (Some before.keys.due) → now.keys.slot_of other ≡ None → before.keys.slot_of other ≡ None
 lacked_before key other before now set lacks =
-    sym (at_other_key before.slot_of key (Some before.due) other (apart_one key other before now set lacks)) ∙ ap (λ (f : Key → Option ℕ). f other) (sym set) ∙ lacks
+    sym (at_other_key before.keys.slot_of key (Some before.keys.due) other (apart_one key other before now set lacks)) ∙ ap (λ (f : Key → Option ℕ). f other) (sym set) ∙ lacks
 
-lacks_first : (first now : Index) (changes : List Change) (other : Key) → Changed first changes now → lost_in changes ≡ [] → now.slot_of other ≡ None → first.slot_of other ≡ None
+lacks_first : (first now : Index) (changes : List Change) (other : Key) → Changed first changes now → lost_in changes ≡ [] → now.keys.slot_of other ≡ None → first.keys.slot_of other ≡ None
 lacks_first first now [] other g none lacks = ap (λ (f : Key → Option ℕ). f other) (sym g.0) ∙ lacks
 lacks_first first now (gain key ∷ changes) other g none lacks = lacks_first first g.0 changes other g.1 none (lacked_before key other g.0 now g.3 lacks)
 lacks_first first now (loss key ∷ changes) other g none lacks = not_empty key (lost_in changes) none
 
-lacks_each : (first now : Index) (changes : List Change) (other : Key) → Changed first changes now → lost_in changes ≡ [] → now.slot_of other ≡ None → All (λ key. other ≢ key) (gained_in changes)
+lacks_each : (first now : Index) (changes : List Change) (other : Key) → Changed first changes now → lost_in changes ≡ [] → now.keys.slot_of other ≡ None → All (λ key. other ≢ key) (gained_in changes)
 lacks_each first now [] other g none lacks = All-nil (λ key. other ≢ key)
 lacks_each first now (gain key ∷ changes) other g none lacks =
     All-cons (λ key. other ≢ key) key (gained_in changes) (apart_one key other g.0 now g.3 lacks) (lacks_each first g.0 changes other g.1 none (lacked_before key other g.0 now g.3 lacks))
 lacks_each first now (loss key ∷ changes) other g none lacks = not_empty key (lost_in changes) none
 
-pub gained_missing : (first now : Index) (changes : List Change) → Changed first changes now → lost_in changes ≡ [] → All (λ key. first.slot_of key ≡ None) (gained_in changes)
-gained_missing first now [] g none = All-nil (λ key. first.slot_of key ≡ None)
-gained_missing first now (gain key ∷ changes) g none = All-cons (λ key. first.slot_of key ≡ None) key (gained_in changes) (lacks_first first g.0 changes key g.1 none g.2) (gained_missing first g.0 changes g.1 none)
+pub gained_missing : (first now : Index) (changes : List Change) → Changed first changes now → lost_in changes ≡ [] → All (λ key. first.keys.slot_of key ≡ None) (gained_in changes)
+gained_missing first now [] g none = All-nil (λ key. first.keys.slot_of key ≡ None)
+gained_missing first now (gain key ∷ changes) g none = All-cons (λ key. first.keys.slot_of key ≡ None) key (gained_in changes) (lacks_first first g.0 changes key g.1 none g.2) (gained_missing first g.0 changes g.1 none)
 gained_missing first now (loss key ∷ changes) g none = not_empty key (lost_in changes) none
 
 pub gained_apart : (first now : Index) (changes : List Change) → Changed first changes now → lost_in changes ≡ [] → AllPairs (λ one other. one ≢ other) (gained_in changes)

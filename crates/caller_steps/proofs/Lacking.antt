@@ -17,7 +17,7 @@ use Rattle.caller_steps.specs.Fate.{is_refusal, is_media, is_of_array}
 
 -- a write of a key with this slot, or none, is refused for the lack of a slot, of pages, or of entries
 pub data Lacking (limits : Limits) (index : Index) (slot : Option ℕ) (reply : Reply) : Type 0 where
-  no_slot : slot ≡ None → index.used_slots ≡ limits.slots → reply ≡ SlotsFull limits.slots → Lacking limits index slot reply
+  no_slot : slot ≡ None → index.keys.used_slots ≡ limits.slots → reply ≡ SlotsFull limits.slots → Lacking limits index slot reply
   no_page : slot ≡ None → reply ≡ PagesFull (limits.index_pages - 1) → Lacking limits index slot reply
   no_entry : (g h n : ℕ) → reply ≡ LogFull g h n → Lacking limits index slot reply
 
@@ -44,12 +44,12 @@ module _ (limits : Limits) (old : State) (caller : ℕ) where
   entry_lacks key slot reply full = entry_told (is_rewritten (log_of (calls_of old caller)) key) _ _ _ reply full
 
   pub write_lacks : (key : Key) (slot : Option ℕ) (reply : Reply) → write_fits limits old caller key slot (Some reply) → Lacking limits old.index slot reply
-  write_lacks key None reply (inl full) = elim (cases_eq old.index.used_slots limits.slots) [
+  write_lacks key None reply (inl full) = elim (cases_eq old.index.keys.used_slots limits.slots) [
     | inl is ↦ no_slot refl is full.1
     | inr ne ↦ absurd (full.0 ne)
   ]
   write_lacks key None reply (inr (left, inl lacks)) = actions_lack limits old.index (held_on limits old caller) _ (limits.actions old.index.bytes key) reply lacks
-  write_lacks key None reply (inr (left, inr (fit, full))) = let is = entry_lacks key old.index.due reply full in no_entry is.0 is.1 is.2 is.3
+  write_lacks key None reply (inr (left, inr (fit, full))) = let is = entry_lacks key old.index.keys.due reply full in no_entry is.0 is.1 is.2 is.3
   write_lacks key (Some slot) reply full = let is = entry_lacks key slot reply full in no_entry is.0 is.1 is.2 is.3
 
   slot_lacks : (key : Key) (slot : Option ℕ) (reply : Reply) → each (entry_fits limits old caller key) (option_to_list slot) (Some reply) → IsLogFull reply
@@ -57,12 +57,12 @@ module _ (limits : Limits) (old : State) (caller : ℕ) where
   slot_lacks key (Some slot) reply (inl full) = entry_lacks key slot reply full
   slot_lacks key (Some slot) reply (inr (fits, none)) = absurd none
 
-  pub removal_lacks : (key : Key) (unseen : Bool) (reply : Reply) → unless unseen (each (entry_fits limits old caller key) (option_to_list (old.index.slot_of key))) (Some reply) → IsLogFull reply
+  pub removal_lacks : (key : Key) (unseen : Bool) (reply : Reply) → unless unseen (each (entry_fits limits old caller key) (option_to_list (old.index.keys.slot_of key))) (Some reply) → IsLogFull reply
   removal_lacks key true reply full = absurd full
-  removal_lacks key false reply full = slot_lacks key (old.index.slot_of key) reply full
+  removal_lacks key false reply full = slot_lacks key (old.index.keys.slot_of key) reply full
 
   pub room_lacks : (call : TableCall) (reply : Reply) → room_for limits old caller call (Some reply) → (slot : Option ℕ) × Lacking limits old.index slot reply
-  room_lacks (Put name key value) reply lacks = (old.index.slot_of (of_table name key), write_lacks (of_table name key) (old.index.slot_of (of_table name key)) reply lacks)
+  room_lacks (Put name key value) reply lacks = (old.index.keys.slot_of (of_table name key), write_lacks (of_table name key) (old.index.keys.slot_of (of_table name key)) reply lacks)
   room_lacks (Del name key) reply lacks =
       let is = removal_lacks (of_table name key) (is_none (get (view_of old caller).table (of_table name key))) reply lacks in
       (None, no_entry is.0 is.1 is.2 is.3)

@@ -19,7 +19,7 @@ use Rattle.history.specs.declared.call.Control.TheVariants.{Commit, Abort, Offer
 use Rattle.history.specs.declared.call.Reply.{Reply}
 use Rattle.history.specs.declared.call.Reply.TheVariants.{Fine, Committed, NoTransaction, NoTable, Already, NoSave, SavesFull, Busy, LogFull, SlotsFull, PagesFull, Media, Dead, NoMemory}
 use Rattle.caller_steps.specs.State as state
-use Rattle.caller_steps.specs.State.{State, Index, keys_of, unoffered, offered, unsettled, view_of}
+use Rattle.caller_steps.specs.State.{State, Index, unoffered, offered, unsettled, view_of}
 use Rattle.caller_steps.specs.Offers.{offerers, number_among, group_writes}
 use Rattle.caller_steps.specs.Locked.{Blocks}
 use Rattle.caller_steps.specs.Purging.{Lost}
@@ -40,10 +40,10 @@ use Rattle.caller_steps.proofs.Lacking.{Lacking, no_slot, no_page, no_entry, wri
 
 -- an index after a call: it has no fewer pages in use and levels, and the same keys or one more, which the call puts
 pub record Rises (limits : Limits) (call : Call) (old new : Index) : Type 0 where
-  pub pages : old.used_pages ≤ new.used_pages
-  pub levels : (name : List ℕ) → old.levels name ≤ new.levels name
-  pub keys : KeepsKeys (keys_of old) (keys_of new)
-      ⊎ ((key : Key) × IsTrue (is_put key call) × (old.slot_of key ≡ None) × GainsWithin limits key old new)
+  pub pages : old.keys.used_pages ≤ new.keys.used_pages
+  pub levels : (name : List ℕ) → old.keys.levels name ≤ new.keys.levels name
+  pub keys : KeepsKeys old.keys new.keys
+      ⊎ ((key : Key) × IsTrue (is_put key call) × (old.keys.slot_of key ≡ None) × GainsWithin limits key old new)
 
 -- so it is, but a purge takes keys out
 pub record IndexMoves (limits : Limits) (call : Call) (old new : Index) : Type 0 where
@@ -57,17 +57,17 @@ rising limits call old new plain rises = record { rises = λ _. rises; falls = �
 settled_index : (limits : Limits) (call : Call) (writes : List Write) (old new : Index) → is_purge call ≡ false → Settles writes old new → IndexMoves limits call old new
 settled_index limits call writes old new plain s =
     rising limits call old new plain (record {
-      pages = (let p = ap (λ (i : Index). i.used_pages) s.keys in omega arith);
-      levels = λ name. (let l = ap (λ (i : Index). i.levels name) s.keys in omega arith);
-      keys = inl (record { slot_of = ap (λ (i : Index). i.slot_of) s.keys; slots = ap (λ (i : Index). i.used_slots) s.keys; due = ap (λ (i : Index). i.due) s.keys });
+      pages = (let p = ap (λ (i : Index). i.keys.used_pages) s.keys in omega arith);
+      levels = λ name. (let l = ap (λ (i : Index). i.keys.levels name) s.keys in omega arith);
+      keys = inl (record { slot_of = ap (λ (i : Index). i.keys.slot_of) s.keys; slots = ap (λ (i : Index). i.keys.used_slots) s.keys; due = ap (λ (i : Index). i.keys.due) s.keys });
     })
 
 same_index : (limits : Limits) (call : Call) (old new : Index) → new ≡ old → IndexMoves limits call old new
 same_index limits call old new e = record {
   rises = λ _. record {
-    pages = (let p = ap (λ (i : Index). i.used_pages) e in omega arith);
-    levels = λ name. (let l = ap (λ (i : Index). i.levels name) e in omega arith);
-    keys = inl (record { slot_of = ap (λ (i : Index). i.slot_of) e; slots = ap (λ (i : Index). i.used_slots) e; due = ap (λ (i : Index). i.due) e });
+    pages = (let p = ap (λ (i : Index). i.keys.used_pages) e in omega arith);
+    levels = λ name. (let l = ap (λ (i : Index). i.keys.levels name) e in omega arith);
+    keys = inl (record { slot_of = ap (λ (i : Index). i.keys.slot_of) e; slots = ap (λ (i : Index). i.keys.used_slots) e; due = ap (λ (i : Index). i.keys.due) e });
   };
   falls = λ _. ([], e);
 }
@@ -76,35 +76,35 @@ lost_index : (limits : Limits) (keys : List Key) (old new : Index) → Lost old 
 lost_index limits keys old new lost = record { rises = λ plain. absurd (true≢false plain); falls = λ _. (keys, lost) }
 
 inserts : (limits : Limits) (key : Key) (reply : Reply) (old new : Index) → IndexesAt limits key None reply old new
-    → TakesWithin limits old new × (KeepsKeys (keys_of old) (keys_of new) ⊎ GainsWithin limits key old new)
+    → TakesWithin limits old new × (KeepsKeys old.keys new.keys ⊎ GainsWithin limits key old new)
 inserts limits key Fine old new i = (i.0, inr i.1)
 inserts limits key (LogFull g h n) old new i = (i.0, i.1)
 inserts limits key (PagesFull n) old new i = (i.0, inl i.1)
 inserts limits key _ old new i = (i.0, inl i.1)
 
-index_at : (limits : Limits) (name : List ℕ) (key : ℕ) (value : List ℕ) (slot : Option ℕ) (reply : Reply) (old new : Index) → old.slot_of (of_table name key) ≡ slot → IndexesAt limits (of_table name key) slot reply old new → IndexMoves limits (Table (Put name key value)) old new
+index_at : (limits : Limits) (name : List ℕ) (key : ℕ) (value : List ℕ) (slot : Option ℕ) (reply : Reply) (old new : Index) → old.keys.slot_of (of_table name key) ≡ slot → IndexesAt limits (of_table name key) slot reply old new → IndexMoves limits (Table (Put name key value)) old new
 index_at limits name key value (Some slot) reply old new is e = same_index limits (Table (Put name key value)) old new e
 index_at limits name key value None reply old new is i =
     let both = inserts limits (of_table name key) reply old new i in
     rising limits (Table (Put name key value)) old new refl (record {
-      pages = both.0.takes.used;
-      levels = both.0.takes.levels;
+      pages = both.0.used;
+      levels = both.0.levels;
       keys = ⊎_elim (λ keeps. inl keeps) (λ gains. inr (of_table name key, same_key (of_table name key) (of_table name key) refl, is, gains)) both.1;
     })
 
 index_moves : (limits : Limits) (asked : TableCall) (reply : Reply) (old new : Index) → Indexes limits asked reply old new → IndexMoves limits (Table asked) old new
-index_moves limits (Put name key value) reply old new i = index_at limits name key value (old.slot_of (of_table name key)) reply old new refl i
+index_moves limits (Put name key value) reply old new i = index_at limits name key value (old.keys.slot_of (of_table name key)) reply old new refl i
 index_moves limits asked reply old new i = same_index limits (Table asked) old new i
 
 -- if all slots are given out, no key is gained
-slots_stay : (limits : Limits) (call : Call) (old new : Index) → Rises limits call old new → old.used_slots ≡ limits.slots → new.used_slots ≡ limits.slots
+slots_stay : (limits : Limits) (call : Call) (old new : Index) → Rises limits call old new → old.keys.used_slots ≡ limits.slots → new.keys.used_slots ≡ limits.slots
 slots_stay limits call old new moves full = ⊎_elim (λ keeps. keeps.slots ∙ full) (λ gains. let l = gains.3.left in absurd (omega arith)) moves.keys
 
 pages_stay : (limits : Limits) (made call : Call) (n : ℕ) (old new : Index) → Rises limits call old new → LacksPages made n old → LacksPages made n new
 pages_stay limits (Table (Put name key value)) call n old new moves lacks = ⊎_elim (λ few. inl (let p = moves.pages in omega arith)) (λ high. inr (let l = moves.levels name in omega arith)) lacks
 pages_stay limits _ call n old new moves lacks = tt
 
-changed_same : (first : Index) (changes : List Change) (old new : Index) → KeepsKeys (keys_of old) (keys_of new)
+changed_same : (first : Index) (changes : List Change) (old new : Index) → KeepsKeys old.keys new.keys
     → Changed first changes old → Changed first changes new
 changed_same first [] old new keeps g = (keeps.slot_of ∙ g.0, keeps.slots ∙ g.1)
 changed_same first (gain key ∷ changes) old new keeps g = (g.0, g.1, g.2, keeps.slot_of ∙ g.3, keeps.slots ∙ g.4)
@@ -132,7 +132,7 @@ IsBlocked old caller call holder = ⊥
 -- what a reply says of the state before a step and of the index after it
 abbrev pub Told : Limits → State → ℕ → State → Call → Reply → Type 0
 Told limits old caller new call (Busy holder) = IsBlocked old caller call holder
-Told limits old caller new call (SlotsFull n) = (n ≡ limits.slots) × (new.index.used_slots ≡ limits.slots)
+Told limits old caller new call (SlotsFull n) = (n ≡ limits.slots) × (new.index.keys.used_slots ≡ limits.slots)
 Told limits old caller new call (PagesFull n) = (n ≡ limits.index_pages - 1) × LacksPages call n new.index
 Told limits old caller new call Dead = IsTrue old.is_dead
 Told limits old caller new call _ = Unit {0}
@@ -188,7 +188,7 @@ module _ (limits : Limits) (old : State) (caller : ℕ) (new : State) where
   lacks_told : (asked : TableCall) (reply : Reply) → room_for limits old caller asked (Some reply) → Indexes limits asked reply old.index new.index → T (Table asked) reply
   unfolding T
   lacks_told (Put name key value) reply lacks indexes =
-      put_lacks name key value (old.index.slot_of (of_table name key)) reply (write_lacks limits old caller (of_table name key) (old.index.slot_of (of_table name key)) reply lacks) indexes
+      put_lacks name key value (old.index.keys.slot_of (of_table name key)) reply (write_lacks limits old caller (of_table name key) (old.index.keys.slot_of (of_table name key)) reply lacks) indexes
   lacks_told (Del name key) reply lacks indexes =
       let is = removal_lacks limits old caller (of_table name key) (is_none (get (view_of old caller).table (of_table name key))) reply lacks in
       subst (λ r. Told limits old caller new (Table (Del name key)) r) (sym is.3) tt
@@ -291,8 +291,8 @@ module _ (limits : Limits) where
   alive_first first now turns a alive = (or_parts first.is_dead (has_fault turns) (sym (turns_dead true limits first now turns a) ∙ alive)).0
 
   -- What was lacking stays so, without a purge.
-  slots_on : (first now : State) (turns : List Turn) → GoesAlong true limits first turns now → now.is_dead ≡ false → has_purge turns ≡ false → first.index.used_slots ≡ limits.slots → now.index.used_slots ≡ limits.slots
-  slots_on first now [] a alive plain full = ap (λ (s : State). s.index.used_slots) a ∙ full
+  slots_on : (first now : State) (turns : List Turn) → GoesAlong true limits first turns now → now.is_dead ≡ false → has_purge turns ≡ false → first.index.keys.used_slots ≡ limits.slots → now.index.keys.used_slots ≡ limits.slots
+  slots_on first now [] a alive plain full = ap (λ (s : State). s.index.keys.used_slots) a ∙ full
   slots_on first now (turn ∷ turns) a alive plain full =
       let parts = or_parts (is_purge turn.1) (has_purge turns) plain in
       slots_on a.0 now turns a.2 alive parts.1 (slots_stay limits turn.1 first.index a.0.index ((index_goes first a.0 turn a.1 (alive_first a.0 now turns a.2 alive)).rises parts.0) full)
@@ -323,7 +323,7 @@ module _ (limits : Limits) where
         (λ keeps. (before.0, changed_same first.index before.0 old.index new.index keeps before.1, more_keys turns turn (gained_in before.0) before.2, λ plain. before.3 (none_before turns turn plain)))
         (λ gains. (
           gain gains.0 ∷ before.0,
-          (old.index, before.1, gains.2, gains.3.gains.slot_of, gains.3.gains.slots),
+          (old.index, before.1, gains.2, gains.3.slot_of, gains.3.slots),
           (any_last (λ (l : Turn). is_put gains.0 l.1) turns turn gains.1, more_keys turns turn (gained_in before.0) before.2),
           λ plain. before.3 (none_before turns turn plain),
         ))

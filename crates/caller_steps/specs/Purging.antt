@@ -8,7 +8,7 @@ use Rattle.history.specs.declared.call.TableCall.TheVariants.{Del}
 use Rattle.history.specs.declared.call.Reply.{Reply}
 use Rattle.history.specs.declared.call.Reply.TheVariants.{Purged, Already, Media, Dead, Damaged}
 use Rattle.index_keys.specs.Keys.{LosesKey}
-use Rattle.caller_steps.specs.State.{State, Index, keys_of, calls_of, records_of}
+use Rattle.caller_steps.specs.State.{State, Index, calls_of, records_of}
 use Rattle.caller_steps.specs.Offers.{is_engaged}
 use Rattle.caller_steps.specs.Room.{Limits}
 
@@ -18,12 +18,12 @@ IsTouched state key = (caller : ℕ) × Meets state.names (Del key.table key.key
 
 -- the index has the key, and there is no record of it
 abbrev pub IsAbsent : State → Key → Type 0
-IsAbsent state key = IsSome (state.index.slot_of key) × (get (records_of state) key ≡ None)
+IsAbsent state key = IsSome (state.index.keys.slot_of key) × (get (records_of state) key ≡ None)
 
 -- an index has lost these keys, the last one first
 abbrev pub Lost : Index → List Key → Index → Type 0
 Lost first [] now = now ≡ first
-Lost first (key ∷ keys) now = (before : Index) × Lost first keys before × LosesKey key (keys_of before) (keys_of now)
+Lost first (key ∷ keys) now = (before : Index) × Lost first keys before × LosesKey key before.keys now.keys
 
 -- these keys have no record, and no live transaction touches them
 abbrev pub AreFree : State → List Key → Type 0
@@ -61,7 +61,7 @@ AreInOrder names (one ∷ tries) = AllByRecursion (λ (earlier : Key × Bool). C
 -- What comes of a key: it is lost, if no live transaction touches it and the index does not keep it, as it is then. Else it stays.
 abbrev pub Becomes : Limits → State → Key → Bool → Index → Index → Type 0
 Becomes limits old key true before now = (IsTouched old key → ⊥) × IsFalse (limits.keeps before.bytes key)
-    × LosesKey key (keys_of before) (keys_of now)
+    × LosesKey key before.keys now.keys
 Becomes limits old key false before now = (IsTouched old key ⊎ IsTrue (limits.keeps before.bytes key)) × (now ≡ before)
 
 -- what comes of keys that are tried one after another, the last one first

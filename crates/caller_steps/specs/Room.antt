@@ -1,9 +1,10 @@
 -- How much room an array has for writes, and what calls make of its index.
-use Rattle.std.specs.Prelude.{ℕ, ◌≡◌, ◌≢◌, ◌-◌, ◌<◌, ◌≤◌, ◌⊎◌, Bool, false, nat_eq, List, [], ◌∷◌, length, filter, Option, Some, None, is_none, option_map, option_to_list, unwrap_or}
+use Rattle.std.specs.Prelude.{ℕ, suc, ◌≡◌, ◌≢◌, ◌+◌, ◌-◌, ◌<◌, ◌≤◌, ◌⊎◌, Bool, false, nat_eq, List, [], ◌∷◌, length, filter, Option, Some, None, is_none, option_map, option_to_list, unwrap_or}
 use Rattle.std.specs.FinMap.{get}
+use Rattle.std.specs.Map.{update}
 use Rattle.mars_base.specs.Check.{Check, pass, test, both, unless, each}
 use Rattle.mars_base.specs.Room.{HaveRoom, IsFirstFull}
-use Rattle.history.specs.Key.{of_table}
+use Rattle.history.specs.Key.{is_same_key, of_table}
 use Rattle.history.specs.declared.key.Key.{Key}
 use Rattle.history.specs.Log.{log_of, is_rewritten}
 use Rattle.history.specs.Writes.{Table, Write}
@@ -11,8 +12,8 @@ use Rattle.history.specs.declared.call.TableCall.{TableCall}
 use Rattle.history.specs.declared.call.TableCall.TheVariants.{Put, Del}
 use Rattle.history.specs.declared.call.Reply.{Reply}
 use Rattle.history.specs.declared.call.Reply.TheVariants.{Fine, LogFull, SlotsFull, PagesFull}
-use Rattle.index_keys.specs.Keys.{GainsKey, KeepsKeys, TakesPages}
-use Rattle.caller_steps.specs.State.{State, Index, keys_of, calls_of, records_of, view_of}
+use Rattle.index_keys.specs.Keys.{KeepsKeys}
+use Rattle.caller_steps.specs.State.{State, Index, calls_of, records_of, view_of}
 
 -- an action of an insertion into the index: how many of its pages it takes, and how many entries of each logger
 pub record Action : Type 0 where
@@ -45,7 +46,7 @@ is_slot_on limits g slot = unwrap_or (option_map (λ (at : ℕ). nat_eq (limits.
 
 -- how many entries of a logger a caller's writes take
 abbrev pub held_on : Limits → State → ℕ → ℕ → ℕ
-held_on limits state caller g = length (filter (λ (write : Write). is_slot_on limits g (state.index.slot_of write.0)) (log_of (calls_of state caller)).writes)
+held_on limits state caller g = length (filter (λ (write : Write). is_slot_on limits g (state.index.keys.slot_of write.0)) (log_of (calls_of state caller)).writes)
 
 -- Each logger has room for what it needs beside what it holds. The first that has not is told.
 abbrev pub logs_fit : Limits → (held needed : ℕ → ℕ) → Check Reply
@@ -67,43 +68,47 @@ entry_fits limits old caller key slot = unless (is_rewritten (log_of (calls_of o
 -- A write of a key that has this slot, or none. A new key needs a slot, pages for the splits of the index that are due, entries for each part of its
 -- insertion, and then one in the slot that is due.
 abbrev pub write_fits : Limits → State → ℕ → Key → Option ℕ → Check Reply
-write_fits limits old caller key None = both (test (old.index.used_slots ≢ limits.slots) (SlotsFull limits.slots))
-    (both (actions_fit limits (held_on limits old caller) (limits.index_pages - old.index.used_pages) (limits.actions old.index.bytes key)) (entry_fits limits old caller key old.index.due))
+write_fits limits old caller key None = both (test (old.index.keys.used_slots ≢ limits.slots) (SlotsFull limits.slots))
+    (both (actions_fit limits (held_on limits old caller) (limits.index_pages - old.index.keys.used_pages) (limits.actions old.index.bytes key)) (entry_fits limits old caller key old.index.keys.due))
 write_fits limits old caller key (Some slot) = entry_fits limits old caller key slot
 
 -- What a call that writes needs, and why it is refused: the first that it lacks. To remove a record is a write if its caller sees one, and it has a slot then.
 abbrev pub room_for : Limits → State → ℕ → TableCall → Check Reply
-room_for limits old caller (Put name key value) = write_fits limits old caller (of_table name key) (old.index.slot_of (of_table name key))
+room_for limits old caller (Put name key value) = write_fits limits old caller (of_table name key) (old.index.keys.slot_of (of_table name key))
 room_for limits old caller (Del name key) = unless (is_none (get (view_of old caller).table (of_table name key)))
-    (each (entry_fits limits old caller (of_table name key)) (option_to_list (old.index.slot_of (of_table name key))))
+    (each (entry_fits limits old caller (of_table name key)) (option_to_list (old.index.keys.slot_of (of_table name key))))
 room_for limits old caller _ = pass
 
--- the index gains the key; a slot was left for it, and no key had the one that was due
+-- the index gains the key, with the slot that was due; a slot was left for it, and no key had this one
 pub record GainsWithin (limits : Limits) (key : Key) (old new : Index) : Type 0 where
-  pub left : old.used_slots < limits.slots
-  pub free : (other : Key) → old.slot_of other ≢ Some old.due
-  pub gains : GainsKey key (keys_of old) (keys_of new)
+  pub left : old.keys.used_slots < limits.slots
+  pub free : (other : Key) → old.keys.slot_of other ≢ Some old.keys.due
+  pub slot_of : new.keys.slot_of ≡ update is_same_key old.keys.slot_of key (Some old.keys.due)
+  pub slots : new.keys.used_slots ≡ suc old.keys.used_slots
 
 -- The data takes these writes, in slots that their keys have. Without a write all of it stays.
 pub record Settles (writes : List Write) (old new : Index) : Type 0 where
   pub keys : new ≡ record old { bytes = new.bytes }
   pub none : writes ≡ [] → new ≡ old
 
--- the index takes pages, and no more than it may have
+-- At most nine more pages are given out, and no more than the index may have. No page in use is given back, and no level is lost.
 pub record TakesWithin (limits : Limits) (old new : Index) : Type 0 where
-  pub most : new.next_page ≤ limits.index_pages
-  pub takes : TakesPages (keys_of old) (keys_of new)
+  pub later : old.keys.next_page ≤ new.keys.next_page
+  pub few : new.keys.next_page ≤ old.keys.next_page + 9
+  pub most : new.keys.next_page ≤ limits.index_pages
+  pub used : old.keys.used_pages ≤ new.keys.used_pages
+  pub levels : (name : List ℕ) → old.keys.levels name ≤ new.keys.levels name
 
 -- What a put makes of the index, where it has this slot for the key, or lacks the key. If the log is full after the insertion, the key stays. If
 -- pages ran out, at most one is left, or the index has as many levels as it may.
 abbrev pub IndexesAt : Limits → Key → Option ℕ → Reply → Index → Index → Type 0
 IndexesAt limits key (Some slot) reply old new = new ≡ old
 IndexesAt limits key None Fine old new = TakesWithin limits old new × GainsWithin limits key old new
-IndexesAt limits key None (LogFull g h n) old new = TakesWithin limits old new × (KeepsKeys (keys_of old) (keys_of new) ⊎ GainsWithin limits key old new)
-IndexesAt limits key None (PagesFull n) old new = TakesWithin limits old new × KeepsKeys (keys_of old) (keys_of new) × ((n ≤ new.used_pages) ⊎ (7 ≤ new.levels key.table))
-IndexesAt limits key None _ old new = TakesWithin limits old new × KeepsKeys (keys_of old) (keys_of new)
+IndexesAt limits key None (LogFull g h n) old new = TakesWithin limits old new × (KeepsKeys old.keys new.keys ⊎ GainsWithin limits key old new)
+IndexesAt limits key None (PagesFull n) old new = TakesWithin limits old new × KeepsKeys old.keys new.keys × ((n ≤ new.keys.used_pages) ⊎ (7 ≤ new.keys.levels key.table))
+IndexesAt limits key None _ old new = TakesWithin limits old new × KeepsKeys old.keys new.keys
 
 -- what a call makes of the index
 abbrev pub Indexes : Limits → TableCall → Reply → Index → Index → Type 0
-Indexes limits (Put name key value) reply old new = IndexesAt limits (of_table name key) (old.slot_of (of_table name key)) reply old new
+Indexes limits (Put name key value) reply old new = IndexesAt limits (of_table name key) (old.keys.slot_of (of_table name key)) reply old new
 Indexes limits _ reply old new = new ≡ old

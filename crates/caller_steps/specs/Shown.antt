@@ -51,13 +51,13 @@ lost_in (loss key ∷ changes) = key ∷ lost_in changes
 -- An index has changed so, the last change first: a key that it gained was new and got the slot that was due, and a key that it lost was there,
 -- and its slot is due then.
 abbrev pub Changed : Index → List Change → Index → Type 0
-Changed first [] now = (now.slot_of ≡ first.slot_of) × (now.used_slots ≡ first.used_slots)
-Changed first (gain key ∷ changes) now = (before : Index) × Changed first changes before × (before.slot_of key ≡ None) × (now.slot_of ≡ update is_same_key before.slot_of key (Some before.due)) × (now.used_slots ≡ suc before.used_slots)
-Changed first (loss key ∷ changes) now = (before : Index) × Changed first changes before × IsSome (before.slot_of key) × (now.slot_of ≡ update is_same_key before.slot_of key None) × (before.used_slots ≡ suc now.used_slots)
+Changed first [] now = (now.keys.slot_of ≡ first.keys.slot_of) × (now.keys.used_slots ≡ first.keys.used_slots)
+Changed first (gain key ∷ changes) now = (before : Index) × Changed first changes before × (before.keys.slot_of key ≡ None) × (now.keys.slot_of ≡ update is_same_key before.keys.slot_of key (Some before.keys.due)) × (now.keys.used_slots ≡ suc before.keys.used_slots)
+Changed first (loss key ∷ changes) now = (before : Index) × Changed first changes before × IsSome (before.keys.slot_of key) × (now.keys.slot_of ≡ update is_same_key before.keys.slot_of key None) × (before.keys.used_slots ≡ suc now.keys.used_slots)
 
 -- a put finds no page for a split, or no further level
 abbrev pub LacksPages : Call → ℕ → Index → Type 0
-LacksPages (Table (Put name key value)) n index = (n ≤ index.used_pages) ⊎ (7 ≤ index.levels name)
+LacksPages (Table (Put name key value)) n index = (n ≤ index.keys.used_pages) ⊎ (7 ≤ index.keys.levels name)
 LacksPages _ n index = Unit {0}
 
 -- the call clashes with these granted calls of another caller
@@ -70,7 +70,7 @@ Clashes names call calls = ⊥
 -- or a purge has come, they still have. After a fault the core is dead, and `Dead` comes only after a fault.
 abbrev pub Shows : Limits → List Turn → List Turn → State → ℕ → Call → Reply → Type 0
 Shows limits before after now caller call (Busy holder) = (holder ≢ caller) × Clashes now.names call (unwrap_or (live_by holder (turns_of holder before)) [])
-Shows limits before after now caller call (SlotsFull n) = (n ≡ limits.slots) × (IsFalse now.is_dead → IsFalse (has_purge after) → now.index.used_slots ≡ limits.slots)
+Shows limits before after now caller call (SlotsFull n) = (n ≡ limits.slots) × (IsFalse now.is_dead → IsFalse (has_purge after) → now.index.keys.used_slots ≡ limits.slots)
 Shows limits before after now caller call (PagesFull n) = (n ≡ limits.index_pages - 1) × (IsFalse now.is_dead → IsFalse (has_purge after) → LacksPages call n now.index)
 Shows limits before after now caller call Media = IsTrue now.is_dead
 Shows limits before after now caller call Dead = IsTrue (has_fault before)

@@ -85,8 +85,8 @@ pub fn what_a_refusal_shows()
 pub fn what_an_index_gains()
     ensures run { (limits : Limits) (first now : State) (turns : List Turn) → Runs limits first turns now → IsFalse now.is_dead
         → (changes : List Change) × Changed first.index changes now.index × AreAsked turns (gained_in changes) × (IsFalse (has_purge turns) → lost_in changes ≡ []) }
-    ensures slots { (first now : Index) (changes : List Change) → Changed first changes now → now.used_slots + length (lost_in changes) ≡ first.used_slots + length (gained_in changes) }
-    ensures missing { (first now : Index) (changes : List Change) → Changed first changes now → lost_in changes ≡ [] → All (λ key. first.slot_of key ≡ None) (gained_in changes) }
+    ensures slots { (first now : Index) (changes : List Change) → Changed first changes now → now.keys.used_slots + length (lost_in changes) ≡ first.keys.used_slots + length (gained_in changes) }
+    ensures missing { (first now : Index) (changes : List Change) → Changed first changes now → lost_in changes ≡ [] → All (λ key. first.keys.slot_of key ≡ None) (gained_in changes) }
     ensures apart { (first now : Index) (changes : List Change) → Changed first changes now → lost_in changes ≡ [] → AllPairs (λ one other. one ≢ other) (gained_in changes) }
 {}
 

@@ -49,12 +49,12 @@ use Rattle.record_slots.specs.Places.{version_of, tables_of}
 use Rattle.record_table.specs.Names.{names_of}
 use Rattle.history.specs.Locks.{has_table}
 use Rattle.mars_core.specs.TableCall.{number_for}
-use Rattle.mars_core.specs.Over.{limits_of, index_of, index_with, OpensWithTables}
+use Rattle.mars_core.specs.Over.{limits_of, index_of, OpensWithTables}
 use Rattle.mars_core.specs.Held.{core_over}
 use Rattle.mars_core.specs.Kept.{Mirrors, HasHeld, IsTied, IsKept}
 use Rattle.mars_core.specs.Works.{HasSaves, IsShown}
 use Rattle.mars_core.proofs.Keeping.{dead_keeps, still_keeps}
-use Rattle.mars_core.proofs.Indexing.{IsWithin, InsertsNone, is_within, indexes_granted, indexes_refused, indexes_slots}
+use Rattle.mars_core.proofs.Indexing.{IsWithin, InsertsNone, is_within, indexes_granted, indexes_refused, indexes_shown, indexes_slots}
 use Rattle.mars_core.proofs.Mirroring.{scan_after, mirrors_granted, answers}
 use Rattle.mars_core.proofs.Rooming.{fits_is, log_lacks, slot_lacks, page_lacks, named_is}
 use Rattle.mars_core.proofs.Entering.{index_room, room_granted}
@@ -226,7 +226,7 @@ module _ (tells : Bool) (Opens : Shape → List ℕ → List ℕ → Type 0) (in
     right = tied.sound.right t
 
     named : (u : ℕ) → AreNamed s.index (log_of (calls_of s u)).writes
-    named u = named_is s.index (pairs_of index p.store.state.bytes) (log_of (calls_of s u)).writes (λ key. ap (λ (x : Index). x.slot_of key) shows.indexed)
+    named u = named_is s.index (pairs_of index p.store.state.bytes) (log_of (calls_of s u)).writes (λ key. ap (λ (x : Index). x.keys.slot_of key) shows.indexed)
         (subst (λ (ws : List Write). shown.AreNamed (pairs_of index p.store.state.bytes) ws) (ap (λ (l : Log). l.writes) (tied.mirrors.logs u)) (tells_writes.named told alive u))
 
     asked_below : number_for (names_of p.store.state.bytes) call ≡ Some table
@@ -271,7 +271,7 @@ module _ (tells : Bool) (Opens : Shape → List ℕ → List ℕ → Type 0) (in
       indexes : Indexes (limits_of index p.store.shape p.store.depth) call answer s.index new.index
       indexes = subst (λ (x : Index). Indexes (limits_of index p.store.shape p.store.depth) call answer x new.index) (sym shows.indexed)
           (subst (λ (x : Index). Indexes (limits_of index p.store.shape p.store.depth) call answer (index_of index p.store.state.bytes) x) (sym shows_new.indexed)
-          (subst (λ (ns : List (List ℕ)). Indexes (limits_of index p.store.shape p.store.depth) call answer (index_of index p.store.state.bytes) (index_with ns q.store.state.bytes (keys_of index q.store.state.bytes))) (sym (names_same (Ok answer) told refl works))
+          (indexes_shown (limits_of index p.store.shape p.store.depth) call answer index p.store.state.bytes q.store.state.bytes (names_same (Ok answer) told refl works)
           (indexes_granted index p.store.shape p.store.depth table (names_of p.store.state.bytes) p.store.state.bytes q.store.state.bytes (keys_of index p.store.state.bytes) (keys_of index q.store.state.bytes) (within told (Ok answer) works living) (one_slot index laws q.store.state.bytes (sound_new told (Ok answer) works living)) call answer answer
           (λ inserts. works.quiet told refl (quiet_of index p t call inserts))
           (λ name key value e. subst (λ (c : TableCall). Replies (state_of index p) t (OnTable c) answer) e (works.replies told)) (works.indexed told alive refl))))
@@ -336,7 +336,7 @@ module _ (tells : Bool) (Opens : Shape → List ℕ → List ℕ → Type 0) (in
         indexes_still : Indexes (limits_of index p.store.shape p.store.depth) call (reply_to f) s.index new.index
         indexes_still = subst (λ (x : Index). Indexes (limits_of index p.store.shape p.store.depth) call (reply_to f) x new.index) (sym shows.indexed)
             (subst (λ (x : Index). Indexes (limits_of index p.store.shape p.store.depth) call (reply_to f) (index_of index p.store.state.bytes) x) (sym shows_new.indexed)
-            (subst (λ (ns : List (List ℕ)). Indexes (limits_of index p.store.shape p.store.depth) call (reply_to f) (index_of index p.store.state.bytes) (index_with ns q.store.state.bytes (keys_of index q.store.state.bytes))) (sym (names_same (Err f) told well works))
+            (indexes_shown (limits_of index p.store.shape p.store.depth) call (reply_to f) index p.store.state.bytes q.store.state.bytes (names_same (Err f) told well works)
             (indexes_refused index p.store.shape p.store.depth table (names_of p.store.state.bytes) p.store.state.bytes q.store.state.bytes (keys_of index p.store.state.bytes) (keys_of index q.store.state.bytes) (within told (Err f) works living_still) (one_slot index laws q.store.state.bytes (sound_new told (Err f) works living_still)) Reply call f (asked_below told)
             (λ inserts. works.quiet told well (quiet_of index p t call inserts)) well (works.indexed told alive well))))
 

@@ -43,8 +43,8 @@ use Rattle.caller_steps.specs.Locked.{IsFree, IsBusyWith}
 use Rattle.caller_steps.specs.Purging.{Try, Lost, IsTried, ComesBefore}
 use Rattle.caller_steps.proofs.Trying.{lost_append, each_append, each_as, tried_later, tried_before, order_append}
 use Rattle.caller_steps.specs.State.{Index}
-use Rattle.caller_steps.specs.State as face
 use Rattle.mars_core.specs.Over.{index_of}
+use Rattle.mars_core.proofs.Named.{index_is}
 use Rattle.record_slots.specs.Names.{names_in, number_of}
 use Rattle.record_table.specs.Names.{IsCalled, names_of, key_in}
 use Rattle.index_keys.specs.Keys.{LosesKey}
@@ -63,12 +63,12 @@ kept_slot f now key q is some = elim (cases_key q key) [
     none_there None e some = absurd (cc)
     none_there (Some x) e some = absurd (cc)
 
-lost_still : (first now : Index) (keys : List Key) → Lost first keys now → (q : Key) → IsSome (now.slot_of q) → IsSome (first.slot_of q)
-lost_still first now [] lost q some = subst (λ (ix : Index). IsSome (ix.slot_of q)) lost some
-lost_still first now (key ∷ keys) (before, lost, loses) q some = lost_still first before keys lost q (kept_slot before.slot_of now.slot_of key q loses.slot_of some).1
+lost_still : (first now : Index) (keys : List Key) → Lost first keys now → (q : Key) → IsSome (now.keys.slot_of q) → IsSome (first.keys.slot_of q)
+lost_still first now [] lost q some = subst (λ (ix : Index). IsSome (ix.keys.slot_of q)) lost some
+lost_still first now (key ∷ keys) (before, lost, loses) q some = lost_still first before keys lost q (kept_slot before.keys.slot_of now.keys.slot_of key q loses.slot_of some).1
 
-lost_slots : (first now : Index) (keys : List Key) → Lost first keys now → first.used_slots ≡ length keys + now.used_slots
-lost_slots first now [] lost = omega (arith, ap (λ (ix : Index). ix.used_slots) lost)
+lost_slots : (first now : Index) (keys : List Key) → Lost first keys now → first.keys.used_slots ≡ length keys + now.keys.used_slots
+lost_slots first now [] lost = omega (arith, ap (λ (ix : Index). ix.keys.used_slots) lost)
 lost_slots first now (key ∷ keys) (before, lost, loses) = omega (arith, lost_slots first before keys lost, loses.slots)
 
 -- keys lost behind others
@@ -86,7 +86,7 @@ called_key bytes table key called = λ i. record { table = unwrap_or (called i) 
 
 -- as callers see it
 pub loses_one : (index : below.Index) (a b : List ℕ) (table : ℕ) (key : Key) → IsCalled a table key.table → names_of b ≡ names_of a
-    → Loses index table key.key a b → LosesKey key (face.keys_of (index_of index a)) (face.keys_of (index_of index b))
+    → Loses index table key.key a b → LosesKey key (index_of index a).keys (index_of index b).keys
 loses_one index a b table key called same loses =
     let lost : LosesKey key (keys_of index a) (keys_of index b) =
     subst (λ (k : Key). LosesKey k (keys_of index a) (keys_of index b)) (called_key a table key called) loses.keys in
@@ -97,7 +97,8 @@ loses_one index a b table key called same loses =
       fewer = lost.fewer;
       one_page = lost.one_page;
       next_page = lost.next_page;
-      levels = λ i name. unwrap_or (option_map (lost.levels i) (number_of (same i) name)) 0;
+      levels = ap (λ (x : Index). x.keys.levels) (index_is index b) ∙ (λ i name. unwrap_or (option_map (lost.levels i) (number_of (same i) name)) 0)
+          ∙ sym (ap (λ (x : Index). x.keys.levels) (index_is index a));
     }
 
 -- 1 for a key that was taken out
@@ -215,7 +216,7 @@ module _ (index : below.Index) (seats : Seats) (mid last : List ℕ) (table : �
     kept = λ one some keeps. (keeps.0, ap (λ (ns : List (List ℕ)). slice_get ns keeps.0) names ∙ keeps.1, loses.kept keeps.0 one.key one.table keeps.1 some keeps.2);
     left = λ one is at.
         let lost = loses_one index mid last table key called names loses in
-        absurd ((kept_slot (index_of index mid).slot_of (index_of index last).slot_of key one lost.slot_of at.0).0 is);
+        absurd ((kept_slot (index_of index mid).keys.slot_of (index_of index last).keys.slot_of key one lost.slot_of at.0).0 is);
     tried = (key, true) ∷ [];
     keys_are = refl;
     passed = (refl, tt);

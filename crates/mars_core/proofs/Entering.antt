@@ -25,7 +25,7 @@ use Rattle.mars_core.proofs.Rooming.{HasEntry, written_room}
 
 -- the key then has a slot, and a write of it finds an entry
 abbrev pub HasSlot : Limits → State → ℕ → Index → Key → Type 0
-HasSlot limits s t ix key = (slot : ℕ) × (ix.slot_of key ≡ Some slot) × HasEntry limits s t key slot
+HasSlot limits s t ix key = (slot : ℕ) × (ix.keys.slot_of key ≡ Some slot) × HasEntry limits s t key slot
 
 -- if the call with this reply writes, it finds an entry
 abbrev pub Enters : Limits → State → ℕ → Index → TableCall → Reply → Type 0
@@ -87,10 +87,10 @@ module _ (limits : Limits) (s : State) (named : (caller : ℕ) → AreNamed s.in
       ]
 
 -- a caller whose transaction begins or ends has nothing in the loggers
-pub room_empty : (limits : Limits) (s new : State) (t : ℕ) (calls : Option Granted) → unwrap_or calls [] ≡ [] → HasHeld limits s → new.index.slot_of ≡ s.index.slot_of → new.live ≡ update nat_eq s.live t calls → HasHeld limits new
+pub room_empty : (limits : Limits) (s new : State) (t : ℕ) (calls : Option Granted) → unwrap_or calls [] ≡ [] → HasHeld limits s → new.index.keys.slot_of ≡ s.index.keys.slot_of → new.live ≡ update nat_eq s.live t calls → HasHeld limits new
 room_empty limits s new t calls none room indexed live caller g = elim (cases_eq caller t) [
   | inl e ↦ subst (λ (v : ℕ). held_on limits new v g ≤ limits.entries) (sym e)
       (subst (λ (cs : Granted). length (filter (is_write_on limits new.index g) (log_of cs).writes) ≤ limits.entries) (sym (calls_here s new t calls live ∙ none)) (omega arith))
-  | inr ne ↦ subst (λ (x : Key → Option ℕ). length (filter (is_write_on limits (record s.index { slot_of = x }) g) (log_of (calls_of new caller)).writes) ≤ limits.entries) (sym indexed)
+  | inr ne ↦ subst (λ (x : Key → Option ℕ). length (filter (is_write_on limits (record s.index { keys = record s.index.keys { slot_of = x } }) g) (log_of (calls_of new caller)).writes) ≤ limits.entries) (sym indexed)
       (subst (λ (cs : Granted). length (filter (is_write_on limits s.index g) (log_of cs).writes) ≤ limits.entries) (sym (calls_there s new t calls live caller ne)) (room caller g))
 ]

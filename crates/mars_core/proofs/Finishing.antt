@@ -43,7 +43,8 @@ use Rattle.caller_steps.specs.Core.{IsSafe, Steps}
 use Rattle.caller_steps.proofs.Causing.{plain_cause}
 use Rattle.caller_steps.proofs.Sound.{acts_sound, history_whole, one_more_whole}
 use Rattle.record_slots.specs.Names.{names_in}
-use Rattle.mars_core.specs.Over.{limits_of, index_with, OpensWithTables}
+use Rattle.mars_core.specs.Over.{limits_of, index_of, OpensWithTables}
+use Rattle.mars_core.proofs.Named.{index_same}
 use Rattle.mars_core.specs.Held.{core_over}
 use Rattle.mars_core.specs.Kept.{Mirrors, HasHeld, IsTied, IsKept}
 use Rattle.mars_core.proofs.Mirroring.{with_one_here, mirrors_at, apart}
@@ -153,7 +154,7 @@ module _ (tells : Bool) (Opens : Shape → List ℕ → List ℕ → Type 0) (in
 
     module _ (told : IsTrue tells) where
       keys_same : new.index ≡ record s.index { bytes = new.index.bytes }
-      keys_same = shows_new.indexed ∙ (λ i. index_with (names_in (does.tables told refl i)) q.store.state.bytes (does.indexed told alive refl i)) ∙ sym (λ i. record (shows.indexed i) { bytes = (shows_new.indexed i).bytes })
+      keys_same = shows_new.indexed ∙ index_same index p.store.state.bytes q.store.state.bytes (does.tables told refl) (does.indexed told alive refl) ∙ sym (λ i. record (shows.indexed i) { bytes = (shows_new.indexed i).bytes })
 
       writes_are : ((state_of index p).logs t).writes ≡ (log_of calls).writes
       writes_are = ap (λ (l : Log). l.writes) ((kept.tied told alive).mirrors.logs t) ∙ ap (λ (cs : Granted). (log_of cs).writes) at
@@ -161,7 +162,7 @@ module _ (tells : Bool) (Opens : Shape → List ℕ → List ℕ → Type 0) (in
       settles : Settles (log_of calls).writes s.index new.index
       settles = record {
         keys = keys_same;
-        none = λ none. shows_new.indexed ∙ (λ i. index_with (names_in (does.tables told refl i)) (does.quiet told refl (writes_are ∙ none) i) (does.indexed told alive refl i)) ∙ sym shows.indexed;
+        none = λ none. shows_new.indexed ∙ ap (index_of index) (does.quiet told refl (writes_are ∙ none)) ∙ sym shows.indexed;
       }
 
       step : Acts (limits_of index p.store.shape p.store.depth) s t (Control Commit) (Committed (length s.history + 1)) new
@@ -180,7 +181,7 @@ module _ (tells : Bool) (Opens : Shape → List ℕ → List ℕ → Type 0) (in
                 (seen_left done done_is (Ok (Committed k)) does live told ∙ (λ i. records (sym base i) (sym history i)))
                 (with_one_here (state_of index p).logs t (record { writes = []; saved = [] })) (apart (state_of index p) t (Control Commit) (Committed k)));
             sound = acts_sound (limits_of index p.store.shape p.store.depth) s t (Control Commit) (Committed (length s.history + 1)) new was.sound step;
-            room = subst (λ (x : Shape × ℕ). HasHeld (limits_of index x.0 x.1) new) (λ i. (sym does.shape i, sym does.depth i)) (room_empty (limits_of index p.store.shape p.store.depth) s new t None refl was.room (ap (λ (x : Index). x.slot_of) keys_same) live);
+            room = subst (λ (x : Shape × ℕ). HasHeld (limits_of index x.0 x.1) new) (λ i. (sym does.shape i, sym does.depth i)) (room_empty (limits_of index p.store.shape p.store.depth) s new t None refl was.room (ap (λ (x : Index). x.keys.slot_of) keys_same) live);
           }
 
       safe_new : IsSafe (core_over Opens index q.store new) q.store.moment (length new.history)
@@ -267,7 +268,7 @@ module _ (tells : Bool) (Opens : Shape → List ℕ → List ℕ → Type 0) (in
 
       module _ (told : IsTrue tells) where
         index_alike : new.index ≡ s.index
-        index_alike = shows_new.indexed ∙ (λ i. index_with (names_in (does.tables told refl i)) (does.quiet told refl tt i) (does.indexed told alive refl i)) ∙ sym shows.indexed
+        index_alike = shows_new.indexed ∙ ap (index_of index) (does.quiet told refl tt) ∙ sym shows.indexed
 
         step_abort : Acts (limits_of index p.store.shape p.store.depth) s t (Control Abort) Fine new
         step_abort = step_of (limits_of index p.store.shape p.store.depth) (Some calls) s new t (Control Abort) Fine living_state is un
@@ -284,7 +285,7 @@ module _ (tells : Bool) (Opens : Shape → List ℕ → List ℕ → Type 0) (in
                   (was.mirrors.table ∙ (λ i. records (sym base i) (sym history i)))
                   (with_one_here (state_of index p).logs t (record { writes = []; saved = [] })) (apart (state_of index p) t (Control Abort) Fine));
               sound = acts_sound (limits_of index p.store.shape p.store.depth) s t (Control Abort) Fine new was.sound step_abort;
-              room = subst (λ (x : Shape × ℕ). HasHeld (limits_of index x.0 x.1) new) (λ i. (sym does.shape i, sym does.depth i)) (room_empty (limits_of index p.store.shape p.store.depth) s new t None refl was.room (ap (λ (x : Index). x.slot_of) index_alike) live);
+              room = subst (λ (x : Shape × ℕ). HasHeld (limits_of index x.0 x.1) new) (λ i. (sym does.shape i, sym does.depth i)) (room_empty (limits_of index p.store.shape p.store.depth) s new t None refl was.room (ap (λ (x : Index). x.keys.slot_of) index_alike) live);
             }
 
         safe_abort : IsSafe (core_over Opens index q.store new) q.store.moment (length new.history)

@@ -18,13 +18,16 @@ use Rattle.index_keys.specs.Keys.{GainsKey, KeepsKeys, TakesPages}
 use Rattle.record_table.specs.Does.{IndexedAt, Indexed, is_failed}
 use Rattle.record_table.specs.declared.fault.TableFault.{TableFault}
 use Rattle.record_table.specs.declared.fault.TableFault.TheVariants.{SlotsFull, PagesFull, SavesFull, LogFull, Media, Dead, Damaged, NoMemory}
-use Rattle.caller_steps.specs.State.{Index, keys_of}
+use Rattle.caller_steps.specs.State.{Index}
 use Rattle.caller_steps.specs.Room.{Limits, GainsWithin, TakesWithin, IndexesAt, Indexes}
 use Rattle.caller_steps.proofs.AtKeys.{at_key, at_other_key}
 use Rattle.history.proofs.Keys.{cases_key}
 use Rattle.record_slots.specs.Names.{number_of}
+use Rattle.record_table.specs.Names.{names_of}
+use Rattle.record_table.specs.Shown.{keys_of}
 use Rattle.mars_core.specs.TableCall.{number_for}
-use Rattle.mars_core.specs.Over.{limits_of, index_with}
+use Rattle.mars_core.specs.Over.{limits_of, index_of}
+use Rattle.mars_core.proofs.Named.{index_with, index_is}
 use Rattle.record_table.specs.Faults.{reply_to}
 
 -- no more slots are in use, and no more pages given out, than an array of this shape has
@@ -59,11 +62,14 @@ module _ (index : below.Index) (shape : Shape) (depth table : ℕ) (names : List
 
   takes : TakesPages old new → TakesWithin (limits_of index shape depth) (index_with names a old) (index_with names b new)
   takes t = record {
+    later = t.later;
+    few = t.few;
     most = within.pages;
-    takes = record { later = t.later; few = t.few; used = t.used; levels = λ name. level_rises (number_of names name) t.levels };
+    used = t.used;
+    levels = λ name. level_rises (number_of names name) t.levels;
   }
 
-  keeps : KeepsKeys old new → KeepsKeys (keys_of (index_with names a old)) (keys_of (index_with names b new))
+  keeps : KeepsKeys old new → KeepsKeys (index_with names a old).keys (index_with names b new).keys
   keeps k = record { slot_of = k.slot_of; slots = k.slots; due = k.due }
 
   -- no key had the slot that was due
@@ -80,7 +86,8 @@ module _ (index : below.Index) (shape : Shape) (depth table : ℕ) (names : List
   gains key none g = record {
     left = omega (arith, g.slots, within.slots);
     free = was_free key none g;
-    gains = record { slot_of = g.slot_of; slots = g.slots };
+    slot_of = g.slot_of;
+    slots = g.slots;
   }
 
   refused_at : (T : Type 0) (key : Key) (asked : number_of names key.table ≡ Some table) (o : Option ℕ) → old.slot_of key ≡ o → (IsSome o → b ≡ a) → (f : TableFault) → (let r : Result T TableFault = Err f in IsFalse (is_failed r))
@@ -115,11 +122,19 @@ module _ (index : below.Index) (shape : Shape) (depth table : ℕ) (names : List
       subst (λ (r : Reply). IndexesAt (limits_of index shape depth) (of_table name key) (old.slot_of (of_table name key)) r (index_with names a old) (index_with names b new)) (sym (fine name key value refl)) (granted_at (of_table name key) (old.slot_of (of_table name key)) refl quiet answer indexed)
   indexes_granted _ answer told quiet fine same = both same (quiet tt)
 
+-- so it is with the indexes in data whose tables have the same names
+pub indexes_shown : (limits : Limits) (call : TableCall) (told : Reply) (index : below.Index) (a b : List ℕ) → names_of b ≡ names_of a
+    → Indexes limits call told (index_with (names_of a) a (keys_of index a)) (index_with (names_of a) b (keys_of index b)) → Indexes limits call told (index_of index a) (index_of index b)
+indexes_shown limits call told index a b same is =
+    subst (λ (x : Index). Indexes limits call told x (index_of index b)) (sym (index_is index a))
+    (subst (λ (x : Index). Indexes limits call told (index_with (names_of a) a (keys_of index a)) x)
+    (ap (λ (names : List (List ℕ)). index_with names b (keys_of index b)) (sym same) ∙ sym (index_is index b)) is)
+
 -- the keys stay, or the index gains one that it lacked
 abbrev pub Slots : Limits → Index → Index → Type 0
-Slots limits old new = (new.slot_of ≡ old.slot_of) ⊎ ((key : Key) × (old.slot_of key ≡ None) × GainsWithin limits key old new)
+Slots limits old new = (new.keys.slot_of ≡ old.keys.slot_of) ⊎ ((key : Key) × (old.keys.slot_of key ≡ None) × GainsWithin limits key old new)
 
-inserts_slots : (limits : Limits) (key : Key) (answer : Reply) (old new : Index) → old.slot_of key ≡ None → IndexesAt limits key None answer old new → Slots limits old new
+inserts_slots : (limits : Limits) (key : Key) (answer : Reply) (old new : Index) → old.keys.slot_of key ≡ None → IndexesAt limits key None answer old new → Slots limits old new
 inserts_slots limits key Fine old new none (t, k) = inr (key, none, k)
 inserts_slots limits key (reply.LogFull g h n) old new none (t, inl k) = inl k.slot_of
 inserts_slots limits key (reply.LogFull g h n) old new none (t, inr k) = inr (key, none, k)
@@ -142,16 +157,16 @@ inserts_slots limits key reply.Dead old new none (t, k) = inl k.slot_of
 inserts_slots limits key reply.NoMemory old new none (t, k) = inl k.slot_of
 inserts_slots limits key (reply.Damaged page) old new none (t, k) = inl k.slot_of
 
-at_slots : (limits : Limits) (key : Key) (o : Option ℕ) (answer : Reply) (old new : Index) → old.slot_of key ≡ o → IndexesAt limits key o answer old new → Slots limits old new
+at_slots : (limits : Limits) (key : Key) (o : Option ℕ) (answer : Reply) (old new : Index) → old.keys.slot_of key ≡ o → IndexesAt limits key o answer old new → Slots limits old new
 at_slots limits key None answer old new is inserts = inserts_slots limits key answer old new is inserts
-at_slots limits key (Some slot) answer old new is same = inl (ap (λ (x : Index). x.slot_of) same)
+at_slots limits key (Some slot) answer old new is same = inl (ap (λ (x : Index). x.keys.slot_of) same)
 
 pub indexes_slots : (limits : Limits) (call : TableCall) (answer : Reply) (old new : Index) → Indexes limits call answer old new → Slots limits old new
-indexes_slots limits (Put name key value) answer old new indexes = at_slots limits (of_table name key) (old.slot_of (of_table name key)) answer old new refl indexes
-indexes_slots limits _ answer old new same = inl (ap (λ (x : Index). x.slot_of) same)
+indexes_slots limits (Put name key value) answer old new indexes = at_slots limits (of_table name key) (old.keys.slot_of (of_table name key)) answer old new refl indexes
+indexes_slots limits _ answer old new same = inl (ap (λ (x : Index). x.keys.slot_of) same)
 
 -- after a granted put the index has the key, with the slot that it had or the one that was due
-pub slot_after : (limits : Limits) (key : Key) (o : Option ℕ) (old new : Index) → old.slot_of key ≡ o → IndexesAt limits key o Fine old new
-    → (slot : ℕ) × (new.slot_of key ≡ Some slot) × (slot ≡ unwrap_or o old.due)
-slot_after limits key None old new is (t, k) = (old.due, ap (λ (f : Key → Option ℕ). f key) k.gains.slot_of ∙ at_key old.slot_of key (Some old.due), refl)
-slot_after limits key (Some slot) old new is same = (slot, ap (λ (x : Index). x.slot_of key) same ∙ is, refl)
+pub slot_after : (limits : Limits) (key : Key) (o : Option ℕ) (old new : Index) → old.keys.slot_of key ≡ o → IndexesAt limits key o Fine old new
+    → (slot : ℕ) × (new.keys.slot_of key ≡ Some slot) × (slot ≡ unwrap_or o old.keys.due)
+slot_after limits key None old new is (t, k) = (old.keys.due, ap (λ (f : Key → Option ℕ). f key) k.slot_of ∙ at_key old.keys.slot_of key (Some old.keys.due), refl)
+slot_after limits key (Some slot) old new is same = (slot, ap (λ (x : Index). x.keys.slot_of key) same ∙ is, refl)

@@ -3,6 +3,7 @@ pub mod Idle
 pub mod Seating
 pub mod Mirroring
 pub mod Viewing
+mod Named
 pub mod Indexing
 pub mod Rooming
 pub mod Entering

@@ -58,6 +58,7 @@ use Rattle.caller_steps.specs.State.{State, Index, unoffered}
 use Rattle.mars_core.specs.Held.{core_over, state_at}
 use Rattle.mars_core.specs.Kept.{IsTied, IsKept}
 use Rattle.mars_core.specs.Over.{limits_of, index_of, keeps_in, OpensWithTables}
+use Rattle.mars_core.proofs.Named.{by_number}
 use Rattle.mars_core.specs.Purging.{IsOfFirst, IsTouchedIn, Keeps, AreFreeIn, Tried, Trail, IsReady, ClearCause, Clears}
 use Rattle.mars_core.specs.Seats.{Seats, live_in, offers_in, calls_at}
 use Rattle.mars_core.proofs.Answered.{fault_plain}
@@ -74,7 +75,7 @@ use Rattle.mars_core.proofs.Unwritten.{unwritten}
 
 -- a key of the pairs of tables is one of theirs
 module _ (index : below.Index) (d : List ℕ) (key : Key) where
-  in_front : (name : List ℕ) (pairs : List Pair) (rest : List shown.KeyPair) → IsSome (shown.found_key (map (shown.in_table name) pairs ++ rest) key) → (key.table ≡ name) ⊎ IsSome (shown.found_key rest key)
+  in_front : (name : List ℕ) (pairs : List Pair) (rest : List (Key × ℕ)) → IsSome (shown.found_key (map (shown.in_table name) pairs ++ rest) key) → (key.table ≡ name) ⊎ IsSome (shown.found_key rest key)
   in_front name [] rest some = inr some
   in_front name (pair ∷ pairs) rest some = go (is_same_key (of_table name pair.0) key) refl some (in_front name pairs rest)
     where
@@ -115,14 +116,17 @@ numbered index laws bytes sound table name called = first_is (names_of bytes) na
 abbrev keeps_at : below.Index → List ℕ → ℕ → Option ℕ → Bool
 keeps_at index bytes key o = unwrap_or (option_map (λ table. is_none (removal_in index table bytes key)) o) false
 
+keeps_named : (index : below.Index) (bytes : List ℕ) (key : Key) → keeps_in index bytes key ≡ keeps_at index bytes key.key (number_of (names_of bytes) key.table)
+keeps_named index bytes key = by_number (λ (root : Option ℕ). is_none (unwrap_or (option_map (λ r. index.removal bytes r key.key) root) None)) false key.table bytes
+
 -- a key that an index keeps is one of those that callers know to be kept
 keeps_told : (index : below.Index) (laws : Laws index) (bytes : List ℕ) → index.sound bytes → (key : Key) → Keeps index bytes key → keeps_in index bytes key ≡ true
 keeps_told index laws bytes sound key (table, called, kept) =
-    ap (keeps_at index bytes key.key) (numbered index laws bytes sound table key.table called) ∙ ap (λ (o : Option (List ℕ)). not (is_some o)) kept
+    keeps_named index bytes key ∙ ap (keeps_at index bytes key.key) (numbered index laws bytes sound table key.table called) ∙ ap (λ (o : Option (List ℕ)). not (is_some o)) kept
 
 -- and one that it does not keep is not
 keeps_not : (index : below.Index) (laws : Laws index) (bytes : List ℕ) → index.sound bytes → (key : Key) (table : ℕ) → IsCalled bytes table key.table → (removing.IsKept index table bytes key.key → ⊥) → keeps_in index bytes key ≡ false
-keeps_not index laws bytes sound key table called unkept = ap (keeps_at index bytes key.key) (numbered index laws bytes sound table key.table called) ∙ go (removal_in index table bytes key.key) refl
+keeps_not index laws bytes sound key table called unkept = keeps_named index bytes key ∙ ap (keeps_at index bytes key.key) (numbered index laws bytes sound table key.table called) ∙ go (removal_in index table bytes key.key) refl
   where
     go : (o : Option (List ℕ)) → removal_in index table bytes key.key ≡ o → not (is_some o) ≡ false
     go None is = absurd (unkept is)
@@ -140,13 +144,13 @@ outcome_plain (Err fault) = fault_plain fault
 
 module _ (limits : Limits) (g : ℕ) where
   -- If a key that no write names is lost, the writes on a logger stay the same,
-  writes_lost : (old new : Index) (key : Key) → new.slot_of ≡ update is_same_key old.slot_of key None → (writes : List Write) → list_any (is_of key) writes ≡ false
+  writes_lost : (old new : Index) (key : Key) → new.keys.slot_of ≡ update is_same_key old.keys.slot_of key None → (writes : List Write) → list_any (is_of key) writes ≡ false
       → filter (is_write_on limits new g) writes ≡ filter (is_write_on limits old g) writes
   writes_lost old new key loses [] none = refl
   writes_lost old new key loses (write ∷ writes) none =
       let parts = or_parts (is_of key write) (list_any (is_of key) writes) none in
-      let same : new.slot_of write.0 ≡ old.slot_of write.0 = ap (λ (f : Key → Option ℕ). f write.0) loses
-      ∙ at_other_key old.slot_of key None write.0 (λ e. true≢false (sym (same_key write.0 key e) ∙ parts.0)) in
+      let same : new.keys.slot_of write.0 ≡ old.keys.slot_of write.0 = ap (λ (f : Key → Option ℕ). f write.0) loses
+      ∙ at_other_key old.keys.slot_of key None write.0 (λ e. true≢false (sym (same_key write.0 key e) ∙ parts.0)) in
       ap (λ (s : Option ℕ). cond (is_slot_on limits g s) (write ∷ filter (is_write_on limits new g) writes) (filter (is_write_on limits new g) writes)) same
       ∙ ap (λ (l : List Write). cond (is_write_on limits old g write) (write ∷ l) l) (writes_lost old new key loses writes parts.1)
 
@@ -259,8 +263,8 @@ module _ (tells : Bool) (Opens : Shape → List ℕ → List ℕ → Type 0) (in
         (index_of index before, tries_so first before tries trail, comes_so one.0 one.1 before now tried.table tried.sound tried.called tried.named tried.comes)
 
     -- A key that was absent is absent still, or was tried.
-    tried_or_still : (first now : List ℕ) (tries : List Try) (key : Key) → Trail index seats first tries now → IsSome ((index_of index first).slot_of key) → IsTried key tries ⊎ IsSome ((index_of index now).slot_of key)
-    tried_or_still first now [] key trail some = inr (subst (λ (d : List ℕ). IsSome ((index_of index d).slot_of key)) (sym trail) some)
+    tried_or_still : (first now : List ℕ) (tries : List Try) (key : Key) → Trail index seats first tries now → IsSome ((index_of index first).keys.slot_of key) → IsTried key tries ⊎ IsSome ((index_of index now).keys.slot_of key)
+    tried_or_still first now [] key trail some = inr (subst (λ (d : List ℕ). IsSome ((index_of index d).keys.slot_of key)) (sym trail) some)
     tried_or_still first now (one ∷ tries) key (before, trail, tried) some = elim (tried_or_still first before tries key trail some) [
       | inl tried_then ↦ inl (inr tried_then)
       | inr there ↦ elim (cases_key key one.0) [
@@ -269,11 +273,11 @@ module _ (tells : Bool) (Opens : Shape → List ℕ → List ℕ → Type 0) (in
       ]
     ]
       where
-        still : (lost : Bool) (table : ℕ) → IsCalled before table one.0.table → names_of now ≡ names_of before → Tried index seats table one.0 before now lost → (key ≡ one.0 → ⊥) → IsSome ((index_of index before).slot_of key) → IsSome ((index_of index now).slot_of key)
+        still : (lost : Bool) (table : ℕ) → IsCalled before table one.0.table → names_of now ≡ names_of before → Tried index seats table one.0 before now lost → (key ≡ one.0 → ⊥) → IsSome ((index_of index before).keys.slot_of key) → IsSome ((index_of index now).keys.slot_of key)
         still true table called named comes other there =
             let lost = loses_one index before now table one.0 called named comes.2 in
-            subst (λ (o : Option ℕ). IsSome o) (sym (ap (λ (f : Key → Option ℕ). f key) lost.slot_of ∙ at_other_key (index_of index before).slot_of one.0 None key other)) there
-        still false table called named comes other there = subst (λ (d : List ℕ). IsSome ((index_of index d).slot_of key)) (sym comes.0) there
+            subst (λ (o : Option ℕ). IsSome o) (sym (ap (λ (f : Key → Option ℕ). f key) lost.slot_of ∙ at_other_key (index_of index before).keys.slot_of one.0 None key other)) there
+        still false table called named comes other there = subst (λ (d : List ℕ). IsSome ((index_of index d).keys.slot_of key)) (sym comes.0) there
 
     -- the same callers over another index
     still : (r : Result ℕ TableFault) → IsFalse (is_failed r) → Clears tells (Opens p.store.shape) index seats t (IsOfFirst seats.names (length seats.names)) p q r → new ≡ record s { index = index_of index q.store.state.bytes }

@@ -1,5 +1,5 @@
 -- The room of an array for writes, as callers see it.
-use Rattle.std.proofs.Common.{◌≡◌, ◌≢◌, ◌≤◌, ◌<◌, ◌+◌, ◌*◌, ◌⊎◌, ℕ, inl, inr, Bool, true, false, cond, nat_eq, List, [], ◌∷◌, length, filter, ◌-◌, Option, Some, None, unwrap_or, refl, sym, ap, subst, ◌∙◌, arith, eq-eqb, ne_eqb, eqb-true}
+use Rattle.std.proofs.Common.{◌≡◌, ◌≢◌, ◌≤◌, ◌<◌, ◌+◌, ◌*◌, ◌⊎◌, ℕ, inl, inr, Bool, true, false, cond, nat_eq, List, [], ◌∷◌, length, filter, map, ◌-◌, ◌%◌, Option, Some, None, unwrap_or, refl, sym, ap, subst, ◌∙◌, arith, eq-eqb, ne_eqb, eqb-true}
 use Rattle.std.specs.Prelude.{IsSome, is_none, option_map, option_to_list, not}
 use Rattle.std.specs.FinMap.{get}
 use Rattle.std.proofs.lemmas.Bool.{cases_eq, true≢false}
@@ -33,7 +33,8 @@ use Rattle.record_slots.specs.Names.{number_of}
 use Rattle.record_table.specs.Names.{names_of}
 use Rattle.mars_core.specs.TableCall.{number_for}
 use Rattle.caller_steps.proofs.Holding.{is_write_on, AreNamed}
-use Rattle.mars_core.specs.Over.{limits_of, index_of, actions_as}
+use Rattle.mars_core.specs.Over.{limits_of, index_of}
+use Rattle.mars_core.proofs.Named.{by_number}
 use Rattle.mars_core.specs.Kept.{Mirrors, HasHeld}
 use Rattle.mars_core.proofs.Mirroring.{seen_is}
 
@@ -41,7 +42,7 @@ pub same_slot_on : (index : below.Index) (shape : Shape) (depth g : ℕ) (o : Op
 same_slot_on index shape depth g None = refl
 same_slot_on index shape depth g (Some slot) = refl
 
-pub named_is : (index : Index) (pairs : List shown.KeyPair) (writes : List Write) → ((key : Key) → index.slot_of key ≡ shown.found_key pairs key) → shown.AreNamed pairs writes → AreNamed index writes
+pub named_is : (index : Index) (pairs : List (Key × ℕ)) (writes : List Write) → ((key : Key) → index.keys.slot_of key ≡ shown.found_key pairs key) → shown.AreNamed pairs writes → AreNamed index writes
 named_is index pairs [] same named = tt
 named_is index pairs (write ∷ writes) same named = (subst (λ (o : Option ℕ). IsSome o) (sym (same write.0)) named.0, named_is index pairs writes same named.1)
 
@@ -51,15 +52,19 @@ HasEntry limits old caller key slot = log.is_rewritten (log_of (calls_of old cal
 
 -- the slot of a key, or the one that is due if the index lacks the key
 abbrev slot_for : Index → Key → ℕ
-slot_for index key = unwrap_or (index.slot_of key) index.due
+slot_for index key = unwrap_or (index.keys.slot_of key) index.keys.due
 
 -- the caller sees a record of the key
 abbrev IsSeen : State → ℕ → Key → Type 0
 IsSeen old caller key = IsSome (get (view_of old caller).table key)
 
+-- actions as callers count them
+abbrev actions_as : Shape → List below.Action → List Action
+actions_as shape actions = map (λ (action : below.Action). record { takes = action.takes; needs = λ g. length (filter (λ page. nat_eq (page % shape.loggers) g) action.pages) }) actions
+
 -- the actions of an insertion into the index of this table, if there is one
 abbrev actions_at : below.Index → Shape → List ℕ → ℕ → Option ℕ → List Action
-actions_at index shape bytes key o = unwrap_or (option_map (λ table. actions_as shape (table_causes.actions_in index bytes table key)) o) []
+actions_at index shape bytes key o = actions_as shape (unwrap_or (option_map (λ table. table_causes.actions_in index bytes table key) o) [])
 
 -- a test that is left out if so
 unless_fits : {Bad : Type 0} (out : Bool) (Holds : Type 0) (told : Bad) → (out ≡ false → Holds) → unless out (test Holds told) None
@@ -175,21 +180,23 @@ module _ (index : below.Index) (table : ℕ) (p : PagesView) (s : State) (indexe
       -- in terms of the state
       module _ (key : Key) (number : number_of (names_of p.store.state.bytes) key.table ≡ Some table) where
         actions_is : actions_as p.store.shape (table_causes.actions_in index p.store.state.bytes table key.key) ≡ (limits_of index p.store.shape p.store.depth).actions s.index.bytes key
-        actions_is = ap (actions_at index p.store.shape p.store.state.bytes key.key) (sym number) ∙ ap (λ (ix : Index). (limits_of index p.store.shape p.store.depth).actions ix.bytes key) (sym indexed)
+        actions_is = ap (actions_at index p.store.shape p.store.state.bytes key.key) (sym number)
+            ∙ ap (actions_as p.store.shape) (sym (by_number (λ (root : Option ℕ). unwrap_or (option_map (λ r. index.actions p.store.state.bytes r key.key) root) []) [] key.table p.store.state.bytes))
+            ∙ ap (λ (ix : Index). (limits_of index p.store.shape p.store.depth).actions ix.bytes key) (sym indexed)
 
-        left_is : inserts.pages_left p.store.shape p.store.state.bytes ≡ index_pages_of p.store.shape - s.index.used_pages
-        left_is = ap (λ (ix : Index). index_pages_of p.store.shape - ix.used_pages) (sym indexed)
+        left_is : inserts.pages_left p.store.shape p.store.state.bytes ≡ index_pages_of p.store.shape - s.index.keys.used_pages
+        left_is = ap (λ (ix : Index). index_pages_of p.store.shape - ix.keys.used_pages) (sym indexed)
 
         moved : (verdict : Option Reply) → actions_fit (limits_of index p.store.shape p.store.depth) held_below (inserts.pages_left p.store.shape p.store.state.bytes) (actions_as p.store.shape (table_causes.actions_in index p.store.state.bytes table key.key)) verdict
-            → actions_fit (limits_of index p.store.shape p.store.depth) (held_on (limits_of index p.store.shape p.store.depth) s t) (index_pages_of p.store.shape - s.index.used_pages) ((limits_of index p.store.shape p.store.depth).actions s.index.bytes key) verdict
+            → actions_fit (limits_of index p.store.shape p.store.depth) (held_on (limits_of index p.store.shape p.store.depth) s t) (index_pages_of p.store.shape - s.index.keys.used_pages) ((limits_of index p.store.shape p.store.depth).actions s.index.bytes key) verdict
         moved verdict is = subst (λ (x : (ℕ → ℕ) × ℕ × List Action). actions_fit (limits_of index p.store.shape p.store.depth) x.0 x.1 x.2 verdict) (λ i. (holds i, left_is i, actions_is i)) is
 
-        due_is : slot_due p.store.state.bytes ≡ s.index.due
-        due_is = ap (λ (ix : Index). ix.due) (sym indexed)
+        due_is : slot_due p.store.state.bytes ≡ s.index.keys.due
+        due_is = ap (λ (ix : Index). ix.keys.due) (sym indexed)
 
       -- a slot is left
-      slot_left : used_slots p.store.state.bytes < slots_of p.store.shape → s.index.used_slots ≢ slots_of p.store.shape
-      slot_left left all = let same : used_slots p.store.state.bytes ≡ slots_of p.store.shape = ap (λ (ix : Index). ix.used_slots) (sym indexed) ∙ all in omega (arith, left, same)
+      slot_left : used_slots p.store.state.bytes < slots_of p.store.shape → s.index.keys.used_slots ≢ slots_of p.store.shape
+      slot_left left all = let same : used_slots p.store.state.bytes ≡ slots_of p.store.shape = ap (λ (ix : Index). ix.keys.used_slots) (sym indexed) ∙ all in omega (arith, left, same)
 
       fits_entry : (key : Key) (slot : ℕ) → HasEntry (limits_of index p.store.shape p.store.depth) s t key slot → entry_fits (limits_of index p.store.shape p.store.depth) s t key slot None
       fits_entry key slot has = unless_fits (log.is_rewritten (log_of (calls_of s t)) key) _ _ has
@@ -207,8 +214,8 @@ module _ (index : below.Index) (table : ℕ) (p : PagesView) (s : State) (indexe
       )
       put_lacks key number g h n (Some slot) full = slot_full key slot g h n full
 
-      found_is : (key : Key) → shown.found_key (pairs_of index p.store.state.bytes) key ≡ s.index.slot_of key
-      found_is key = sym (ap (λ (ix : Index). ix.slot_of key) indexed)
+      found_is : (key : Key) → shown.found_key (pairs_of index p.store.state.bytes) key ≡ s.index.keys.slot_of key
+      found_is key = sym (ap (λ (ix : Index). ix.keys.slot_of key) indexed)
 
       fits_at : (key : Key) → number_of (names_of p.store.state.bytes) key.table ≡ Some table → (o : Option ℕ) → table_causes.PutFits index table t key p o → write_fits (limits_of index p.store.shape p.store.depth) s t key o None
       fits_at key number None (comes, room) = (
@@ -252,7 +259,7 @@ module _ (index : below.Index) (table : ℕ) (p : PagesView) (s : State) (indexe
       pub slot_lacks : (call : TableCall) (n : ℕ) → table_causes.LacksSlot index p n (OnTable call) → n ≡ slots_of p.store.shape
           → room_for (limits_of index p.store.shape p.store.depth) s t call (Some (reply.SlotsFull n))
       slot_lacks (Put name key value) n lacks most = subst (λ (o : Option ℕ). write_fits (limits_of index p.store.shape p.store.depth) s t (of_table name key) o (Some (reply.SlotsFull n))) (sym lacks.0 ∙ found_is (of_table name key))
-          (inl (λ left. left (ap (λ (ix : Index). ix.used_slots) indexed ∙ lacks.1 ∙ most), ap (λ (k : ℕ). reply.SlotsFull k) most))
+          (inl (λ left. left (ap (λ (ix : Index). ix.keys.used_slots) indexed ∙ lacks.1 ∙ most), ap (λ (k : ℕ). reply.SlotsFull k) most))
       slot_lacks _ n lacks most = absurd lacks
 
       pub page_lacks : (call : TableCall) (n : ℕ) → number_for (names_of p.store.state.bytes) call ≡ Some table → table_causes.LacksPage index table p t (OnTable call) → n ≡ (limits_of index p.store.shape p.store.depth).index_pages - 1
@@ -263,13 +270,13 @@ module _ (index : below.Index) (table : ℕ) (p : PagesView) (s : State) (indexe
       page_lacks _ n number lacks most = absurd lacks
 
 -- a write that finds an entry leaves no logger with more than it has entries for
-module _ (limits : Limits) (ix : Index) (write : Write) (slot : ℕ) (at : ix.slot_of write.0 ≡ Some slot) (l : Log)
+module _ (limits : Limits) (ix : Index) (write : Write) (slot : ℕ) (at : ix.keys.slot_of write.0 ≡ Some slot) (l : Log)
     (has : log.is_rewritten l write.0 ≡ false → length (filter (is_write_on limits ix (limits.logger_of slot)) l.writes) < limits.entries) where
   pub written_room : (g : ℕ) → length (filter (is_write_on limits ix g) l.writes) ≤ limits.entries → length (filter (is_write_on limits ix g) (log.written l write).writes) ≤ limits.entries
   written_room g room = go (log.is_rewritten l write.0) refl
     where
       alike : (one other : Write) → one.0 ≡ other.0 → is_write_on limits ix g one ≡ is_write_on limits ix g other
-      alike one other same = ap (λ (k : Key). is_slot_on limits g (ix.slot_of k)) same
+      alike one other same = ap (λ (k : Key). is_slot_on limits g (ix.keys.slot_of k)) same
 
       on : (b : Bool) → nat_eq (limits.logger_of slot) g ≡ b → length (filter (is_write_on limits ix (limits.logger_of slot)) l.writes) < limits.entries
           → length (filter (is_write_on limits ix g) l.writes) + cond b 1 0 ≤ limits.entries

@@ -47,7 +47,8 @@ use Rattle.caller_steps.proofs.Sound.{acts_sound, history_whole}
 use Rattle.caller_steps.proofs.Offering.{is_in, offerers_once, group_names, group_base, group_doubt, group_dead, group_history, group_apart, without_names, without_base, without_history}
 use Rattle.caller_steps.proofs.Grouped.{group_whole}
 use Rattle.caller_steps.proofs.Leaving.{group_records, calls_in_group, calls_apart}
-use Rattle.mars_core.specs.Over.{limits_of, index_with, OpensWithTables}
+use Rattle.mars_core.specs.Over.{limits_of, index_of, OpensWithTables}
+use Rattle.mars_core.proofs.Named.{index_same}
 use Rattle.mars_core.specs.Held.{core_over}
 use Rattle.mars_core.proofs.Keeping.{dead_keeps, still_keeps}
 use Rattle.mars_core.proofs.Saving.{saves_in, saves_same}
@@ -151,12 +152,12 @@ module _ (tells : Bool) (Opens : Shape → List ℕ → List ℕ → Type 0) (in
       was = kept.tied told alive
 
       keys_same : new.index ≡ record s.index { bytes = new.index.bytes }
-      keys_same = shows_new.indexed ∙ (λ i. index_with (names_in (does.tables told refl i)) q.store.state.bytes (does.indexed told refl i)) ∙ sym (λ i. record (shows.indexed i) { bytes = (shows_new.indexed i).bytes })
+      keys_same = shows_new.indexed ∙ index_same index p.store.state.bytes q.store.state.bytes (does.tables told refl) (does.indexed told refl) ∙ sym (λ i. record (shows.indexed i) { bytes = (shows_new.indexed i).bytes })
 
       settles : Settles (group_writes s os) s.index new.index
       settles = record {
         keys = keys_same;
-        none = λ none. shows_new.indexed ∙ (λ i. index_with (names_in (does.tables told refl i)) (does.quiet told refl (same_writes (state_of index p) s was.mirrors.logs os ∙ none) i) (does.indexed told refl i)) ∙ sym shows.indexed;
+        none = λ none. shows_new.indexed ∙ ap (index_of index) (does.quiet told refl (same_writes (state_of index p) s was.mirrors.logs os ∙ none)) ∙ sym shows.indexed;
       }
 
       step : Acts (limits_of index p.store.shape p.store.depth) s t (call.Control control.Settle) (Committed (number_among (length s.history + 1) os t)) new

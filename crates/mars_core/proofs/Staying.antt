@@ -204,7 +204,7 @@ module _ (tells : Bool) (Opens : Shape → List ℕ → List ℕ → Type 0) (in
           mirrors = mirrors_at (state_of index p) s was.mirrors (state_of index p) new t (Some []) live_is (was.mirrors.table ∙ sym (ap records_of begins))
               (was.mirrors.logs t ∙ ap (λ (cs : Granted). log_of cs) at) (λ u ne. refl);
           sound = acts_sound (limits_of index p.store.shape p.store.depth) s t Begin Fine new was.sound step;
-          room = room_empty (limits_of index p.store.shape p.store.depth) s new t (Some []) refl was.room (ap (λ (x : State). x.index.slot_of) begins) live_is;
+          room = room_empty (limits_of index p.store.shape p.store.depth) s new t (Some []) refl was.room (ap (λ (x : State). x.index.keys.slot_of) begins) live_is;
         }
 
     safe_new : IsSafe (core_over Opens index p.store new) p.store.moment (length new.history)

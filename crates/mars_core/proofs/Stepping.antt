@@ -220,7 +220,7 @@ module _ (index : below.Index) (table : ℕ) (p : PagesView) (s : State) (shows 
   pub enters_at : (call : TableCall) (answer : Reply) (ix : Index) → table_causes.Fits index table p t (OnTable call) → Replies (state_of index p) t (OnTable call) answer
       → Indexes (limits_of index p.store.shape p.store.depth) call answer s.index ix → Enters (limits_of index p.store.shape p.store.depth) s t ix call answer
   enters_at (Put name key value) answer ix fits replies indexes =
-      let after = slot_after (limits_of index p.store.shape p.store.depth) (of_table name key) (s.index.slot_of (of_table name key)) s.index ix refl (subst (λ (r : Reply). IndexesAt (limits_of index p.store.shape p.store.depth) (of_table name key) (s.index.slot_of (of_table name key)) r s.index ix) replies indexes) in
+      let after = slot_after (limits_of index p.store.shape p.store.depth) (of_table name key) (s.index.keys.slot_of (of_table name key)) s.index ix refl (subst (λ (r : Reply). IndexesAt (limits_of index p.store.shape p.store.depth) (of_table name key) (s.index.keys.slot_of (of_table name key)) r s.index ix) replies indexes) in
       (after.0, after.1, subst (λ (slot : ℕ). HasEntry (limits_of index p.store.shape p.store.depth) s t (of_table name key) slot) (sym after.2) (entry_is index table p s shows.indexed mirrors held t right (Put name key value) fits))
   enters_at (Del name key) answer ix fits replies indexes = subst (Enters (limits_of index p.store.shape p.store.depth) s t ix (Del name key)) (sym replies) (go (get (seen_by (state_of index p) t) (of_table name key)) refl)
     where
@@ -228,5 +228,5 @@ module _ (index : below.Index) (table : ℕ) (p : PagesView) (s : State) (shows 
       go None none = tt
       go (Some value) some =
           let at = fits (ap is_some some) in
-          (at.0, ap (λ (x : Index). x.slot_of (of_table name key)) (indexes ∙ shows.indexed) ∙ at.1, has_entry index table p s shows.indexed mirrors held t (of_table name key) at.0 at.2)
+          (at.0, ap (λ (x : Index). x.keys.slot_of (of_table name key)) (indexes ∙ shows.indexed) ∙ at.1, has_entry index table p s shows.indexed mirrors held t (of_table name key) at.0 at.2)
   enters_at _ answer ix fits replies indexes = tt

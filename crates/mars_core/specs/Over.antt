@@ -1,21 +1,16 @@
 -- A core over a store: what it shows of it, and how it begins.
-use Rattle.std.specs.Prelude.{ℕ, ◌≡◌, Bool, false, IsTrue, List, [], map, filter, length, None, is_none, unwrap_or, option_map}
+use Rattle.std.specs.Prelude.{ℕ, ◌≡◌, ◌-◌, ◌%◌, Bool, false, IsTrue, nat_eq, List, [], map, filter, length, None, is_none, unwrap_or, option_map}
 use Rattle.array_shape.specs.declared.shape.Shape.{Shape}
 use Rattle.eaw_face.specs.State.{listed}
 use Rattle.eaw_face.specs.StoreView.{StoreView, LeavesOnly}
 use Rattle.eaw_face.specs.Causes.{IsAlive}
 use Rattle.page_store.specs.Index.{Index, slots_of, index_pages_of}
 use Rattle.page_store.specs.Index as below
-use Rattle.page_store.specs.Fits.{is_page_on}
-use Rattle.record_table.specs.Causes.{actions_in}
-use Rattle.record_slots.specs.Places.{version_of}
+use Rattle.record_slots.specs.Places.{version_of, next_slot, next_page, free_slots, free_pages, slot_due}
 use Rattle.history.specs.declared.key.Key.{Key}
 use Rattle.history.specs.Writes.{Table, all_written}
-use Rattle.record_slots.specs.Names.{number_of}
-use Rattle.record_table.specs.Names.{names_of}
-use Rattle.record_table.specs.Removing.{removal_in}
-use Rattle.record_table.specs.State.{Keys}
-use Rattle.record_table.specs.Shown.{table_of, keys_of, logger_of_slot, writes_of}
+use Rattle.record_table.specs.Names.{names_of, root_named}
+use Rattle.record_table.specs.Shown.{pairs_of, found_key, table_of, keys_of, logger_of_slot, writes_of}
 use Rattle.record_table.specs.Upgrading.{upgraded, OpensUpgraded}
 use Rattle.caller_steps.specs.State as face
 use Rattle.caller_steps.specs.Room as room
@@ -26,31 +21,28 @@ use Rattle.eaw_face.specs.Mirroring.{Mirrors}
 
 -- the index of the table of a key keeps the pair of the key, as the last of its page; none does if this data has no such table
 abbrev pub keeps_in : Index → List ℕ → Key → Bool
-keeps_in index bytes key = unwrap_or (option_map (λ table. is_none (removal_in index table bytes key.key)) (number_of (names_of bytes) key.table)) false
+keeps_in index bytes key = unwrap_or (option_map (λ root. is_none (index.removal bytes root key.key)) (root_named bytes key.table)) false
 
--- the actions of an insertion, as callers count them: a part in each of its pages, which are dealt to the loggers by turns
-abbrev pub actions_as : Shape → List below.Action → List room.Action
-actions_as shape actions = map (λ (action : below.Action). record { takes = action.takes; needs = λ g. length (filter (is_page_on shape.loggers g) action.pages) }) actions
-
--- those of a key of a table of this data
+-- The actions of the insertion of a key into the index of its table, as callers count them: a part in each of its pages, which are dealt to the loggers by
+-- turns. None if this data has no such table.
 abbrev pub actions_for : Index → Shape → List ℕ → Key → List room.Action
-actions_for index shape bytes key = unwrap_or (option_map (λ table. actions_as shape (actions_in index bytes table key.key)) (number_of (names_of bytes) key.table)) []
+actions_for index shape bytes key =
+    map (λ (action : below.Action). record { takes = action.takes; needs = λ g. length (filter (λ page. nat_eq (page % shape.loggers) g) action.pages) })
+    (unwrap_or (option_map (λ root. index.actions bytes root key.key) (root_named bytes key.table)) [])
 
--- the indexes of all tables of these names; a name of no table has no levels of inner pages
-abbrev pub index_with : List (List ℕ) → List ℕ → Keys → face.Index
-index_with names bytes keys = record {
-  slot_of = keys.slot_of;
-  due = keys.due;
-  used_slots = keys.used_slots;
-  used_pages = keys.used_pages;
-  next_page = keys.next_page;
-  levels = λ name. unwrap_or (option_map keys.levels (number_of names name)) 0;
+-- the indexes of all tables in the data, and the data, as callers see them; a name of no table has no levels of inner pages
+abbrev pub index_of : Index → List ℕ → face.Index
+index_of index bytes = record {
+  keys = record {
+    slot_of = found_key (pairs_of index bytes);
+    due = slot_due bytes;
+    used_slots = next_slot bytes - free_slots bytes;
+    used_pages = next_page bytes - free_pages bytes;
+    next_page = next_page bytes;
+    levels = λ name. unwrap_or (option_map (index.level bytes) (root_named bytes name)) 0;
+  };
   bytes = bytes;
 }
-
--- the indexes of all tables in the data, and the data, as callers see them
-abbrev pub index_of : Index → List ℕ → face.Index
-index_of index bytes = index_with (names_of bytes) bytes (keys_of index bytes)
 
 -- the limits of an array of this shape, where so many commits may wait for their write-back, under an index
 abbrev pub limits_of : Index → Shape → ℕ → Limits

@@ -72,7 +72,7 @@ pub record Cleared (index : Index) (seats : Seats) (Passed : Key → Type 0) (n 
   pub count : n ≡ length keys
   pub free : AreFreeIn index seats old keys
   pub lost : Lost (index_of index old) keys (index_of index new)
-  pub kept : (key : Key) → IsSome ((index_of index new).slot_of key) → Keeps index old key → Keeps index new key
+  pub kept : (key : Key) → IsSome ((index_of index new).keys.slot_of key) → Keeps index old key → Keeps index new key
   pub left : (key : Key) → Passed key → IsAbsent index new key → IsTouchedIn seats key ⊎ Keeps index new key
   pub tried : List Try
   pub keys_are : keys ≡ lost_among tried

@@ -93,7 +93,7 @@ pub record Given (old : Seats) (caller : ℕ) (calls : Option Granted) (offer : 
 
 -- a state with these live transactions and nothing else
 abbrev pub bare : Seats → State
-bare seats = record { names = seats.names; base = empty; history = []; live = live_in seats; offers = offers_in seats; doubt = []; is_dead = false; index = record { slot_of = λ key. None; due = 0; used_slots = 0; used_pages = 0; next_page = 0; levels = λ name. 0; bytes = [] } }
+bare seats = record { names = seats.names; base = empty; history = []; live = live_in seats; offers = offers_in seats; doubt = []; is_dead = false; index = record { keys = record { slot_of = λ key. None; due = 0; used_slots = 0; used_pages = 0; next_page = 0; levels = λ name. 0 }; bytes = [] } }
 
 -- the callers that have offered a transaction which no group has committed, rising
 abbrev pub offered_in : Seats → List ℕ

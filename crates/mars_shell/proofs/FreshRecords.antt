@@ -11,12 +11,13 @@ use Rattle.record_slots.specs.Fresh.{fresh_page}
 use Rattle.record_slots.proofs.MainAlone.{says_main}
 use Rattle.page_store.specs.Pairs.{Pair}
 use Rattle.history.specs.Key.{main_name}
+use Rattle.history.specs.declared.key.Key.{Key}
 use Rattle.record_slots.specs.Names.{names_in}
 use Rattle.record_table.specs.Names.{names_of}
 use Rattle.record_slots.specs.Places.{page_bytes, next_page, tables_of, IsSuper}
 use Rattle.record_slots.specs.Super.{SaysSuper, HasTables, main_super, main_table, tables_in, tables_said}
 use Rattle.record_slots.specs.declared.super_page.TableEntry.{TableEntry}
-use Rattle.record_table.specs.Shown.{KeyPair, in_table, pairs_from, pairs_of, table_of, table_in}
+use Rattle.record_table.specs.Shown.{in_table, pairs_from, pairs_of, table_of, table_in}
 use Rattle.index_pages.specs.Page.{kind_said, level_said, count_said, link_said}
 use Rattle.record_table.proofs.Upgraded.{main_used, has_main}
 use Rattle.btree_pages.specs.Index.{tree}
@@ -74,4 +75,4 @@ module _ (shape : Shape) (bytes : List ℕ) (pages : HasPages shape fresh_page (
   fresh_none =
       let here = has_page 1 (omega arith) in
       let fresh = fresh_trees (data_of shape bytes) front alone free (ap kind_said here ∙ root_fresh.0) (ap level_said here ∙ root_fresh.1) (ap link_said here ∙ root_fresh.2) (ap count_said here ∙ root_fresh.3) in
-      (fresh.0, ap (λ (pairs : List KeyPair). table_in (data_of shape bytes) pairs) (no_pairs fresh.1))
+      (fresh.0, ap (λ (pairs : List (Key × ℕ)). table_in (data_of shape bytes) pairs) (no_pairs fresh.1))

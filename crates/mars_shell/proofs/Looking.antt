@@ -23,7 +23,7 @@ use Rattle.page_store.specs.Index.{HasCounts}
 use Rattle.page_store.specs.Pairs.{Pair, Rise}
 use Rattle.page_store.specs.Records as pages
 use Rattle.record_table.specs.Names.{names_of, IsCalled}
-use Rattle.record_table.specs.Shown.{KeyPair, pairs_of, table_in, table_of}
+use Rattle.record_table.specs.Shown.{pairs_of, table_in, table_of}
 use Rattle.record_table.proofs.RowsOf.{rows_are}
 use Rattle.record_table.proofs.Sharing.{Laws, found_in}
 use Rattle.record_table.proofs.Tables.{record_at}

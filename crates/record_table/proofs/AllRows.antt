@@ -22,7 +22,7 @@ use Rattle.page_store.specs.Index.{Index, HasCounts, IsTable}
 use Rattle.page_store.specs.Records.{rows_of, records_of}
 use Rattle.history.specs.Rows.{NamedRows}
 use Rattle.record_table.specs.Names.{names_of}
-use Rattle.record_table.specs.Shown.{KeyPair, found_key, in_table, pairs_from, pairs_of, table_in, table_of}
+use Rattle.record_table.specs.Shown.{found_key, in_table, pairs_from, pairs_of, table_in, table_of}
 use Rattle.record_table.proofs.Joint.{found_named}
 use Rattle.record_table.proofs.RowsOf.{sorted, find_rows}
 use Rattle.record_table.proofs.Sharing.{Laws}
@@ -35,7 +35,7 @@ abbrev first_of : Option ℕ → Option ℕ → Option ℕ
 first_of None other = other
 first_of (Some slot) other = Some slot
 
-found_behind : (one other : List KeyPair) (q : Key) → found_key (one ++ other) q ≡ first_of (found_key one q) (found_key other q)
+found_behind : (one other : List (Key × ℕ)) (q : Key) → found_key (one ++ other) q ≡ first_of (found_key one q) (found_key other q)
 found_behind [] other q = refl
 found_behind (pair ∷ one) other q = ap (λ (o : Option ℕ). if is_same_key pair.0 q then Some pair.1 else o) (found_behind one other q) ∙ go (is_same_key pair.0 q)
   where

@@ -8,6 +8,7 @@ use Rattle.record_slots.specs.Slots.{slot_said}
 use Rattle.record_slots.specs.Places.{slot_of}
 use Rattle.record_slots.specs.declared.slot.Slot.{Slot}
 use Rattle.history.specs.Key.{of_table}
+use Rattle.history.specs.declared.key.Key.{Key}
 use Rattle.history.specs.Writes.{Table, is_within, rows_within}
 use Rattle.page_store.specs.Index.{Index, IsTable}
 use Rattle.page_store.specs.Pairs.{Pair, Rise, found, next}
@@ -17,7 +18,7 @@ use Rattle.record_table.specs.Causes.{slot_in}
 use Rattle.record_table.specs.Invariant.{IsTied}
 use Rattle.record_table.specs.Scanned.{rows_seen}
 use Rattle.record_table.specs.Names.{IsCalled}
-use Rattle.record_table.specs.Shown.{KeyPair, table_in, table_of, pairs_of}
+use Rattle.record_table.specs.Shown.{table_in, table_of, pairs_of}
 use Rattle.record_table.proofs.RowsOf.{rows_are, none_from, none_past, none_between, first_from}
 use Rattle.record_table.proofs.Sharing.{Laws, found_in}
 use Rattle.record_table.proofs.Tables.{record_at}
@@ -32,7 +33,7 @@ module _ (index : Index) (laws : Laws index) (t : ℕ) (old : PagesView) (tied :
   seen_are low high =
       let w = applied_parts index laws (listed (old.store.state.logs t)) old.store.state.bytes tied.sound (tied.parts t) in
       ap (λ (m : Table). rows_within name low high m) (sym w.table)
-      ∙ ap (λ (l : List KeyPair). rows_within name low high (table_in (applied (listed (old.store.state.logs t)) old.store.state.bytes) l)) w.pairs
+      ∙ ap (λ (l : List (Key × ℕ)). rows_within name low high (table_in (applied (listed (old.store.state.logs t)) old.store.state.bytes) l)) w.pairs
       ∙ ap (filter (is_within low high)) (rows_are (applied (listed (old.store.state.logs t)) old.store.state.bytes) name (pairs_of index old.store.state.bytes) 0 (2 ^ 64) (index.pairs old.store.state.bytes root) rising
       (λ k. found_in index laws old.store.state.bytes table root k name tied.sound called named))
 

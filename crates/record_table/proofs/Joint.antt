@@ -11,7 +11,7 @@ use Rattle.history.specs.Key.{of_table, is_same_key, is_of_table}
 use Rattle.history.proofs.Keys.{name_decides}
 use Rattle.page_store.specs.Index.{Index, HasCounts}
 use Rattle.page_store.specs.Pairs.{Pair, Rise, found, inserted}
-use Rattle.record_table.specs.Shown.{KeyPair, found_key, in_table, pairs_from}
+use Rattle.record_table.specs.Shown.{found_key, in_table, pairs_from}
 
 -- the root of a table among these
 abbrev pub root_in : List TableEntry → ℕ → Option ℕ
@@ -85,7 +85,7 @@ or_none : (o : Option ℕ) → or_else o None ≡ o
 or_none None = refl
 or_none (Some x) = refl
 
-found_append : (ps qs : List KeyPair) (q : Key) → found_key (ps ++ qs) q ≡ or_else (found_key ps q) (found_key qs q)
+found_append : (ps qs : List (Key × ℕ)) (q : Key) → found_key (ps ++ qs) q ≡ or_else (found_key ps q) (found_key qs q)
 found_append [] qs q = refl
 found_append (p ∷ ps) qs q = go (is_same_key p.0 q) (found_append ps qs q)
   where

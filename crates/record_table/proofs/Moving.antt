@@ -24,7 +24,7 @@ use Rattle.page_store.specs.declared.index_fault.IndexFault.{IndexFault}
 use Rattle.page_store.specs.declared.index_fault.IndexFault.TheVariants as fault
 use Rattle.record_table.specs.Does.{OpensWith, OpensAs}
 use Rattle.record_table.specs.Invariant.{AreSlotParts, IsTied, Rests}
-use Rattle.record_table.specs.Shown.{KeyPair, found_key, table_in, table_of, write_of, writes_of, state_of, pairs_of}
+use Rattle.record_table.specs.Shown.{found_key, table_in, table_of, write_of, writes_of, state_of, pairs_of}
 use Rattle.record_table.specs.Names.{IsCalled}
 use Rattle.record_table.specs.Sought.{LooksAs}
 use Rattle.record_table.specs.State.{TableState}
@@ -209,8 +209,8 @@ module _ (index : Index) (laws : Laws index) (table root key : ℕ) (name : List
   resting rests =
       let pairs = pairs_kept index laws d e table root sound named grows rests in (
         same_table (table_in e (pairs_of index e)) (table_in d (pairs_of index d)) (λ q.
-            get-table_in e (pairs_of index e) q ∙ ap (λ (l : List KeyPair). record_at e (found_key l q)) pairs ∙ record_kept (resting_slot rests) (found_key (pairs_of index d) q) q refl ∙ sym (get-table_in d (pairs_of index d) q)),
-        part_kept (λ q slot is. ap (λ (l : List KeyPair). found_key l q) pairs ∙ is),
+            get-table_in e (pairs_of index e) q ∙ ap (λ (l : List (Key × ℕ)). record_at e (found_key l q)) pairs ∙ record_kept (resting_slot rests) (found_key (pairs_of index d) q) q refl ∙ sym (get-table_in d (pairs_of index d) q)),
+        part_kept (λ q slot is. ap (λ (l : List (Key × ℕ)). found_key l q) pairs ∙ is),
       )
 
   other_than : (q : Key) (slot : ℕ) → found_key (pairs_of index d) q ≡ Some slot → of_table name key ≢ q

@@ -10,11 +10,12 @@ use Rattle.std.specs.FinMap.Entries.{below_all}
 use lib.Dec.{T}
 use Rattle.std.proofs.lemmas.Bool.{cases_eq, cases_Bool, eq-eqb, ne_eqb}
 use Rattle.history.specs.Key.{of_table}
+use Rattle.history.specs.declared.key.Key.{Key}
 use Rattle.history.specs.Writes.{is_within, rows_of as rows_in_table}
 use Rattle.history.proofs.Keyed.{rows_of-found}
 use Rattle.page_store.specs.Pairs.{Pair, Rise, found, next}
 use Rattle.page_store.specs.Records.{row_at, rows_of}
-use Rattle.record_table.specs.Shown.{KeyPair, found_key, table_in}
+use Rattle.record_table.specs.Shown.{found_key, table_in}
 use Rattle.record_table.proofs.Tables.{record_at, get-table_in}
 
 tied : (q k : ℕ) → eq_by_cmp nat_cmp q k ≡ nat_eq k q
@@ -95,7 +96,7 @@ module _ (d : List ℕ) where
       here (Some v) none = refl
 
   -- the rows of a table of which these are the pairs
-  pub rows_are : (name : List ℕ) (pairs : List KeyPair) (low high : ℕ) (ps : List Pair) → Rise low high ps → ((k : ℕ) → found_key pairs (of_table name k) ≡ found ps k) → rows_in_table name (table_in d pairs) ≡ rows_of d ps
+  pub rows_are : (name : List ℕ) (pairs : List (Key × ℕ)) (low high : ℕ) (ps : List Pair) → Rise low high ps → ((k : ℕ) → found_key pairs (of_table name k) ≡ found ps k) → rows_in_table name (table_in d pairs) ≡ rows_of d ps
   rows_are name pairs low high ps rise has = rows_of-found name (table_in d pairs) (rows_of d ps) (sorted low high ps rise)
       (λ k. get-table_in d pairs (of_table name k) ∙ ap (record_at d) (has k) ∙ sym (find_rows low high k ps rise))
 

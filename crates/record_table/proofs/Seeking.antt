@@ -22,7 +22,7 @@ use Rattle.page_store.specs.State.{view_of}
 use Rattle.record_table.specs.Attached.{Attached}
 use Rattle.record_table.specs.Causes.{slot_in}
 use Rattle.record_table.specs.Invariant.{AreSlotParts, IsTied, Holds}
-use Rattle.record_table.specs.Shown.{KeyPair, found_key, table_of, writes_of, state_of}
+use Rattle.record_table.specs.Shown.{found_key, table_of, writes_of, state_of}
 use Rattle.record_table.specs.Sought.{Finds, value_at}
 use Rattle.record_table.specs.State.{seen_by}
 use Rattle.record_table.specs.declared.slots.Place.{Place}
@@ -61,7 +61,7 @@ module _ (index : Index) (laws : Laws index) (t : ℕ) (key : Key) (old : PagesV
     unfolding Carries
     some_slot read =
         let w = applied_parts index laws (listed (old.store.state.logs t)) old.store.state.bytes tied.sound (tied.parts t) in
-        let p = placed index laws (applied (listed (old.store.state.logs t)) old.store.state.bytes) w.sound key slot (ap (λ (l : List KeyPair). found_key l key) w.pairs ∙ is) in
+        let p = placed index laws (applied (listed (old.store.state.logs t)) old.store.state.bytes) w.sound key slot (ap (λ (l : List (Key × ℕ)). found_key l key) w.pairs ∙ is) in
         no_slot p.table key.key (slot_said (slot_of (applied (listed (old.store.state.logs t)) old.store.state.bytes) slot)) (sym (read ∙ read_is)) p.carries
 
 -- the value of what was found

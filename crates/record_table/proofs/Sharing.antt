@@ -19,7 +19,7 @@ use Rattle.page_store.specs.Pairs.{Pair, Rise, found}
 use Rattle.page_store.specs.Index.{Index, IsTable, HasCounts, KeepsIndex, Grows, Rests, Gains, IsEmptyRoot, Extends}
 use Rattle.index_keys.specs.Keys.{GainsKey, KeepsKeys, TakesPages}
 use Rattle.record_table.specs.Names.{IsCalled, names_of, name_at, key_in}
-use Rattle.record_table.specs.Shown.{KeyPair, found_key, write_said, pairs_from, pairs_of, keys_of}
+use Rattle.record_table.specs.Shown.{found_key, write_said, pairs_from, pairs_of, keys_of}
 use Rattle.record_table.proofs.Joint.{root_in, pairs_same, tables_apart, found_some, found_from, found_inserted}
 
 -- what an index guarantees about its data

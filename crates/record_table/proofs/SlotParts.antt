@@ -27,7 +27,7 @@ use Rattle.page_store.proofs.Reading.{part_missed}
 use Rattle.page_store.specs.Records.{value_of}
 use Rattle.page_store.specs.Shown.{saved_of}
 use Rattle.history.specs.Log.{Log}
-use Rattle.record_table.specs.Shown.{KeyPair, found_key, table_in, table_of, write_said, write_of, writes_of, pairs_of, keys_of}
+use Rattle.record_table.specs.Shown.{found_key, table_in, table_of, write_said, write_of, writes_of, pairs_of, keys_of}
 use Rattle.record_table.specs.Invariant.{IsSlotPart, AreSlotParts}
 use Rattle.record_table.specs.Names.{IsCalled}
 use Rattle.history.proofs.Agreeing.{get-set_here, get-set_there, same_table}
@@ -202,7 +202,7 @@ module _ (index : Index) (laws : Laws index) where
     unfolding table_of
     part_table = same_table (table_in (put d part.0 part.1) (pairs_of index (put d part.0 part.1))) (write_into (table_in d (pairs_of index d)) (write_of d part)) (λ q.
         get-table_in (put d part.0 part.1) (pairs_of index (put d part.0 part.1)) q
-        ∙ ap (λ (l : List KeyPair). record_at (put d part.0 part.1) (found_key l q)) part_sound.1
+        ∙ ap (λ (l : List (Key × ℕ)). record_at (put d part.0 part.1) (found_key l q)) part_sound.1
         ∙ elim (cases_key q (write_of d part).0) [
           | inl same ↦
               ap (λ (k : Key). record_at (put d part.0 part.1) (found_key (pairs_of index d) k)) same
@@ -251,4 +251,4 @@ module _ (index : Index) (laws : Laws index) where
   unfolding table_of
   seen_at log d sound parts q =
       let w = applied_parts log d sound parts in
-      sym (ap (λ (t : Table). get t q) w.table) ∙ get-table_in (applied log d) (pairs_of index (applied log d)) q ∙ ap (λ (l : List KeyPair). record_at (applied log d) (found_key l q)) w.pairs
+      sym (ap (λ (t : Table). get t q) w.table) ∙ get-table_in (applied log d) (pairs_of index (applied log d)) q ∙ ap (λ (l : List (Key × ℕ)). record_at (applied log d) (found_key l q)) w.pairs

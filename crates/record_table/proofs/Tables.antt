@@ -10,14 +10,14 @@ use Rattle.history.specs.declared.key.Key.{Key}
 use Rattle.history.specs.Key.{key_cmp, is_same_key}
 use Rattle.history.proofs.Agreeing.{get-set}
 use Rattle.page_store.specs.Records.{value_of}
-use Rattle.record_table.specs.Shown.{KeyPair, found_key, write_said, table_in}
+use Rattle.record_table.specs.Shown.{found_key, write_said, table_in}
 
 -- the record in a slot, if there is a slot
 abbrev pub record_at : List ℕ → Option ℕ → Option (List ℕ)
 record_at bytes None = None
 record_at bytes (Some slot) = value_of (slot_said (slot_of bytes slot))
 
-pub get-table_in : (bytes : List ℕ) (pairs : List KeyPair) (q : Key) → get (table_in bytes pairs) q ≡ record_at bytes (found_key pairs q)
+pub get-table_in : (bytes : List ℕ) (pairs : List (Key × ℕ)) (q : Key) → get (table_in bytes pairs) q ≡ record_at bytes (found_key pairs q)
 get-table_in bytes [] q = get-empty key_cmp q
 get-table_in bytes (p ∷ ps) q = get-set (table_in bytes ps) p.0 (value_of (slot_said (slot_of bytes p.1))) q ∙ go (is_same_key p.0 q) (get-table_in bytes ps q)
   where

@@ -16,7 +16,8 @@ use Rattle.page_store.specs.Index.{Index, IsTable, HasCounts, Extends}
 use Rattle.page_store.proofs.Reading.{part_missed}
 use Rattle.history.specs.Writes.{write_into}
 use Rattle.page_store.specs.Records.{value_of}
-use Rattle.record_table.specs.Shown.{KeyPair, found_key, table_in, table_of, pairs_of, keys_of}
+use Rattle.history.specs.declared.key.Key.{Key}
+use Rattle.record_table.specs.Shown.{found_key, table_in, table_of, pairs_of, keys_of}
 use Rattle.record_table.specs.Upgrading.{upgraded}
 use Rattle.record_table.proofs.Sharing.{Laws, pairs_rest, level_same}
 
@@ -52,7 +53,7 @@ abbrev pub main_of : List ℕ → List ℕ
 main_of d = main_bytes (form_said (page_bytes d 0)) (next_slot d) (next_page d)
 
 -- records whose slots are as they were
-pub same_slots : (d e : List ℕ) → ((slot : ℕ) → slot_of e slot ≡ slot_of d slot) → (ps : List KeyPair) → table_in e ps ≡ table_in d ps
+pub same_slots : (d e : List ℕ) → ((slot : ℕ) → slot_of e slot ≡ slot_of d slot) → (ps : List (Key × ℕ)) → table_in e ps ≡ table_in d ps
 same_slots d e same [] = refl
 same_slots d e same (p ∷ ps) = λ i. write_into (same_slots d e same ps i) (p.0, value_of (slot_said (same p.1 i)))
 

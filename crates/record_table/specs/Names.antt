@@ -1,17 +1,23 @@
 -- The names of the tables in the data.
-use Rattle.std.specs.Prelude.{ℕ, ◌≡◌, ◌≢◌, ◌<◌, Bool, IsTrue, List, [], codes, length, Some, get_or, slice_get}
-use Rattle.std.specs.Option.{unwrap_or}
+use Rattle.std.specs.Prelude.{ℕ, ◌≡◌, ◌≢◌, ◌<◌, Bool, IsTrue, nat_eq, List, [], codes, length, map, Option, Some, get_or, slice_get}
+use Rattle.std.specs.List.{find}
+use Rattle.std.specs.Option.{option_map, unwrap_or}
+use lib.Pointwise.{pointwise}
 use Rattle.array_shape.specs.Places.{page_count}
 use Rattle.eaw_face.specs.Causes.{IsAlive}
 use Rattle.history.specs.declared.key.Key.{Key}
-use Rattle.record_slots.specs.Names.{names_in}
+use Rattle.record_slots.specs.declared.super_page.TableEntry.{TableEntry}
 use Rattle.record_slots.specs.Places.{tables_of}
 use Rattle.page_store.specs.Index.{IsTable}
 use Rattle.page_store.specs.Shown.{PagesView}
 
 -- the names by the numbers of their tables
 abbrev pub names_of : List ℕ → List (List ℕ)
-names_of bytes = names_in (tables_of bytes)
+names_of bytes = map (λ table. table.name) (tables_of bytes)
+
+-- the root of the index of the table of this name, if there is one
+abbrev pub root_named : List ℕ → List ℕ → Option ℕ
+root_named bytes name = option_map (λ table. table.root) (find (λ (table : TableEntry). pointwise nat_eq table.name name) (tables_of bytes))
 
 -- the table of this number has this name
 abbrev pub IsCalled : List ℕ → ℕ → List ℕ → Type 0

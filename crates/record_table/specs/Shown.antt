@@ -1,6 +1,7 @@
 -- What pages show in terms of records.
-use Rattle.std.specs.Prelude.{Bool, false, ℕ, ◌+◌, ◌*◌, nat_eq, if◌then◌else◌, List, [], ◌∷◌, ◌++◌, map, Option, Some, None, IsSome}
+use Rattle.std.specs.Prelude.{Bool, false, ℕ, ◌+◌, ◌*◌, nat_eq, if◌then◌else◌, List, [], ◌∷◌, map, Option, Some, None, IsSome}
 use Rattle.std.specs.FinMap.{empty}
+use Rattle.std.specs.List.{flat_map}
 use Rattle.std.specs.Option.{option_map, unwrap_or}
 use Rattle.array_shape.specs.declared.shape.Shape.{Shape}
 use Rattle.array_shape.specs.Places.{logger_of}
@@ -12,7 +13,7 @@ use Rattle.record_slots.specs.declared.super_page.TableEntry.{TableEntry}
 use Rattle.record_slots.specs.declared.slot.Slot.{Slot}
 use Rattle.record_slots.specs.declared.slot.Slot.TheVariants.{Absent, Present}
 use Rattle.history.specs.declared.key.Key.{Key}
-use Rattle.history.specs.Key.{is_same_key, of_main}
+use Rattle.history.specs.Key.{is_same_key, of_main, of_table}
 use Rattle.history.specs.Writes.{Table, Write, write_into}
 use Rattle.page_store.specs.Pairs.{Pair}
 use Rattle.page_store.specs.Index.{Index, slots_of}
@@ -29,30 +30,24 @@ write_said bytes None = (of_main 0, None)
 write_said bytes (Some (Absent table key)) = (key_in bytes table key, None)
 write_said bytes (Some (Present table key value)) = (key_in bytes table key, Some value)
 
--- the key of a record, and its slot
-abbrev pub KeyPair : Type 0
-KeyPair = Key × ℕ
-
--- the slot of a key, if it is there
-abbrev pub found_key : List KeyPair → Key → Option ℕ
+-- the slot of a key among keys with their slots, if it is there
+abbrev pub found_key : List (Key × ℕ) → Key → Option ℕ
 found_key [] key = None
 found_key (pair ∷ pairs) key = if is_same_key pair.0 key then Some pair.1 else found_key pairs key
 
--- a pair of the table of this name
-abbrev pub in_table : List ℕ → Pair → KeyPair
-in_table name pair = (record { table = name; key = pair.0 }, pair.1)
+-- the keys of all tables, each with its slot
+unfoldable pub pairs_of : Index → List ℕ → List (Key × ℕ)
+pairs_of index bytes = flat_map (λ (table : TableEntry). map (λ (pair : Pair). (of_table table.name pair.0, pair.1)) (index.pairs bytes table.root)) (tables_of bytes)
 
--- the pairs of these tables
-abbrev pub pairs_from : Index → List ℕ → List TableEntry → List KeyPair
-pairs_from index bytes [] = []
-pairs_from index bytes (entry ∷ entries) = map (in_table entry.name) (index.pairs bytes entry.root) ++ pairs_from index bytes entries
+-- the same of a pair of the table of this name, and of these tables
+abbrev pub in_table : List ℕ → Pair → Key × ℕ
+in_table name pair = (of_table name pair.0, pair.1)
 
--- the pairs of all tables
-unfoldable pub pairs_of : Index → List ℕ → List KeyPair
-pairs_of index bytes = pairs_from index bytes (tables_of bytes)
+abbrev pub pairs_from : Index → List ℕ → List TableEntry → List (Key × ℕ)
+pairs_from index bytes tables = flat_map (λ (table : TableEntry). map (in_table table.name) (index.pairs bytes table.root)) tables
 
--- the records of pairs: each key with the value in its slot
-abbrev pub table_in : List ℕ → List KeyPair → Table
+-- the records of keys with their slots: each with the value in its slot
+abbrev pub table_in : List ℕ → List (Key × ℕ) → Table
 table_in bytes [] = empty
 table_in bytes (pair ∷ pairs) = write_into (table_in bytes pairs) (pair.0, value_of (slot_said (slot_of bytes pair.1)))
 
@@ -101,10 +96,10 @@ abbrev pub is_slot_on : Shape → ℕ → Option ℕ → Bool
 is_slot_on shape g None = false
 is_slot_on shape g (Some slot) = nat_eq (logger_of_slot shape slot) g
 
-abbrev pub is_write_on : Shape → List KeyPair → ℕ → Write → Bool
+abbrev pub is_write_on : Shape → List (Key × ℕ) → ℕ → Write → Bool
 is_write_on shape pairs g write = is_slot_on shape g (found_key pairs write.0)
 
 -- the index has the key of each of these writes
-abbrev pub AreNamed : List KeyPair → List Write → Type 0
+abbrev pub AreNamed : List (Key × ℕ) → List Write → Type 0
 AreNamed pairs [] = Unit {0}
 AreNamed pairs (write ∷ writes) = IsSome (found_key pairs write.0) × AreNamed pairs writes

@@ -20,7 +20,7 @@ pub record IsPutDown (shape : Shape) (depth : ℕ) (core : CoreView) (media : Vi
   pub sound : tree.sound bytes
   pub named : names_of bytes ≡ core.state.names
   pub shows : table_of tree bytes ≡ records_of core.state
-  pub pages : core.state.index.next_page ≡ next_page bytes
+  pub pages : core.state.index.keys.next_page ≡ next_page bytes
   pub limits : core.limits ≡ limits_of tree shape depth
   pub moment : media.moment ≡ core.moment
   pub left : (t : ℕ) (image : List ℕ) → media.left_since t image → core.left_since t image
