@@ -3,7 +3,7 @@ use Rattle.std.proofs.Common.{◌≡◌, ◌-◌, ◌≤◌, ℕ, refl, inl, inr
 use Rattle.std.proofs.lemmas.Bool.{cases_order}
 use Rattle.mars_base.specs.Check.{IsSingle}
 use Rattle.mars_base.proofs.Checks.{pass_single, test_single, both_single, unless_single, each_single, excludes, one_bad}
-use Rattle.mars_base.specs.Room.{HaveRoom, IsFirstFull}
+use Rattle.mars_base.proofs.Rooms.{room_single}
 use Rattle.history.specs.Key.{of_table}
 use Rattle.history.specs.declared.key.Key.{Key}
 use Rattle.history.specs.Log.{log_of, is_rewritten}
@@ -12,34 +12,12 @@ use Rattle.history.specs.declared.call.TableCall.TheVariants.{Put, Del}
 use Rattle.history.specs.declared.call.Reply.{Reply}
 use Rattle.history.specs.declared.call.Reply.TheVariants.{PagesFull, LogFull}
 use Rattle.caller_steps.specs.State.{State, calls_of}
-use Rattle.caller_steps.specs.Room.{Action, Limits, logs_fit, actions_fit, entry_fits, write_fits, room_for}
-
-module _ (loggers entries : ℕ) (held needs : ℕ → ℕ) where
-  room_not_full : (g h n : ℕ) → HaveRoom loggers entries held needs → IsFirstFull loggers entries held needs g h n → ⊥
-  room_not_full g h n room full = let fits = room g full.logger in omega (arith, full.full, full.held_is, full.needed_is, fits)
-
-  full_one : (g h n g' h' n' : ℕ) → IsFirstFull loggers entries held needs g h n → IsFirstFull loggers entries held needs g' h' n' → LogFull g h n ≡ LogFull g' h' n'
-  full_one g h n g' h' n' a b = elim (cases_order g g') [
-    | inl is ↦ (λ i. LogFull (is i) ((a.held_is ∙ ap held is ∙ sym b.held_is) i) ((a.needed_is ∙ ap needs is ∙ sym b.needed_is) i))
-    | inr apart ↦ elim apart [
-      | inl less ↦ absurd (let fits = b.before g less in omega (arith, a.full, a.held_is, a.needed_is, fits))
-      | inr more ↦ absurd (let fits = a.before g' more in omega (arith, b.full, b.held_is, b.needed_is, fits))
-    ]
-  ]
-
-logs_single : (limits : Limits) (held needed : ℕ → ℕ) → IsSingle (logs_fit limits held needed)
-logs_single limits held needed None None p q = refl
-logs_single limits held needed None (Some (LogFull g h n)) p q = absurd (room_not_full limits.loggers limits.entries held needed g h n p q)
-logs_single limits held needed None (Some _) p q = absurd q
-logs_single limits held needed (Some (LogFull g h n)) None p q = absurd (room_not_full limits.loggers limits.entries held needed g h n q p)
-logs_single limits held needed (Some (LogFull g h n)) (Some (LogFull g' h' n')) p q = ap (λ (r : Reply). Some r) (full_one limits.loggers limits.entries held needed g h n g' h' n' p q)
-logs_single limits held needed (Some (LogFull g h n)) (Some _) p q = absurd q
-logs_single limits held needed (Some _) other p q = absurd p
+use Rattle.caller_steps.specs.Room.{Action, Limits, actions_fit, entry_fits, write_fits, room_for}
 
 actions_single : (limits : Limits) (held : ℕ → ℕ) (left : ℕ) (actions : List Action) → IsSingle (actions_fit limits held left actions)
 actions_single limits held left [] = pass_single
 actions_single limits held left (action ∷ later) = both_single _ _ (test_single (action.takes ≤ left) (PagesFull (limits.index_pages - 1)))
-    (both_single _ _ (logs_single limits held action.needs) (actions_single limits held (left - action.takes) later))
+    (both_single _ _ (room_single limits.loggers limits.entries held action.needs LogFull) (actions_single limits held (left - action.takes) later))
 
 module _ (limits : Limits) (old : State) (caller : ℕ) where
   entry_single : (key : Key) (slot : ℕ) → IsSingle (entry_fits limits old caller key slot)

@@ -12,7 +12,7 @@ use Rattle.history.specs.declared.call.TableCall.TheVariants.{Put, Del}
 use Rattle.history.specs.declared.call.Reply.{Reply}
 use Rattle.history.specs.declared.call.Reply.TheVariants.{SlotsFull, PagesFull, LogFull}
 use Rattle.caller_steps.specs.State.{State, Index, calls_of, view_of}
-use Rattle.caller_steps.specs.Room.{Action, Limits, held_on, logs_fit, actions_fit, entry_fits, write_fits, room_for}
+use Rattle.caller_steps.specs.Room.{Action, Limits, held_on, actions_fit, entry_fits, write_fits, room_for}
 use Rattle.caller_steps.specs.Fate.{is_refusal, is_media, is_of_array}
 
 -- a write of a key with this slot, or none, is refused for the lack of a slot, of pages, or of entries
@@ -29,14 +29,10 @@ entry_told true Holds g h reply full = absurd full
 entry_told false Holds g h reply full = (g, h, 1, full.1)
 
 module _ (limits : Limits) (index : Index) (held : ℕ → ℕ) where
-  logs_lack : (needed : ℕ → ℕ) (reply : Reply) → logs_fit limits held needed (Some reply) → Lacking limits index None reply
-  logs_lack needed (LogFull g h n) full = no_entry g h n refl
-  logs_lack needed _ full = absurd full
-
   actions_lack : (left : ℕ) (actions : List Action) (reply : Reply) → actions_fit limits held left actions (Some reply) → Lacking limits index None reply
   actions_lack left [] reply lacks = absurd lacks
   actions_lack left (action ∷ later) reply (inl few) = no_page refl few.1
-  actions_lack left (action ∷ later) reply (inr (some, inl full)) = logs_lack action.needs reply full
+  actions_lack left (action ∷ later) reply (inr (some, inl (g, logger, full, before, is))) = no_entry g (held g) (action.needs g) is
   actions_lack left (action ∷ later) reply (inr (some, inr (fits, lacks))) = actions_lack (left - action.takes) later reply lacks
 
 module _ (limits : Limits) (old : State) (caller : ℕ) where

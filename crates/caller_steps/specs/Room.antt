@@ -3,7 +3,7 @@ use Rattle.std.specs.Prelude.{ℕ, suc, ◌≡◌, ◌≢◌, ◌+◌, ◌-◌, 
 use Rattle.std.specs.FinMap.{get}
 use Rattle.std.specs.Map.{update}
 use Rattle.mars_base.specs.Check.{Check, pass, test, both, unless, each}
-use Rattle.mars_base.specs.Room.{HaveRoom, IsFirstFull}
+use Rattle.mars_base.specs.Room.{room}
 use Rattle.history.specs.Key.{is_same_key, of_table}
 use Rattle.history.specs.declared.key.Key.{Key}
 use Rattle.history.specs.Log.{log_of, is_rewritten}
@@ -48,17 +48,11 @@ is_slot_on limits g slot = unwrap_or (option_map (λ (at : ℕ). nat_eq (limits.
 abbrev pub held_on : Limits → State → ℕ → ℕ → ℕ
 held_on limits state caller g = length (filter (λ (write : Write). is_slot_on limits g (state.index.keys.slot_of write.0)) (log_of (calls_of state caller)).writes)
 
--- Each logger has room for what it needs beside what it holds. The first that has not is told.
-abbrev pub logs_fit : Limits → (held needed : ℕ → ℕ) → Check Reply
-logs_fit limits held needed None = HaveRoom limits.loggers limits.entries held needed
-logs_fit limits held needed (Some (LogFull g h n)) = IsFirstFull limits.loggers limits.entries held needed g h n
-logs_fit limits held needed _ = ⊥
-
 -- All actions fit, one after another: `left` pages are enough for what one takes, and then each logger has room for its entries.
 abbrev pub actions_fit : Limits → (ℕ → ℕ) → ℕ → List Action → Check Reply
 actions_fit limits held left [] = pass
 actions_fit limits held left (action ∷ later) = both (test (action.takes ≤ left) (PagesFull (limits.index_pages - 1)))
-    (both (logs_fit limits held action.needs) (actions_fit limits held (left - action.takes) later))
+    (both (room LogFull limits.loggers limits.entries held action.needs) (actions_fit limits held (left - action.takes) later))
 
 -- a write of a key with this slot reuses the entry of a write since the last save, or finds a free entry at the slot's logger
 abbrev pub entry_fits : Limits → State → ℕ → Key → ℕ → Check Reply

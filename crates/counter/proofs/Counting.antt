@@ -17,6 +17,7 @@ use Rattle.eaw_face.specs.State.{State, listed, count_on, is_range_on}
 use Rattle.eaw_face.specs.StoreView.{StoreView, LeavesOnly}
 use Rattle.eaw_face.specs.Command.{log_write, commit, after}
 use Rattle.eaw_face.specs.Causes.{Cause}
+use Rattle.eaw_face.proofs.Rooms.{first_unfit}
 use Rattle.eaw_face.specs.Does.{IsEither, Becomes, Does}
 use Rattle.eaw_face.specs.declared.fault.EawFault.{EawFault}
 use Rattle.eaw_face.specs.declared.fault.EawFault.TheVariants.{UnknownTid, LogFull, Media, Dead}
@@ -74,7 +75,7 @@ none_logged f (Some l) is = cc
 pub write_broken : (old new : StoreView) (n : ℕ) (fault : EawFault) → IsShape old.shape → IsIdle old → (let r : Result ℕ EawFault = Err fault in Cause old (log_write 0 1024 (little_bytes 8 n)) new.faults r) → IsBroken old new fault
 write_broken old new n (UnknownTid u) shaped idle cause = absurd (cause.1.0 (omega (arith, shaped.some_numbers)))
 write_broken old new n (LogFull g h k) shaped idle cause =
-    let full = cause.2 in
+    let full = first_unfit old.shape (listed (old.ranges 0)) (ranges_of (parts_of_write 1024 (little_bytes 8 n))) g h k cause.2 in
     let none : h ≡ 0 = full.held_is ∙ ap (λ (o : Option (List (ℕ × ℕ))). count_on old.shape g (listed o)) (idle cause.0) in
     let one : k ≡ count_on old.shape g ((1024, 8) ∷ []) = full.needed_is ∙ ap (λ (ps : List (ℕ × List ℕ)). count_on old.shape g (ranges_of ps)) (one_part n) in
     absurd (omega (arith, full.full, none, one, few old.shape g, shaped.some_entries))

@@ -32,7 +32,7 @@ use Rattle.eaw_device.specs.Opens.{Opens}
 use Rattle.eaw_device.specs.Logs.{IsKept, IsHeld, Adds, entries_at}
 use Rattle.write_back.specs.Entries.{ranges_in, parts_in, cells_on}
 use Rattle.logger.specs.Staging.{staged_places}
-use Rattle.eaw_device.specs.Steps.{cells_fit, RefusesWrite}
+use Rattle.eaw_device.specs.Steps.{CellsFit, SaysFull, RefusesWrite}
 use Rattle.eaw_device.specs.Laws.{alive_shown}
 use Rattle.write_back.specs.Turns.{has_some}
 use Rattle.write_back.specs.Spared.{AreSpared}
@@ -46,6 +46,7 @@ use Rattle.eaw_device.proofs.Staged.{staged_spared, staged_in_cells, staged_with
 use Rattle.eaw_device.proofs.Tables.{each_set, entries_live, ranges_there, parts_there, ranges_set, parts_set, parts_kept, held_kept, others_kept, slice_get-set_same, sound_set}
 use Rattle.eaw_device.proofs.Sure.{cells_data, cells_sure, cells_time}
 use Rattle.eaw_face.proofs.Refusing.{refused}
+use Rattle.eaw_face.proofs.Rooms.{unfit_told}
 use Rattle.eaw_device.proofs.Doing.{done, failed}
 
 -- a write has as many pieces at a logger as its range has parts
@@ -76,8 +77,8 @@ module _ (tells : Bool) (old : View) (shape : Shape) (logs : List Log) (late : L
   needed g = count_on-ranges_of shape g (parts_of_write addr bytes) ∙ length-write_parts_on shape g addr bytes
 
   -- what a log without room says
-  pub first_full : (g h n : ℕ) → cells_fit shape log.held addr (length bytes) (Some (g, h, n)) → fit shape (listed (option_map ranges_in (entries_at logs t))) (ranges_of (parts_of_write addr bytes)) (Some (g, h, n))
-  first_full g h n said = record {
+  pub first_full : (g h n : ℕ) → SaysFull shape log.held addr (length bytes) (LogFull g h n) → fit shape (listed (option_map ranges_in (entries_at logs t))) (ranges_of (parts_of_write addr bytes)) (Some (g, h, n))
+  first_full g h n said = unfit_told shape (listed (option_map ranges_in (entries_at logs t))) (ranges_of (parts_of_write addr bytes)) g h n (record {
     logger = said.logger;
     held_is = said.held_is ∙ sym (counted g said.logger);
     needed_is = said.needed_is ∙ sym (needed g);
@@ -86,13 +87,13 @@ module _ (tells : Bool) (old : View) (shape : Shape) (logs : List Log) (late : L
         let has = said.before k lt in
         let here : k < shape.loggers = omega (arith, said.logger) in
         omega (arith, has, counted k here, needed k);
-  }
+  })
 
   -- a log with room
-  pub write_fits : cells_fit shape log.held addr (length bytes) None → fit shape (listed (option_map ranges_in (entries_at logs t))) (ranges_of (parts_of_write addr bytes)) None
+  pub write_fits : CellsFit shape log.held addr (length bytes) → fit shape (listed (option_map ranges_in (entries_at logs t))) (ranges_of (parts_of_write addr bytes)) None
   write_fits room g lt = omega (arith, room g lt, counted g lt, needed g)
 
-  module _ (apart : has_some late.queue.ballots.items t ≡ false) (room : cells_fit shape log.held addr (length bytes) None) where
+  module _ (apart : has_some late.queue.ballots.items t ≡ false) (room : CellsFit shape log.held addr (length bytes)) where
     pub write_parts_fit : (g : ℕ) → g < shape.loggers → slice_index log.held g + length (write_parts_on shape g addr bytes) ≤ shape.entries
     write_parts_fit g lt = omega (arith, room g lt, length-write_parts_on shape g addr bytes)
 

@@ -3,26 +3,25 @@ use Rattle.std.specs.Prelude.{ℕ, ◌≡◌, ◌<◌, ◌≤◌, Bool, true, fa
 use Rattle.mars_base.specs.Causes.{Rose}
 use Rattle.eaw_face.specs.StoreView.{StoreView, LeavesOnly}
 use Rattle.std.specs.Option.{ForSome}
-use Rattle.mars_base.specs.Check.{Check}
-use Rattle.mars_base.specs.Room.{room}
+use Rattle.mars_base.specs.Room.{HaveRoom, IsFirstFull}
 use Rattle.array_shape.specs.declared.shape.Shape.{Shape}
 use Rattle.array_shape.specs.Parts.{parts_on}
 use Rattle.eaw_face.specs.declared.fault.EawFault.{EawFault}
 use Rattle.eaw_face.specs.declared.fault.EawFault.TheVariants.{UnknownTid, LogFull, Media, Dead}
 use Rattle.eaw_device.specs.declared.log.Log.{Log}
 
--- the test for room at each logger, after the held cells, for its share of the parts of a range
-abbrev pub cells_fit : Shape → List ℕ → (addr len : ℕ) → Check (ℕ × ℕ × ℕ)
-cells_fit shape held addr len = room shape.loggers shape.entries (λ g. slice_index held g) (λ g. length (parts_on shape g addr len))
+-- each logger has room, after the held cells, for its share of the parts of a range
+abbrev pub CellsFit : Shape → List ℕ → (addr len : ℕ) → Type 0
+CellsFit shape held addr len = HaveRoom shape.loggers shape.entries (λ g. slice_index held g) (λ g. length (parts_on shape g addr len))
 
--- the refusal of a write says that
+-- the refusal of a write names the first logger that has not
 abbrev pub SaysFull : Shape → List ℕ → ℕ → ℕ → EawFault → Type 0
-SaysFull shape held addr len (LogFull g h n) = cells_fit shape held addr len (Some (g, h, n))
+SaysFull shape held addr len (LogFull g h n) = IsFirstFull shape.loggers shape.entries (λ k. slice_index held k) (λ k. length (parts_on shape k addr len)) g h n
 SaysFull shape held addr len _ = ⊥
 
 -- the log of number t has room at all loggers
 abbrev pub LogHasCells : Shape → List Log → ℕ → ℕ → ℕ → Type 0
-LogHasCells shape logs t addr len = ForSome (slice_get logs t) (λ log. cells_fit shape log.held addr len None)
+LogHasCells shape logs t addr len = ForSome (slice_get logs t) (λ log. CellsFit shape log.held addr len)
 
 -- the log of number t lacks room, and the fault says so
 pub record LogLacksCells (shape : Shape) (logs : List Log) (t addr len : ℕ) (fault : EawFault) : Type 0 where

@@ -2,7 +2,7 @@
 ghost use Rattle.std.specs.Prelude.{◌+◌, ◌≤◌, None, IsTrue, IfErr, OnOk};
 ghost use Rattle.array_shape.specs.Places.{data_len};
 ghost use Rattle.eaw_device.specs.Logs.{IsKept};
-ghost use Rattle.eaw_device.specs.Steps.{cells_fit, SaysFull};
+ghost use Rattle.eaw_device.specs.Steps.{CellsFit, SaysFull};
 
 use crate::log::Log;
 use array_shape::{PAGE_LEN, Shape};
@@ -13,7 +13,7 @@ use logger::cells_of_write;
 pub(crate) fn check_room(shape: &Shape, log: &Log, addr: u64, len: u64) -> Result<(), EawFault>
     requires kept { IsKept shape.now log.now }
     requires range { addr + len ≤ data_len shape.now }
-    ensures room { OnOk result (cells_fit shape.now log.now.held addr len None) }
+    ensures room { OnOk result (CellsFit shape.now log.now.held addr len) }
     ensures full { IfErr result (SaysFull shape.now log.now.held addr len) }
 {
     if has_room(shape, log, addr, len) {
@@ -38,7 +38,7 @@ pub(crate) fn check_room(shape: &Shape, log: &Log, addr: u64, len: u64) -> Resul
 fn has_room(shape: &Shape, log: &Log, addr: u64, len: u64) -> bool
     requires kept { IsKept shape.now log.now }
     requires range { addr + len ≤ data_len shape.now }
-    ensures { IsTrue result → cells_fit shape.now log.now.held addr len None }
+    ensures { IsTrue result → CellsFit shape.now log.now.held addr len }
 {
     let parts = (addr % PAGE_LEN + len).div_ceil(PAGE_LEN);
     log.entries.len() as u64 + parts <= u64::from(shape.entries)

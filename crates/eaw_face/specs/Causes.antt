@@ -45,7 +45,7 @@ IsNumberOf (read addr len) u = ⊥
 
 -- the test for room at each logger, for its share of `needed` besides its share of `held`
 abbrev pub fit : Shape → (held needed : List (ℕ × ℕ)) → Check (ℕ × ℕ × ℕ)
-fit shape held needed = room shape.loggers shape.entries (λ g. count_on shape g held) (λ g. count_on shape g needed)
+fit shape held needed = room {Bad = ℕ × ℕ × ℕ} (λ g h n. (g, h, n)) shape.loggers shape.entries (λ g. count_on shape g held) (λ g. count_on shape g needed)
 
 -- the test for the room that a command needs: a write needs an entry for each of its parts
 abbrev pub room_for : StoreView → Command → Check (ℕ × ℕ × ℕ)

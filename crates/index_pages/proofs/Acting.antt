@@ -13,6 +13,7 @@ use Rattle.eaw_face.specs.State.{listed, count_on, is_range_on}
 use Rattle.eaw_face.specs.StoreView.{StoreView, LeavesOnly}
 use Rattle.eaw_face.specs.Mirroring.{Mirrors}
 use Rattle.eaw_face.proofs.Mirroring.{none_sent, sent_then}
+use Rattle.eaw_face.proofs.Rooms.{first_unfit}
 use Rattle.eaw_face.specs.Causes.{IsAlive}
 use Rattle.page_store.specs.State.{PagesState, log_of, with_one}
 use Rattle.page_store.specs.Command.{PageCommand, write_as, top_begin, top_end, after}
@@ -207,7 +208,7 @@ module _ (tells : Bool) (Opens : List ℕ → List ℕ → Type 0) (t : ℕ) whe
         (weaker (λ image either. elim either [ inl before ↦ inl (subst (λ (b : List ℕ). Opens image b) (acting_data old now parts (page ∷ left) acting told) before) | inr behind ↦ inl (subst (λ (b : List ℕ). Opens image b) (acting_data old now parts (page ∷ left) acting told) behind) ]) (does.time told acting.alive)))
     acting_fail Dead alive pages all does = absurd (false≢true (sym acting.alive ∙ does.cause))
     acting_fail (LogFull g h n) alive pages all does =
-        let full = does.cause.1.1 in
+        let full = first_unfit now.store.shape (listed (now.store.ranges t)) ((address page at, length bytes) ∷ []) g h n does.cause.1.1 in
         let shape = acting.shape in
         let logger : g < old.store.shape.loggers = subst (λ (s : Shape). g < s.loggers) shape full.logger in
         let held : h ≡ count_on old.store.shape g (listed (now.store.ranges t)) = subst (λ (s : Shape). h ≡ count_on s g (listed (now.store.ranges t))) shape full.held_is in

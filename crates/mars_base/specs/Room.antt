@@ -2,7 +2,13 @@
 use Rattle.std.specs.Prelude.{ℕ, ◌≡◌, ◌+◌, ◌<◌, ◌≤◌, Some, None}
 use Rattle.mars_base.specs.Check.{Check}
 
--- each logger has room for what it needs beside what it holds
+-- Each logger has room for what it needs beside what it holds. Of the first that has not, what it holds and what more it needs are told.
+abbrev pub room : {Bad : Type 0} → (told : ℕ → ℕ → ℕ → Bad) → (loggers entries : ℕ) → (held needed : ℕ → ℕ) → Check Bad
+room told loggers entries held needed None = (g : ℕ) → g < loggers → held g + needed g ≤ entries
+room told loggers entries held needed (Some bad) =
+    (g : ℕ) × (g < loggers) × (entries < held g + needed g) × ((k : ℕ) → k < g → held k + needed k ≤ entries) × (bad ≡ told g (held g) (needed g))
+
+-- each logger has room
 abbrev pub HaveRoom : (loggers entries : ℕ) → (held needed : ℕ → ℕ) → Type 0
 HaveRoom loggers entries held needed = (g : ℕ) → g < loggers → held g + needed g ≤ entries
 
@@ -13,8 +19,3 @@ pub record IsFirstFull (loggers entries : ℕ) (held needed : ℕ → ℕ) (g h 
   pub needed_is : n ≡ needed g
   pub full : entries < h + n
   pub before : (k : ℕ) → k < g → held k + needed k ≤ entries
-
--- the test for room at one logger after another; the first that fails is told with what it holds and what more is needed
-abbrev pub room : (loggers entries : ℕ) → (held needed : ℕ → ℕ) → Check (ℕ × ℕ × ℕ)
-room loggers entries held needed None = HaveRoom loggers entries held needed
-room loggers entries held needed (Some full) = IsFirstFull loggers entries held needed full.0 full.1 full.2

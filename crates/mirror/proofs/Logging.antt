@@ -20,6 +20,7 @@ use Rattle.eaw_face.specs.Causes.{Cause, fit}
 use Rattle.eaw_face.specs.Does.{IsEither, Does}
 use Rattle.eaw_face.specs.declared.fault.EawFault.{EawFault}
 use Rattle.eaw_face.specs.declared.fault.EawFault.TheVariants.{UnknownTid, LogFull, Media, Dead}
+use Rattle.eaw_face.proofs.Rooms.{first_unfit}
 use Rattle.eaw_face.specs.Frame.{part_bytes, IsPart, IsInside}
 use Rattle.mirror.specs.Applying.{HasParts, Wrote, WroteParts, logged_more, IsNewFault}
 use Rattle.mirror.proofs.Holding.{count_append}
@@ -202,7 +203,7 @@ module _ (tells : Bool) (Opens : Shape → List ℕ → List ℕ → Type 0) (nu
     next_fault Dead cause = absurd (false≢true (sym on.wrote.alive ∙ cause))
     next_fault (UnknownTid u) cause = absurd (cause.1.0 (subst (λ (s : Shape). number < s.numbers) (sym on.wrote.shape) here))
     next_fault (LogFull g h m) cause =
-        let full = cause.2 in
+        let full = first_unfit now.shape (listed (now.ranges number)) (ranges_of (parts_of_write p.0 p.1)) g h m cause.2 in
         let logger : g < old.shape.loggers = subst (λ (s : Shape). g < s.loggers) on.wrote.shape full.logger in
         let held : h ≡ count_on old.shape g (ranges_of on.gone) = full.held_is ∙ (λ i. count_on (on.wrote.shape i) g (logged_now i)) in
         let needed : m ≡ count_on old.shape g (ranges_of (p ∷ [])) = full.needed_is ∙ (λ i. count_on (on.wrote.shape i) g (ranges_of (one i))) in

@@ -42,6 +42,7 @@ use Rattle.record_table.proofs.Sharing.{Laws, called_same}
 use Rattle.record_table.proofs.SlotParts.{parts_carry}
 use Rattle.record_table.proofs.Upgraded.{Upgraded, front_of, main_of, two_upgraded, older_upgraded, is_upgraded}
 use Rattle.eaw_face.proofs.Mirroring.{none_sent}
+use Rattle.eaw_face.proofs.Rooms.{first_unfit}
 
 -- a write of one page is one part, which any log has room for
 no_parts : (n at : ℕ) → first_parts_of_write n at [] ≡ []
@@ -63,7 +64,7 @@ one_part shape g (b ∷ bs) long =
     subst (λ (ps : List (ℕ × List ℕ)). count_on shape g (ranges_of ((0, take 512 (b ∷ bs)) ∷ ps)) ≤ 1) (sym rest) (one_on shape g (0, take 512 (b ∷ bs)))
 
 pub page_fits : (shape : Shape) (bytes : List ℕ) (g h n : ℕ) → 8 ≤ shape.entries → length bytes ≡ 512 → fit shape [] (ranges_of (parts_of_write 0 bytes)) (Some (g, h, n)) → ⊥
-page_fits shape bytes g h n some long full = let one = one_part shape g bytes long in omega (arith, some, full.full, full.held_is, full.needed_is, one)
+page_fits shape bytes g h n some long told = let full = first_unfit shape [] (ranges_of (parts_of_write 0 bytes)) g h n told in let one = one_part shape g bytes long in omega (arith, some, full.full, full.held_is, full.needed_is, one)
 
 -- what holds anyway holds after an Ok
 on_ok : {P : Type 0} (r : Result (Unit {0}) TableFault) → P → OnOk r P

@@ -40,6 +40,7 @@ use Rattle.record_table.proofs.Writing.{rewrites}
 use Rattle.record_table.proofs.States.{written, floors, shown_write, parts_write}
 use Rattle.record_table.proofs.Moving.{Failed}
 use Rattle.eaw_face.specs.Mirroring.{Mirrors}
+use Rattle.eaw_face.proofs.Rooms.{first_unfit}
 
 -- a write was logged
 pub record Wrote (tells : Bool) (Opens : List ℕ → List ℕ → Type 0) (index : Index) (t : ℕ) (key : Key) (value : Option (List ℕ)) (slot : ℕ) (old new : PagesView) : Type 0 where
@@ -161,7 +162,7 @@ module _ (tells : Bool) (Opens : List ℕ → List ℕ → Type 0) (index : Inde
   pub write_short : {T : Type 0} (g h n : ℕ) → (let r : Result T PageFault = Err (LogFull g h n) in Does tells Opens (write_as t (64 * (slots_of old.store.shape + slot)) (slot_bytes said)) old new r)
       → IsShort old t g h n × (IsTrue tells → IsFull index t old (of_table name key) slot g h n)
   write_short g h n does =
-      let full = does.cause.1.1 in
+      let full = first_unfit old.store.shape (listed (old.store.ranges t)) ((64 * (slots_of old.store.shape + slot), length (slot_bytes said)) ∷ []) g h n does.cause.1.1 in
       let one = one_on old.store.shape g (64 * (slots_of old.store.shape + slot)) (length (slot_bytes said)) in
       let most = at_most_one (nat_eq (logger_of old.store.shape (64 * (slots_of old.store.shape + slot))) g) in (
         (omega (arith, full.needed_is, one, most), (λ k. count_on old.store.shape k ((64 * (slots_of old.store.shape + slot), length (slot_bytes said)) ∷ [])), record { logger = full.logger; held_is = full.held_is; needed_is = full.needed_is; full = full.full; before = full.before }),

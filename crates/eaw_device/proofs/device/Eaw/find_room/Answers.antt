@@ -4,7 +4,7 @@ use Rattle.array_shape.specs.declared.shape.Shape.{Shape}
 use Rattle.eaw_face.specs.declared.fault.EawFault.{EawFault}
 use Rattle.eaw_face.specs.declared.fault.EawFault.TheVariants.{UnknownTid, LogFull, Media, Dead}
 use Rattle.eaw_device.specs.declared.log.Log.{Log}
-use Rattle.eaw_device.specs.Steps.{cells_fit, SaysFull, RefusesWrite}
+use Rattle.eaw_device.specs.Steps.{CellsFit, SaysFull, RefusesWrite}
 use Rattle.eaw_device.proofs.Doing.{one_log}
 use Rattle.eaw_device.proofs.Tables.{found_log}
 use Rattle.eaw_device.proofs.device.Eaw.find_room.Goals as goal
@@ -39,4 +39,4 @@ returns-clause-room g c = λ log there.
     let s = c.args.self.now in
     let below : c.args.tid < length s.logs.items = omega (arith, s.sound.many) in
     let same = one_log s.logs.items c.args.tid c.index.result.now log (found_log s.logs.items c.from-at.result c.args.tid c.index.result.now c.from-at.ensures below c.index.ensures) there in
-    subst (λ (l : Log). cells_fit s.shape l.held c.args.addr c.args.len None) same c.in_ok-check_room.ensures.room
+    subst (λ (l : Log). CellsFit s.shape l.held c.args.addr c.args.len) same c.in_ok-check_room.ensures.room

@@ -16,7 +16,7 @@ use Rattle.eaw_device.specs.Costs.{back_cost}
 use Rattle.eaw_device.specs.Logs.{Adds}
 use Rattle.eaw_device.specs.Opens.{Opens}
 use Rattle.eaw_device.specs.Sound.{view_of}
-use Rattle.eaw_device.specs.Steps.{LogHasCells, cells_fit}
+use Rattle.eaw_device.specs.Steps.{LogHasCells, CellsFit}
 use Rattle.eaw_device.proofs.Alone.{has_own, own_bit}
 use Rattle.eaw_device.proofs.Doing.{when_ok, when_err, one_log}
 use Rattle.eaw_device.proofs.Gathering.{log_there}
@@ -87,7 +87,7 @@ module _ (g : Over) (c : After-index-log g) where
   has_cells = subst (λ (p : Shape × List Log). LogHasCells p.0 p.1 c.args.tid c.args.addr (length c.args.bytes.now))
       (λ i. (sym c.in_ok-settle_for.ensures.shape i, (sym c.in_ok-settle_for.ensures.logs i).items)) c.in_ok-at.ensures.room
 
-  room : cells_fit c.settle_for.new.self.shape c.index-log.result.now.held c.args.addr (length c.args.bytes.now) None
+  room : CellsFit c.settle_for.new.self.shape c.index-log.result.now.held c.args.addr (length c.args.bytes.now)
   room = has_cells c.index-log.result.now there
 
   apart : has_some c.settle_for.new.self.late.queue.ballots.items c.args.tid ≡ false

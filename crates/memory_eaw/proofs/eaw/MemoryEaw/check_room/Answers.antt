@@ -6,6 +6,7 @@ use Rattle.mirror.specs.Log.{Log}
 use Rattle.memory_eaw.specs.Shown.{shown}
 use Rattle.mirror.proofs.Parts.{count_on-write}
 use Rattle.mirror.proofs.Parts.{log_is}
+use Rattle.eaw_face.proofs.Rooms.{unfit_told}
 use Rattle.memory_eaw.proofs.Views.{ranges_are}
 use Rattle.memory_eaw.proofs.eaw.MemoryEaw.check_room.Goals as goal
 use Rattle.memory_eaw.proofs.eaw.MemoryEaw.check_room.Goals.{After-count_range-needed}
@@ -31,7 +32,8 @@ returns-then-from-clause-full c =
       h = c.count_on-held.result;
       n = c.count_range-needed.result;
       fault_is = refl;
-      first = record { logger = omega arith; held_is = held at; needed_is = needed at; full = omega arith; before = c.loop-logger.invariant };
+      first = unfit_told c.args.self.now.shape (listed ((shown c.args.self.now).ranges c.args.tid)) (ranges_of (parts_of_write c.args.addr c.args.bytes.now)) c.loop-logger.logger c.count_on-held.result c.count_range-needed.result
+          (record { logger = omega arith; held_is = held at; needed_is = needed at; full = omega arith; before = c.loop-logger.invariant });
     }
 
 pub loop-logger-preserved : goal.loop-logger-preserved
