@@ -3,7 +3,7 @@ use Rattle.std.proofs.Common.{◌≡◌, ◌-◌, ◌≤◌, ℕ, refl, inl, inr
 use Rattle.std.proofs.lemmas.Bool.{cases_order}
 use Rattle.mars_base.specs.Check.{IsSingle}
 use Rattle.mars_base.proofs.Checks.{pass_single, test_single, both_single, unless_single, each_single, excludes, one_bad}
-use Rattle.mars_base.proofs.Rooms.{room_single}
+use Rattle.mars_base.proofs.Rooms.{rooms_single}
 use Rattle.history.specs.Key.{of_table}
 use Rattle.history.specs.declared.key.Key.{Key}
 use Rattle.history.specs.Log.{log_of, is_rewritten}
@@ -17,7 +17,7 @@ use Rattle.caller_steps.specs.Room.{Action, Limits, actions_fit, entry_fits, wri
 actions_single : (limits : Limits) (held : ℕ → ℕ) (left : ℕ) (actions : List Action) → IsSingle (actions_fit limits held left actions)
 actions_single limits held left [] = pass_single
 actions_single limits held left (action ∷ later) = both_single _ _ (test_single (action.takes ≤ left) (PagesFull (limits.index_pages - 1)))
-    (both_single _ _ (room_single limits.loggers limits.entries held action.needs LogFull) (actions_single limits held (left - action.takes) later))
+    (both_single _ _ (rooms_single limits.loggers limits.entries held action.needs LogFull) (actions_single limits held (left - action.takes) later))
 
 module _ (limits : Limits) (old : State) (caller : ℕ) where
   entry_single : (key : Key) (slot : ℕ) → IsSingle (entry_fits limits old caller key slot)

@@ -45,7 +45,7 @@ made_opens shape said content long made =
 pub is_new : (shape : Shape) (said : ℕ → List ℕ) (image : List ℕ) → length image ≡ media_len shape → header_of image ≡ header_bytes shape → HasParts shape said image → IsNew shape said image
 is_new shape said image long header parts =
     let content : Content = record { bytes = image; unsettled = [] } in
-    record { opens = made_opens shape said content long (record { settled = refl; header = header; parts = parts }) image (record { long = refl; same = λ i out. refl }); parts = parts }
+    (made_opens shape said content long (record { settled = refl; header = header; parts = parts }) image (record { long = refl; same = λ i out. refl }), parts)
 
 -- the mark is the first bytes of the header
 pub mark_of : (image : List ℕ) → take 8 (header_of image) ≡ range image 0 8

@@ -11,18 +11,17 @@ use Rattle.eaw_device.specs.declared.making.FormatFault.{FormatFault}
 use Rattle.eaw_device.specs.declared.making.FormatFault.TheVariants.{BadShape, Media}
 use Rattle.eaw_device.specs.Opens.{header_of, Opens}
 
--- the first n pages are these
-abbrev pub HasPages : Shape → (ℕ → List ℕ) → ℕ → List ℕ → Type 0
-HasPages shape said n bytes = (p : ℕ) → p < n → range (data_of shape bytes) (512 * p) 512 ≡ said p
-
--- the rows of the first n loggers are zero
-abbrev pub HasRows : Shape → ℕ → List ℕ → Type 0
-HasRows shape n bytes = (g t : ℕ) → g < n → t < shape.numbers → range bytes (row_at shape g t) 16 ≡ replicate 16 0
-
 -- all rows are zero, and all pages are these
 pub record HasParts (shape : Shape) (said : ℕ → List ℕ) (image : List ℕ) : Type 0 where
-  pub rows : HasRows shape shape.loggers image
-  pub pages : HasPages shape said (page_count shape) image
+  pub rows : (g t : ℕ) → g < shape.loggers → t < shape.numbers → range image (row_at shape g t) 16 ≡ replicate 16 0
+  pub pages : (p : ℕ) → p < page_count shape → range (data_of shape image) (512 * p) 512 ≡ said p
+
+-- that much of it is written: the rows of the first n loggers, and the first n pages
+abbrev pub HasRows : Shape → ℕ → List ℕ → Type 0
+HasRows shape n image = (g t : ℕ) → g < n → t < shape.numbers → range image (row_at shape g t) 16 ≡ replicate 16 0
+
+abbrev pub HasPages : Shape → (ℕ → List ℕ) → ℕ → List ℕ → Type 0
+HasPages shape said n image = (p : ℕ) → p < n → range (data_of shape image) (512 * p) 512 ≡ said p
 
 -- The header is that of the shape, all rows are zero, all pages are these, and all is settled.
 pub record IsMade (shape : Shape) (said : ℕ → List ℕ) (content : Content) : Type 0 where
@@ -39,13 +38,14 @@ abbrev pub IsNoArray : List ℕ → Type 0
 IsNoArray image = ¬ HasMark (header_of image)
 
 -- the new array, whole: it opens with its data, which has these pages
-pub record IsNew (shape : Shape) (said : ℕ → List ℕ) (image : List ℕ) : Type 0 where
-  pub opens : Opens shape image (data_of shape image)
-  pub parts : HasParts shape said image
+abbrev pub IsNew : Shape → (ℕ → List ℕ) → List ℕ → Type 0
+IsNew shape said image = Opens shape image (data_of shape image) × HasParts shape said image
 
--- while an array is made: an image that could be left at first, or no array, or the new one
+-- While an array is made: an image that could be left at first, or one that has no mark, so no opening takes it for an array, or the new
+-- array, whole, which opens with its data.
 abbrev pub IsOldOrNew : Shape → (ℕ → List ℕ) → Content → List ℕ → Type 0
-IsOldOrNew shape said content image = MayLeave content image ⊎ (IsNoArray image ⊎ IsNew shape said image)
+IsOldOrNew shape said content image = MayLeave content image
+    ⊎ (¬ HasMark (header_of image) ⊎ (Opens shape image (data_of shape image) × HasParts shape said image))
 
 -- all of an array but its header, and all but its mark
 abbrev pub behind_header : Shape → List (ℕ × ℕ)

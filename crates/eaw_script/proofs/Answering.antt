@@ -17,7 +17,7 @@ use Rattle.script_text.specs.declared.eaw_line.EawLine.TheVariants.{Nothing, Tol
 use Rattle.script_run.specs.Answers.{Answers}
 use Rattle.script_run.specs.declared.responder.Stop.{Stop}
 use Rattle.script_run.specs.declared.responder.Stop.TheVariants.{Media, NoMemory}
-use Rattle.eaw_script.specs.Tests.{asks, Passes}
+use Rattle.eaw_script.specs.Tests.{asks, checks}
 use Rattle.eaw_script.specs.Answers.{AnswersWith, state_after}
 use Rattle.eaw_script.specs.Lines.{RawLineGives, raw_script}
 use Rattle.eaw_script.specs.Performed.{Performed}
@@ -125,7 +125,7 @@ module _ (tells : Bool) (tell : IsTrue tells) (Opens : Shape → List ℕ → Li
             raw,
             means,
             (
-              subst (λ (log : Option (List (ℕ × ℕ))). Passes old.shape (asks old.shape log raw)) outline did.fails.0,
+              subst (λ (log : Option (List (ℕ × ℕ))). checks old.shape (asks old.shape log raw) None) outline did.fails.0,
               subst (λ (log : Option (List (ℕ × ℕ))). (asks old.shape log raw).media) outline did.fails.1,
             ),
             refl,

@@ -1,13 +1,13 @@
 -- What a number's raw command is answered and leaves.
-use Rattle.std.specs.Prelude.{ℕ, ◌≡◌, ◌++◌, List, [], length, slice_index_or, Option, unwrap_or}
+use Rattle.std.specs.Prelude.{ℕ, ◌≡◌, ◌⊎◌, ◌++◌, List, [], length, slice_index_or, Option, Some, None, unwrap_or}
 use Rattle.mars_base.specs.Bytes.{range}
 use Rattle.array_shape.specs.declared.shape.Shape.{Shape}
 use Rattle.eaw_face.specs.State.{State, count_on}
 use Rattle.eaw_face.specs.Command.{log_write, read, after}
 use Rattle.script_text.specs.Eaw.{Raw, does, read_log, log_len, held}
 use Rattle.script_text.specs.declared.answer.Answer.{Answer}
-use Rattle.script_text.specs.declared.answer.Answer.TheVariants.{Logged, Fine, Part, Data, Len, Held, Unknown, BadRange, Live, LogFull}
-use Rattle.eaw_script.specs.Tests.{asks, IsFullAt, Passes}
+use Rattle.script_text.specs.declared.answer.Answer.TheVariants.{Logged, Fine, Part, Data, Len, Held}
+use Rattle.eaw_script.specs.Tests.{asks, checks}
 
 -- the state after a command that was done; a question changes nothing
 abbrev pub state_after : Raw → State → State
@@ -23,11 +23,7 @@ answer_to shape log old t log_len = Len (length (unwrap_or log []))
 answer_to shape log old t (held logger) = Held (count_on shape logger (unwrap_or log []))
 answer_to shape log old t _ = Fine
 
--- Number t, with this log, gets this answer. A refusal comes if its test is the first that fails, and changes nothing.
+-- Number t, with this log, gets this answer: that of the first test that fails, which changes nothing, or else what was done.
 abbrev pub AnswersWith : Shape → Option (List (ℕ × ℕ)) → State → ℕ → Raw → Answer → State → Type 0
-AnswersWith shape log old t raw Unknown new = ((asks shape log raw).known → ⊥) × (new ≡ old)
-AnswersWith shape log old t raw BadRange new = (asks shape log raw).known × ((asks shape log raw).there → ⊥) × (new ≡ old)
-AnswersWith shape log old t raw Live new = (asks shape log raw).known × (asks shape log raw).there × ((asks shape log raw).free → ⊥) × (new ≡ old)
-AnswersWith shape log old t raw (LogFull g h n) new =
-    (asks shape log raw).known × (asks shape log raw).there × (asks shape log raw).free × IsFullAt shape (asks shape log raw) g h n × (new ≡ old)
-AnswersWith shape log old t raw answer new = Passes shape (asks shape log raw) × (answer ≡ answer_to shape log old t raw) × (new ≡ state_after raw old)
+AnswersWith shape log old t raw answer new = (checks shape (asks shape log raw) (Some answer) × (new ≡ old))
+    ⊎ (checks shape (asks shape log raw) None × (answer ≡ answer_to shape log old t raw) × (new ≡ state_after raw old))

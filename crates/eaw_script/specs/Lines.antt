@@ -1,5 +1,5 @@
 -- How the lines of a script of raw commands act.
-use Rattle.std.specs.Prelude.{ℕ, ◌≡◌, ◌⊎◌, List, [], ◌∷◌, ◌++◌, Some, option_map}
+use Rattle.std.specs.Prelude.{ℕ, ◌≡◌, ◌⊎◌, List, [], ◌∷◌, ◌++◌, Some, None, option_map}
 use Rattle.array_shape.specs.Logged.{ranges_of}
 use Rattle.script_text.specs.Line.{IsPassedOver, IsLineOf}
 use Rattle.script_text.specs.Eaw.{Raw, IsTextOf}
@@ -7,7 +7,7 @@ use Rattle.script_text.specs.AnswerLines.{answer_text}
 use Rattle.script_text.specs.Replies.{told_line, bad_line}
 use Rattle.script_text.specs.declared.answer.Answer.{Answer}
 use Rattle.script_run.specs.Script.{Script}
-use Rattle.eaw_script.specs.Tests.{Tests, asks, Passes}
+use Rattle.eaw_script.specs.Tests.{Tests, asks, checks}
 use Rattle.eaw_script.specs.Answers.{AnswersWith, state_after}
 use Rattle.eaw_script.specs.Progress.{Progress}
 
@@ -21,7 +21,7 @@ RawLineGives old n line text new = (IsPassedOver line × (text ≡ []) × (new �
 -- the medium fails in number t's command, which passes each test and uses the medium, so the data that it was to make is in doubt
 abbrev pub LineBreaks : Progress → List ℕ → ℕ → Progress → Type 0
 LineBreaks old line t new = (raw : Raw) × IsLineOf (IsTextOf t raw) old.shape.numbers t line
-    × (let asked : Tests = asks old.shape (option_map ranges_of (old.state.logs t)) raw in Passes old.shape asked × asked.media)
+    × (let asked : Tests = asks old.shape (option_map ranges_of (old.state.logs t)) raw in checks old.shape asked None × asked.media)
     × (new ≡ record old { doubt = Some (state_after raw old.state).bytes })
 
 -- if memory runs out, it is for the answer of a line that was done

@@ -1,5 +1,5 @@
 -- What comes of doing one command of a script.
-use Rattle.std.specs.Prelude.{ℕ, ◌≡◌, Bool, false, IsTrue, List, Result, Ok, Err, OnOk, OnErr, IfOk}
+use Rattle.std.specs.Prelude.{ℕ, ◌≡◌, Bool, false, IsTrue, List, Some, None, Result, Ok, Err, OnOk, OnErr, IfOk}
 use Rattle.mars_base.specs.Causes.{HasCause}
 use Rattle.mars_base.specs.declared.Failed.{Failed}
 use Rattle.eaw_face.specs.State.{State}
@@ -11,7 +11,7 @@ use Rattle.eaw_face.specs.declared.fault.EawFault.TheVariants.{UnknownTid, LogFu
 use Rattle.script_text.specs.Eaw.{Raw}
 use Rattle.script_text.specs.declared.answer.Answer.{Answer}
 use Rattle.script_text.specs.declared.answer.Answer.TheVariants.{Unknown, LogFull}
-use Rattle.eaw_script.specs.Tests.{asks, Passes}
+use Rattle.eaw_script.specs.Tests.{asks, checks}
 use Rattle.eaw_script.specs.Answers.{AnswersWith, state_after}
 
 -- the answer for a refusal of the store
@@ -35,6 +35,6 @@ pub record Performed (tells : Bool) (Opens : List ℕ → List ℕ → Type 0) (
   pub cause : HasCause old.faults new.faults result
   pub alive : OnOk result (new.is_dead ≡ false)
   pub answers : IsTrue tells → IfOk result (λ answer. AnswersWith old.shape (old.ranges t) old.state t raw answer new.state)
-  pub fails : OnErr result (Passes old.shape (asks old.shape (old.ranges t) raw) × (asks old.shape (old.ranges t) raw).media)
+  pub fails : OnErr result (checks old.shape (asks old.shape (old.ranges t) raw) None × (asks old.shape (old.ranges t) raw).media)
   pub time : IsTrue tells → LeavesOnly (IsEither Opens old.state.bytes (made_by old.state new.state raw result).bytes) old new
   pub mirrors : Mirrors tells old new

@@ -1,12 +1,15 @@
 -- What a raw command asks for, given only its number's log: None if the number holds none, else where its parts lie.
 use Rattle.std.specs.Prelude.{ℕ, ◌≡◌, ◌+◌, ◌<◌, ◌≤◌, List, [], length, slice_index_or, Option, None, IsSome, unwrap_or, ⊤}
-use Rattle.mars_base.specs.Room.{HaveRoom, IsFirstFull}
+use Rattle.mars_base.specs.Check.{Check, test, both}
+use Rattle.mars_base.specs.Room.{room}
 use Rattle.array_shape.specs.declared.shape.Shape.{Shape}
 use Rattle.array_shape.specs.Places.{data_len}
 use Rattle.array_shape.specs.Parts.{parts_of_write}
 use Rattle.array_shape.specs.Logged.{ranges_of}
 use Rattle.eaw_face.specs.State.{count_on}
 use Rattle.eaw_face.specs.Command.{log_write, log_edit, commit, abort, nested_top, partial_abort, atomic_write, read}
+use Rattle.script_text.specs.declared.answer.Answer.{Answer}
+use Rattle.script_text.specs.declared.answer.Answer.TheVariants.{Unknown, BadRange, Live, LogFull}
 use Rattle.script_text.specs.Eaw.{Raw, does, read_log, log_len, held}
 
 -- The tests of a command in their order: the number holds a log, what is named exists, the number holds no log, and each logger has room
@@ -42,10 +45,7 @@ asks shape log log_len = record untested { media = ⊥ }
 asks shape log (held logger) = record untested { there = logger < shape.loggers; media = ⊥ }
 asks shape log _ = untested
 
--- logger g is the first without room: it holds h parts of the number, and n more are needed
-abbrev pub IsFullAt : Shape → Tests → ℕ → ℕ → ℕ → Type 0
-IsFullAt shape asked = IsFirstFull shape.loggers shape.entries (λ k. count_on shape k asked.held) (λ k. count_on shape k asked.needed)
-
--- each test is passed
-abbrev pub Passes : Shape → Tests → Type 0
-Passes shape asked = asked.known × asked.there × asked.free × HaveRoom shape.loggers shape.entries (λ k. count_on shape k asked.held) (λ k. count_on shape k asked.needed)
+-- the verdict of these tests in their order: the answer for the first that fails
+abbrev pub checks : Shape → Tests → Check Answer
+checks shape asked = both (test asked.known Unknown) (both (test asked.there BadRange) (both (test asked.free Live)
+    (room LogFull shape.loggers shape.entries (λ k. count_on shape k asked.held) (λ k. count_on shape k asked.needed))))

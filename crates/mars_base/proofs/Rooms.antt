@@ -19,11 +19,11 @@ module _ (loggers entries : ℕ) (held needed : ℕ → ℕ) where
     told_full bad (g, logger, full, before, is) = (g, held g, needed g, record { logger = logger; held_is = refl; needed_is = refl; full = full; before = before }, is)
 
     -- there is one verdict
-    pub room_single : IsSingle (room told loggers entries held needed)
-    room_single None None fits fits' = refl
-    room_single None (Some bad) fits (g, logger, full, before, is) = absurd (let fits_here = fits g logger in omega (arith, fits_here, full))
-    room_single (Some bad) None (g, logger, full, before, is) fits = absurd (let fits_here = fits g logger in omega (arith, fits_here, full))
-    room_single (Some bad) (Some other) (g, logger, full, before, is) (k, logger', full', before', is') =
+    pub rooms_single : IsSingle (room told loggers entries held needed)
+    rooms_single None None fits fits' = refl
+    rooms_single None (Some bad) fits (g, logger, full, before, is) = absurd (let fits_here = fits g logger in omega (arith, fits_here, full))
+    rooms_single (Some bad) None (g, logger, full, before, is) fits = absurd (let fits_here = fits g logger in omega (arith, fits_here, full))
+    rooms_single (Some bad) (Some other) (g, logger, full, before, is) (k, logger', full', before', is') =
         ap (λ (b : Bad). Some b) (is ∙ same (cases_order g k) ∙ sym is')
       where
         same : (g ≡ k) ⊎ ((g < k) ⊎ (k < g)) → told g (held g) (needed g) ≡ told k (held k) (needed k)

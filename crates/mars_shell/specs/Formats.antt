@@ -11,8 +11,7 @@ use Rattle.array_shape.specs.Numbers.{AreInRange, IsFirstBad}
 use Rattle.array_shape.specs.Places.{HasNumbers, media_len, data_len}
 use Rattle.array_image.specs.Image.{data_of}
 use Rattle.array_image.specs.Standing.{SameCells}
-use Rattle.eaw_device.specs.Fresh.{IsFresh}
-use Rattle.eaw_device.specs.Made.{IsOldOrNew}
+use Rattle.eaw_device.specs.Made.{IsMade, IsOldOrNew}
 use Rattle.eaw_device.specs.Opens.{Opens}
 use Rattle.record_slots.specs.Fresh.{fresh_page}
 use Rattle.btree_pages.specs.Index.{tree}
@@ -69,7 +68,7 @@ pub record IsBegun (asked : FormatNumbers) (old new : View) : Type 0 where
 -- of the bytes of the medium and of the data is written, or a front of it if it was cut short.
 pub record IsFormatted (asked : FormatNumbers) (old new : View) (cut : Bool) (text : List ℕ) : Type 0 where
   pub begun : IsBegun asked old new
-  pub fresh : IsFresh begun.shape new.content
+  pub fresh : IsMade begun.shape fresh_page new.content
   pub opens : (image : List ℕ) → MayLeave new.content image → Opens begun.shape image (data_of begun.shape new.content.bytes)
   pub sound : tree.sound (data_of begun.shape new.content.bytes)
   pub none : table_of tree (data_of begun.shape new.content.bytes) ≡ empty

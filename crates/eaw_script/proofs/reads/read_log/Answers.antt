@@ -1,4 +1,4 @@
-use Rattle.std.proofs.Common.{◌≡◌, ℕ, ◌<◌, ◌≤◌, List, length, take, sym, ap, subst, ◌∙◌, arith, rules}
+use Rattle.std.proofs.Common.{◌≡◌, inr, ℕ, ◌<◌, ◌≤◌, List, length, take, sym, ap, subst, ◌∙◌, arith, rules}
 use Rattle.array_shape.specs.declared.shape.Shape.{Shape}
 use Rattle.eaw_face.specs.State.{State, listed, range_at, part_at}
 use Rattle.eaw_face.specs.StoreView.{LeavesOnly, ArePlaced}
@@ -30,8 +30,8 @@ returns-in-Ok g c =
       depth = does.depth;
       cause = record { later = omega (arith, does.kept); failed = tt; kept = does.kept };
       alive = does.done.alive;
-      answers = λ told. (
-        (search rules, there, tt, λ g lt. omega arith),
+      answers = λ told. inr (
+        (search rules, (there, (tt, λ g lt. omega arith))),
         ap (λ (xs : List ℕ). Part c.in-Ok.addr xs) (c.of.ensures ∙ ap (λ n. take n c.log_read.new.buf) c.from.ensures ∙ c.in-Ok.ensures.bytes told)
             ∙ ap (λ (addr : ℕ). Part addr (part_at (listed (old.state.logs t)) pos).1) (ap (λ (p : ℕ × ℕ). p.0) its),
         does.done.state told,
