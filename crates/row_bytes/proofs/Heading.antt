@@ -1,6 +1,6 @@
 -- What the bytes of a header say.
 use Rattle.std.proofs.Common.{◌≡◌, ℕ, List, ◌++◌, take, replicate, refl, sym, ◌∙◌, arith}
-use Rattle.std.specs.Prelude.{Bool, true, false, nat_eq}
+use Rattle.std.specs.Prelude.{Bool, true, false, nat_eq, slice_index}
 use Rattle.std.specs.Bool.{MatchBool}
 use Rattle.std.specs.Cmp.Lexicographic.{pointwise, same_text, other_text}
 use Rattle.byteorder.specs.Endian.{little_from, little_bytes}
@@ -10,7 +10,7 @@ use Rattle.array_shape.specs.declared.bad_shape.ShapeNumber.{ShapeNumber}
 use Rattle.array_shape.specs.declared.bad_shape.ShapeNumber.TheVariants.{Loggers, Numbers, Entries, Pages, MediaLength}
 use Rattle.array_shape.specs.Numbers.{IsFirstBad}
 use Rattle.array_shape.specs.Places.{HasNumbers}
-use Rattle.row_bytes.specs.Header.{mark, HasMark, loggers_said, numbers_said, entries_said, pages_said, IsBadIn, SaysShape, header_front, header_bytes}
+use Rattle.row_bytes.specs.Header.{mark, HasMark, entries_said, pages_said, IsBadIn, SaysShape, header_front, header_bytes}
 use Rattle.row_bytes.proofs.Saying.{little_from-drop}
 
 pub entries_said-is : (bytes : List ℕ) (n : ℕ) → n ≡ little_from 10 2 bytes → n ≡ entries_said bytes
@@ -51,7 +51,7 @@ mark_told bytes true is = sym (same_text mark (take 8 bytes) is)
 mark_told bytes false is = λ marked. other_text mark (take 8 bytes) is (sym marked)
 
 -- a number out of range is wrong on every medium
-pub bad_in : (bytes : List ℕ) (size : ℕ) (which : ShapeNumber) (given : ℕ) → IsFirstBad (loggers_said bytes) (numbers_said bytes) (entries_said bytes) (pages_said bytes) which given → IsBadIn bytes size which given
+pub bad_in : (bytes : List ℕ) (size : ℕ) (which : ShapeNumber) (given : ℕ) → IsFirstBad (slice_index bytes 8) (slice_index bytes 9) (entries_said bytes) (pages_said bytes) which given → IsBadIn bytes size which given
 bad_in bytes size Loggers given bad = bad
 bad_in bytes size Numbers given bad = bad
 bad_in bytes size Entries given bad = bad

@@ -3,7 +3,7 @@ use Rattle.std.specs.Prelude.{ℕ, ◌≡◌, ◌≢◌, List, ◌∷◌, ◌++�
 use Rattle.byteorder.specs.Endian.{little_from, little_bytes}
 use Rattle.array_shape.specs.declared.shape.Shape.{Shape}
 use Rattle.array_shape.specs.declared.bad_shape.ShapeNumber.{ShapeNumber}
-use Rattle.array_shape.specs.declared.bad_shape.ShapeNumber.TheVariants.{Loggers, Numbers, Entries, Pages, MediaLength}
+use Rattle.array_shape.specs.declared.bad_shape.ShapeNumber.TheVariants.{MediaLength}
 use Rattle.array_shape.specs.Numbers.{IsFirstBad}
 use Rattle.array_shape.specs.Places.{HasNumbers, media_len}
 use Rattle.row_bytes.specs.declared.header.HeaderFault.{HeaderFault}
@@ -16,31 +16,22 @@ mark = codes "MARSEAW1"
 abbrev pub HasMark : List ℕ → Type 0
 HasMark bytes = take 8 bytes ≡ mark
 
--- the numbers that a header says
-abbrev pub loggers_said : List ℕ → ℕ
-loggers_said bytes = slice_index bytes 8
-
-abbrev pub numbers_said : List ℕ → ℕ
-numbers_said bytes = slice_index bytes 9
-
+-- the entries and the pages that a header says
 unfoldable pub entries_said : List ℕ → ℕ
 entries_said bytes = little_from 10 2 bytes
 
 unfoldable pub pages_said : List ℕ → ℕ
 pages_said bytes = little_from 12 4 bytes
 
--- the header of an array of this shape; its other bytes say nothing
+-- the header of an array of this shape, with its loggers in byte 8 and its numbers in byte 9; its other bytes say nothing
 pub record SaysShape (bytes : List ℕ) (shape : Shape) : Type 0 where
   pub has_mark : HasMark bytes
-  pub numbers : HasNumbers (loggers_said bytes) (numbers_said bytes) (entries_said bytes) (pages_said bytes) shape
+  pub numbers : HasNumbers (slice_index bytes 8) (slice_index bytes 9) (entries_said bytes) (pages_said bytes) shape
 
 -- the number that is wrong in a header with the mark: the first one out of range, or else the length of the medium
 abbrev pub IsBadIn : List ℕ → ℕ → ShapeNumber → ℕ → Type 0
-IsBadIn bytes size Loggers given = IsFirstBad (loggers_said bytes) (numbers_said bytes) (entries_said bytes) (pages_said bytes) Loggers given
-IsBadIn bytes size Numbers given = IsFirstBad (loggers_said bytes) (numbers_said bytes) (entries_said bytes) (pages_said bytes) Numbers given
-IsBadIn bytes size Entries given = IsFirstBad (loggers_said bytes) (numbers_said bytes) (entries_said bytes) (pages_said bytes) Entries given
-IsBadIn bytes size Pages given = IsFirstBad (loggers_said bytes) (numbers_said bytes) (entries_said bytes) (pages_said bytes) Pages given
 IsBadIn bytes size MediaLength given = (given ≡ size) × ((shape : Shape) × SaysShape bytes shape × (size ≢ media_len shape))
+IsBadIn bytes size which given = IsFirstBad (slice_index bytes 8) (slice_index bytes 9) (entries_said bytes) (pages_said bytes) which given
 
 -- what keeps a medium of `size` bytes that begins with these bytes from being an array
 abbrev pub IsFaulty : List ℕ → ℕ → HeaderFault → Type 0

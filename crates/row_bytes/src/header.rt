@@ -1,6 +1,6 @@
 // The header of an array.
-ghost use Rattle.std.specs.Prelude.{◌≡◌, IfOk, IfErr};
-ghost use Rattle.row_bytes.specs.Header.{header_front, header_bytes, SaysShape, IsFaulty, loggers_said, numbers_said, entries_said, pages_said};
+ghost use Rattle.std.specs.Prelude.{◌≡◌, IfOk, IfErr, slice_index};
+ghost use Rattle.row_bytes.specs.Header.{header_front, header_bytes, SaysShape, IsFaulty, entries_said, pages_said};
 ghost use Rattle.array_shape.specs.Numbers.{IsFirstBad};
 ghost use Rattle.array_shape.specs.Places.{HasNumbers};
 ghost use Rattle.array_shape.specs.Places as places;
@@ -62,8 +62,8 @@ pub fn read_array_header(bytes: &[u8; 512], media_len: u64) -> Result<Shape, Hea
 }
 
 fn read_shape(bytes: &[u8; 512]) -> Result<Shape, BadShape>
-    ensures shape { IfOk result (HasNumbers (loggers_said bytes.now) (numbers_said bytes.now) (entries_said bytes.now) (pages_said bytes.now)) }
-    ensures bad { IfErr result (λ bad. IsFirstBad (loggers_said bytes.now) (numbers_said bytes.now) (entries_said bytes.now) (pages_said bytes.now) bad.which bad.given) }
+    ensures shape { IfOk result (HasNumbers (slice_index bytes.now 8) (slice_index bytes.now 9) (entries_said bytes.now) (pages_said bytes.now)) }
+    ensures bad { IfErr result (λ bad. IsFirstBad (slice_index bytes.now 8) (slice_index bytes.now 9) (entries_said bytes.now) (pages_said bytes.now) bad.which bad.given) }
 {
     let entries = LittleEndian::read_u16(&bytes[10..]);
     let pages = LittleEndian::read_u32(&bytes[12..]);
