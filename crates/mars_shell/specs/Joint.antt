@@ -1,17 +1,16 @@
 -- What comes of a script whose callers work on threads.
-use Rattle.std.specs.Prelude.{ℕ, ◌≡◌, ◌≢◌, ◌≤◌, ◌<◌, ◌↔◌, List, ◌++◌, length, map, Bool, IsTrue, None}
-use Rattle.std.specs.List.{flat_map, range_with_len, AllZip}
+use Rattle.std.specs.Prelude.{ℕ, ◌≡◌, ◌≢◌, ◌≤◌, ◌<◌, ◌↔◌, List, [], ◌++◌, length, map, slice_index_or, Bool, IsTrue, None}
+use Rattle.std.specs.List.{flat_map, range_with_len, AllByRecursion, AllZip}
 use Rattle.std.specs.FinMap.{entries}
 use Rattle.history.specs.Legal.{records}
 use Rattle.caller_steps.specs.State.{State, commits_of}
 use Rattle.caller_steps.specs.Room.{Limits}
-use Rattle.caller_steps.specs.Run.{Turn, AreOf, turns_of}
+use Rattle.caller_steps.specs.Run.{Turn, turns_of}
 use Rattle.caller_plans.specs.declared.fate.Fate.{Fate}
 use Rattle.caller_plans.specs.Plans.{planned, faults_from}
 use Rattle.caller_work.specs.declared.gate.Place.{Place}
 use Rattle.caller_work.specs.declared.gate.Place.TheVariants as place
 use Rattle.caller_work.specs.Fated.{AreFated}
-use Rattle.caller_work.specs.Worked.{of_caller}
 use Rattle.history_text.specs.Text.{done_lines, work_text}
 use Rattle.script_run.specs.Lines.{lines_of}
 use Rattle.texts.specs.MediaFault.{media_line}
@@ -35,11 +34,11 @@ pub record JointWork (Knows : Place → Type 0) (callers readers : ℕ) (input :
   pub enough : passes_for callers readers ≤ limits.callers
   pub said : List JointLine
   pub says : AllZip (JointLineSays callers readers) (lines_of input) said
-  pub whose : AreOf callers turns
+  pub whose : AllByRecursion (λ (turn : Turn). turn.0 < callers) turns
   pub fates : List (List Fate)
   pub each : length fates ≡ callers
-  pub fated : (caller : ℕ) → AreFated (turns_of caller turns) (planned caller None said) (of_caller fates caller) (commits_of caller final.history) (commits_of caller final.doubt)
-  pub whole : ended ≢ MediaFault → ended ≢ NoMemory → (caller : ℕ) → length (of_caller fates caller) ≡ length (planned caller None said)
+  pub fated : (caller : ℕ) → AreFated (turns_of caller turns) (planned caller None said) (slice_index_or fates caller []) (commits_of caller final.history) (commits_of caller final.doubt)
+  pub whole : ended ≢ MediaFault → ended ≢ NoMemory → (caller : ℕ) → length (slice_index_or fates caller []) ≡ length (planned caller None said)
   pub known : (caller : ℕ) → caller < callers → 0 < length (planned caller None said) → Knows (place.Ended caller 1)
   pub fault : (ended ≡ MediaFault) ↔ IsTrue final.is_dead
   pub told : List (List Answer)
