@@ -4,6 +4,7 @@ use Rattle.std.specs.Prelude.{IsSome, is_none, option_map, option_to_list, not}
 use Rattle.std.specs.FinMap.{get}
 use Rattle.std.proofs.lemmas.Bool.{cases_eq, true≢false}
 use Rattle.mars_base.specs.Check.{Check, test, unless, each}
+use Rattle.mars_base.proofs.Rooms.{full_told}
 use Rattle.array_shape.specs.declared.shape.Shape.{Shape}
 use Rattle.array_shape.proofs.Apart.{logger_below}
 use Rattle.page_store.specs.Index.{slots_of, index_pages_of}
@@ -174,7 +175,10 @@ module _ (index : below.Index) (table : ℕ) (p : PagesView) (s : State) (indexe
       lack_room : (g h n left : ℕ) (actions : List below.Action) → inserts.LackRoom p.store t g h n left actions
           → actions_fit (limits_of index p.store.shape p.store.depth) held_below left (actions_as p.store.shape actions) (Some (reply.LogFull g h n))
       lack_room g h n left [] lacks = absurd lacks
-      lack_room g h n left (action ∷ later) (inl (some, lacks)) = inr (some, inl lacks)
+      lack_room g h n left (action ∷ later) (inl (some, lacks)) = inr (
+        some,
+        inl (full_told p.store.shape.loggers p.store.shape.entries held_below (λ k. length (filter (λ page. nat_eq (page % p.store.shape.loggers) k) action.pages)) reply.LogFull g h n lacks),
+      )
       lack_room g h n left (action ∷ later) (inr (fits, lacks)) = inr (fits.0, inr (fits.1, lack_room g h n (left - action.takes) later lacks))
 
       -- in terms of the state
