@@ -15,6 +15,7 @@ use Rattle.history.specs.declared.call.Reply.TheVariants.{Fine}
 use Rattle.history.proofs.Counting.{length-filter-front}
 use Rattle.history.proofs.OneMore.{log_of-push}
 use Rattle.history.proofs.Saves.{save_is_front}
+use Rattle.record_table.proofs.States.{log_written}
 use Rattle.caller_steps.specs.State.{State, Index, calls_of}
 use Rattle.caller_steps.specs.Room.{Limits, is_slot_on, held_on}
 use Rattle.caller_steps.proofs.Holding.{is_write_on, held_apart, AreNamed, unnamed}
@@ -56,7 +57,7 @@ module _ (limits : Limits) (s : State) (named : (caller : ℕ) → AreNamed s.in
       first : (g : ℕ) → length (filter (is_write_on limits ix g) (log_of calls).writes) ≤ limits.entries
       first g = subst (λ (cs : Granted). length (filter (is_write_on limits ix g) (log_of cs).writes) ≤ limits.entries) at (index_room t g)
 
-      wrote : (write : Write) → HasSlot limits s t ix write.0 → (g : ℕ) → length (filter (is_write_on limits ix g) (log.written (log_of calls) write).writes) ≤ limits.entries
+      wrote : (write : Write) → HasSlot limits s t ix write.0 → (g : ℕ) → length (filter (is_write_on limits ix g) (log_written (log_of calls) write).writes) ≤ limits.entries
       wrote write (slot, there, entry) g = written_room limits ix write slot there (log_of calls) (λ anew.
           subst (λ (cs : Granted). length (filter (is_write_on limits ix (limits.logger_of slot)) (log_of cs).writes) < limits.entries) at
           (subst (λ (n : ℕ). n < limits.entries) (sym (held_index ix slots t (limits.logger_of slot))) (entry (ap (λ (cs : Granted). log.is_rewritten (log_of cs) write.0) at ∙ anew)))) g (first g)

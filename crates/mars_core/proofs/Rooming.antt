@@ -24,6 +24,7 @@ use Rattle.history.specs.declared.call.Reply.{Reply}
 use Rattle.history.specs.declared.call.Reply.TheVariants.{Fine}
 use Rattle.history.specs.declared.call.Reply.TheVariants as reply
 use Rattle.history.proofs.Counting.{length-filter-rewritten, length-filter-anew}
+use Rattle.record_table.proofs.States.{log_written}
 use Rattle.record_table.specs.Causes as table_causes
 use Rattle.record_table.specs.Shown.{state_of, pairs_of, keys_of, logger_of_slot, needed_on}
 use Rattle.record_table.specs.Shown as shown
@@ -276,7 +277,7 @@ module _ (index : below.Index) (table : ℕ) (p : PagesView) (s : State) (indexe
 -- a write that finds an entry leaves no logger with more than it has entries for
 module _ (limits : Limits) (ix : Index) (write : Write) (slot : ℕ) (at : ix.keys.slot_of write.0 ≡ Some slot) (l : Log)
     (has : log.is_rewritten l write.0 ≡ false → length (filter (is_write_on limits ix (limits.logger_of slot)) l.writes) < limits.entries) where
-  pub written_room : (g : ℕ) → length (filter (is_write_on limits ix g) l.writes) ≤ limits.entries → length (filter (is_write_on limits ix g) (log.written l write).writes) ≤ limits.entries
+  pub written_room : (g : ℕ) → length (filter (is_write_on limits ix g) l.writes) ≤ limits.entries → length (filter (is_write_on limits ix g) (log_written l write).writes) ≤ limits.entries
   written_room g room = go (log.is_rewritten l write.0) refl
     where
       alike : (one other : Write) → one.0 ≡ other.0 → is_write_on limits ix g one ≡ is_write_on limits ix g other
@@ -290,7 +291,7 @@ module _ (limits : Limits) (ix : Index) (write : Write) (slot : ℕ) (at : ix.ke
           ap (λ (k : ℕ). length (filter (is_write_on limits ix k) l.writes)) (eqb-true (limits.logger_of slot) g here) in
           omega (arith, few, same)
 
-      go : (b : Bool) → log.is_rewritten l write.0 ≡ b → length (filter (is_write_on limits ix g) (log.written l write).writes) ≤ limits.entries
+      go : (b : Bool) → log.is_rewritten l write.0 ≡ b → length (filter (is_write_on limits ix g) (log_written l write).writes) ≤ limits.entries
       go true is = subst (λ (n : ℕ). n ≤ limits.entries) (sym (length-filter-rewritten (is_write_on limits ix g) alike write (log.floor_of l) l.writes is)) room
       go false is = subst (λ (n : ℕ). n ≤ limits.entries)
           (sym (length-filter-anew (is_write_on limits ix g) alike write (log.floor_of l) l.writes is ∙ ap (λ (o : Option ℕ). length (filter (is_write_on limits ix g) l.writes) + cond (is_slot_on limits g o) 1 0) at))

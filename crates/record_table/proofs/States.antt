@@ -14,10 +14,9 @@ use Rattle.page_store.specs.Kept.{IsFront}
 use Rattle.page_store.proofs.Views.{saved_or_none}
 use Rattle.record_slots.specs.Places.{tables_of}
 use Rattle.history.specs.declared.key.Key.{Key}
-use Rattle.history.specs.Writes.{Write}
+use Rattle.history.specs.Writes.{Write, with_write as writes_with}
 use Rattle.history.specs.Table.{has_save}
 use Rattle.history.specs.Log.{Log, save_at, floor_of, log_after}
-use Rattle.history.specs.Log as log
 use Rattle.history.specs.declared.call.Call.TheVariants.{Table as OnTable, Control}
 use Rattle.history.specs.declared.call.TableCall.TheVariants.{Save, Back}
 use Rattle.history.specs.declared.call.Control.TheVariants.{Commit, Abort}
@@ -61,9 +60,13 @@ logs_with bytes logs saved t log saves own is = λ i u. one u i
 pub logs_same : (d e : List ℕ) → tables_of e ≡ tables_of d → (logs : Logs Part) (saved : ℕ → List (List Part)) → ◌≡◌ {A = ℕ → Log} (λ u. log_in e (logs u) (saved u)) (λ u. log_in d (logs u) (saved u))
 logs_same d e tables logs saved = λ i u. record { writes = writes_same d e tables (listed (logs u)) i; saved = saves_same d e tables (saved u) i }
 
+-- a log with one more write, which replaces one of its key since the last save
+abbrev pub log_written : Log → Write → Log
+log_written l write = record l { writes = writes_with (floor_of l) write l.writes }
+
 -- the state after one more write of a number
 abbrev pub written : TableState → ℕ → Key → Option (List ℕ) → TableState
-written s t key value = record s { logs = with_one s.logs t (log.written (s.logs t) (key, value)) }
+written s t key value = record s { logs = with_one s.logs t (log_written (s.logs t) (key, value)) }
 
 -- the writes at a save
 saves_at : (bytes : List ℕ) (saved : List (List Part)) (n : ℕ) → save_at (map (writes_of bytes) saved) n ≡ writes_of bytes (pages.save_at saved n)
@@ -94,7 +97,7 @@ module _ (index : Index) (laws : Laws index) (s : PagesState) (t : ℕ) where
       → shown_by index (page.after (page.write_as t new.0 new.1) s) ≡ written (shown_by index s) t (write_of s.store.bytes new).0 (write_of s.store.bytes new).1
   shown_write sound closed new is parts =
       ap (λ (saved : ℕ → List (List Part)). shown (λ (u : ℕ). log_in s.store.bytes (with_log s.store.logs t (Some (with_write (pages.floor_of s t) new.0 new.1 (log_of s t))) u) (saved u))) (sym (with_same s.saved t))
-      ∙ ap shown (logs_with s.store.bytes s.store.logs s.saved t (Some (with_write (pages.floor_of s t) new.0 new.1 (log_of s t))) (s.saved t) (log.written ((shown_by index s).logs t) (write_of s.store.bytes new))
+      ∙ ap shown (logs_with s.store.bytes s.store.logs s.saved t (Some (with_write (pages.floor_of s t) new.0 new.1 (log_of s t))) (s.saved t) (log_written ((shown_by index s).logs t) (write_of s.store.bytes new))
       (ap (λ (ws : List Write). (let l : Log = record { writes = ws; saved = map (writes_of s.store.bytes) (s.saved t) } in l))
       (ap (λ (n : ℕ). writes_of s.store.bytes (with_write n new.0 new.1 (log_of s t))) (floors index s t closed)
       ∙ writes_after index laws s.store.bytes sound new is (floor_of ((shown_by index s).logs t)) (log_of s t) parts)))
