@@ -64,8 +64,9 @@ IsGroupIn shape group = (group.number < shape.numbers) × All (λ (part : Part).
     × HaveRoom shape.loggers shape.entries (λ g. 0) (λ g. count_on shape g (ranges_of group.parts))
 
 -- a frame that an array of this shape can follow
-abbrev pub IsFrameIn : Shape → Frame → Type 0
-IsFrameIn shape frame = IsFrame frame × All (IsGroupIn shape) frame.groups
+pub record IsFrameIn (shape : Shape) (frame : Frame) : Type 0 where
+  pub is : IsFrame frame
+  pub groups : All (IsGroupIn shape) frame.groups
 
 -- these bytes are just one whole frame that an array of this shape can follow
 pub record AreFrame (shape : Shape) (bytes : List ℕ) : Type 0 where

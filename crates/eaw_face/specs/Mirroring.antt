@@ -1,6 +1,5 @@
 -- What a store that mirrors sends.
 use Rattle.std.specs.Prelude.{ℕ, ◌≡◌, ◌+◌, ◌^◌, ◌≤◌, ◌⊎◌, ◌↔◌, Bool, true, false, IsTrue, List, [], ◌∷◌, ◌++◌, length, drop, map, flat_map, All}
-use Rattle.std.specs.List.{fold}
 use Rattle.mars_base.specs.Causes.{Rose}
 use Rattle.array_shape.specs.declared.shape.Shape.{Shape}
 use Rattle.array_shape.specs.Logged.{applied}
@@ -15,7 +14,8 @@ AreInSequence next (f ∷ fs) = (f.sequence ≡ next) × AreInSequence (next + 1
 
 -- the data once frames are applied, one after another
 abbrev pub followed : List Frame → List ℕ → List ℕ
-followed frames bytes = fold (λ before f. applied (flat_map (λ group. group.parts) f.groups) before) bytes frames
+followed [] bytes = bytes
+followed (f ∷ fs) bytes = followed fs (applied (flat_map (λ group. group.parts) f.groups) bytes)
 
 -- these frames were sent, next in sequence
 pub record Adds (shape : Shape) (added : List Frame) (old new : Sending) : Type 0 where

@@ -38,7 +38,7 @@ module _ (tells : Bool) (old : Stand) (f : Frame) (good : IsFrameIn old.store.sh
   cut_one (g ∷ gs) left cuts =
       let whole : frame_bytes f ++ [] ≡ frame_bytes g ++ (flat_map frame_bytes gs ++ left) =
       append-nil (frame_bytes f) ∙ sym is ∙ sym (ap (λ (l : List ℕ). l ++ piece) none) ∙ cuts.joined ∙ append_assoc (frame_bytes g) (flat_map frame_bytes gs) left in
-      let both = frame_cut f g [] (flat_map frame_bytes gs ++ left) good.0 (All-head (IsFrameIn old.store.shape) g gs cuts.good).0 whole in
+      let both = frame_cut f g [] (flat_map frame_bytes gs ++ left) good.is (All-head (IsFrameIn old.store.shape) g gs cuts.good).is whole in
       let rest = no_frames gs left both.1 in
       inr ((λ i. sym both.0 i ∷ rest.0 i), rest.1)
 
@@ -68,7 +68,7 @@ module _ (tells : Bool) (old : Stand) (f : Frame) (good : IsFrameIn old.store.sh
   pub gap : (new : StoreView) (expected got : ℕ) → StopsAtGap tells old new piece expected got → (got ≡ f.sequence) × IsGap old.applied expected got × GoesOn tells [] old.store new
   gap new expected got stops = ⊎_elim
       (λ not.
-      let both = frame_cut stops.next f stops.later [] stops.good.0 good.0 (not.1 ∙ sym (append-nil (frame_bytes f))) in (
+      let both = frame_cut stops.next f stops.later [] stops.good.is good.is (not.1 ∙ sym (append-nil (frame_bytes f))) in (
         stops.got_is ∙ ap (λ (g : Frame). g.sequence) both.0,
         subst (λ (n : ℕ). IsGap n expected got) (let same : old.applied + 0 ≡ old.applied = omega arith in same) (subst (λ (fs : List Frame). IsGap (old.applied + length fs) expected got) not.0 stops.gap),
         record { data_is = subst (λ (fs : List Frame). HasFollowed tells fs old.store new) not.0 stops.stops.data_is; faults = stops.stops.faults; alive = stops.stops.alive },

@@ -198,7 +198,7 @@ module _ (shape : Shape) where
         let good = groups_good (numbers_in bits) are bytes in
         let few = members_few bits shape.numbers (All-weaker (IsSendableAt shape logs) (λ t. t < shape.numbers) (λ t at. at.number) (numbers_in bits) are) in
         let least = groups_few logs (numbers_in bits) in
-        ((small, some, omega (arith, few, least, in_range.most_numbers), members_rise logs bits, good.0), good.1)
+        record { is = (small, some, omega (arith, few, least, in_range.most_numbers), members_rise logs bits, good.0); groups = good.1 }
 
     -- each is listed
     pub are_listed : (ts : List ℕ) → AreSendable shape logs ts → All (IsListed logs) ts

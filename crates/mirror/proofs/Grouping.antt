@@ -165,7 +165,7 @@ module _ (shape : Shape) (frame : List ℕ) (f : AreFrame shape frame) where
   count_said =
       ap (λ (l : List ℕ). little_number 2 (drop 12 l)) (sym f.is ∙ append_assoc s n gs)
       ∙ ap (λ (l : List ℕ). little_number 2 l) (drop_at s (n ++ gs) 12 front)
-      ∙ little_number-reads_back 2 (length f.frame.groups) gs f.good.0.2
+      ∙ little_number-reads_back 2 (length f.frame.groups) gs f.good.is.2
 
   pub groups_said : drop 14 frame ≡ gs
   groups_said =
@@ -222,10 +222,10 @@ module _ (tells : Bool) (Opens : Shape → List ℕ → List ℕ → Type 0) (k 
     left = f.frame.groups;
     so_many = refl;
     all = refl;
-    are = f.good.0.4;
-    good = f.good.1;
+    are = f.good.is.4;
+    good = f.good.groups;
     low = 0;
-    rise = f.good.0.3;
+    rise = f.good.is.3;
     gone_low = All-nil (λ (g : Group). g.number < 0);
     said = rest_is ∙ groups_said old.shape frame f;
     members = none;

@@ -49,8 +49,8 @@ module _ (shape : Shape) (in_range : IsShape shape) where
 
   frame_long : (f : Frame) → IsFrameIn shape f → length (frame_bytes f) ≤ frame_most shape
   frame_long f good =
-      let all = groups_long f.groups good.0.4 good.1 in
-      let few = rise_most shape 0 f.groups (omega arith) good.0.3 good.1 in
+      let all = groups_long f.groups good.is.4 good.groups in
+      let few = rise_most shape 0 f.groups (omega arith) good.is.3 good.groups in
       let product = mul-le-mul_right (3 + 522 * (shape.loggers * shape.entries)) (let least : length f.groups ≤ shape.numbers = omega (arith, few) in least) in
       let a = length-append (mark ++ little_bytes 8 f.sequence ++ little_bytes 2 (length f.groups)) (flat_map group_bytes f.groups) in
       let b = length-append (mark ++ little_bytes 8 f.sequence) (little_bytes 2 (length f.groups)) in

@@ -84,7 +84,7 @@ module _ (shape : Shape) where
       good_frame sequence (p ∷ ps) some small s bytes =
           let good = good_group p ps s bytes in
           let g : Group = record { number = number; parts = p ∷ ps } in
-          ((small, omega arith, omega arith, (omega arith, tt), All-cons IsGroup g [] good.0 (All-nil IsGroup)), All-cons (IsGroupIn shape) g [] good.1 (All-nil (IsGroupIn shape)))
+          record { is = (small, omega arith, omega arith, (omega arith, tt), All-cons IsGroup g [] good.0 (All-nil IsGroup)); groups = All-cons (IsGroupIn shape) g [] good.1 (All-nil (IsGroupIn shape)) }
 
 pub some_group : (number : ℕ) (ps : List Part) → 0 < length ps → 0 < length (group_of number ps)
 some_group number [] some = absurd (omega (arith, some))

@@ -22,7 +22,7 @@ sequence_said shape bytes f =
     let n = little_bytes 2 (length f.frame.groups) in
     let gs = flat_map group_bytes f.frame.groups in
     ap (λ (l : List ℕ). little_number 8 (drop 4 l)) (sym f.is ∙ append_assoc (mark ++ s) n gs ∙ append_assoc mark s (n ++ gs))
-    ∙ little_number-reads_back 8 f.frame.sequence (n ++ gs) f.good.0.0
+    ∙ little_number-reads_back 8 f.frame.sequence (n ++ gs) f.good.is.0
 
 -- a frame was applied whose sequence was read
 pub applied_next : (tells : Bool) (count : ℕ) (read bytes : List ℕ) (old new : StoreView) → read ≡ bytes → little_number 8 (drop 4 bytes) ≡ count + 1 → Applied tells read old new → AppliesNext tells count bytes old new

@@ -23,7 +23,7 @@ module _ (shape : Shape) where
   -- the first frame is told by the bytes
   first_cut : (f g : Frame) (fs gs : List Frame) (x y : List ℕ) → IsFrameIn shape f → IsFrameIn shape g → flat_map frame_bytes (f ∷ fs) ++ x ≡ flat_map frame_bytes (g ∷ gs) ++ y
       → (f ≡ g) × (flat_map frame_bytes fs ++ x ≡ flat_map frame_bytes gs ++ y)
-  first_cut f g fs gs x y is also same = frame_cut f g (flat_map frame_bytes fs ++ x) (flat_map frame_bytes gs ++ y) is.0 also.0 (sym (behind f fs x) ∙ same ∙ behind g gs y)
+  first_cut f g fs gs x y is also same = frame_cut f g (flat_map frame_bytes fs ++ x) (flat_map frame_bytes gs ++ y) is.is also.is (sym (behind f fs x) ∙ same ∙ behind g gs y)
 
   pub one_way : (fs gs : List Frame) (x y : List ℕ) → All (IsFrameIn shape) fs → All (IsFrameIn shape) gs → HasNoFrame shape x → HasNoFrame shape y
       → flat_map frame_bytes fs ++ x ≡ flat_map frame_bytes gs ++ y → (fs ≡ gs) × (x ≡ y)
@@ -54,7 +54,7 @@ module _ (shape : Shape) where
   not_next : (next : Frame) (applied expected got : ℕ) → IsFrameIn shape next → got ≡ next.sequence → next.sequence ≡ applied + 1 → IsGap applied expected got → ⊥
   not_next next applied expected got good is in_sequence gap = ⊎_elim
       (λ within. within.2 (is ∙ in_sequence ∙ sym within.0))
-      (λ past. omega (arith, past.0, good.0.0, in_sequence))
+      (λ past. omega (arith, past.0, good.is.0, in_sequence))
       gap.other
 
   -- frames in sequence do not pass over a gap
@@ -64,7 +64,7 @@ module _ (shape : Shape) where
   no_gap [] (g ∷ gs) next later x applied expected got is also good got_is gap in_sequence none same =
       no_front g (flat_map frame_bytes gs ++ (frame_bytes next ++ later)) x (All-head (IsFrameIn shape) g gs also) none (same ∙ behind g gs (frame_bytes next ++ later))
   no_gap (f ∷ fs) [] next later x applied expected got is also good got_is gap in_sequence none same =
-      let first = frame_cut f next (flat_map frame_bytes fs ++ x) later (All-head (IsFrameIn shape) f fs is).0 good.0 (sym (behind f fs x) ∙ same) in
+      let first = frame_cut f next (flat_map frame_bytes fs ++ x) later (All-head (IsFrameIn shape) f fs is).is good.is (sym (behind f fs x) ∙ same) in
       not_next next applied expected got good got_is (ap (λ (h : Frame). h.sequence) (sym first.0) ∙ in_sequence.0)
       (subst (λ (n : ℕ). IsGap n expected got) (let none : applied + 0 ≡ applied = omega arith in none) gap)
   no_gap (f ∷ fs) (g ∷ gs) next later x applied expected got is also good got_is gap in_sequence none same =

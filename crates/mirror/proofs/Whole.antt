@@ -22,9 +22,9 @@ starts shape bytes = (
       record {
         rest = s ++ (n ++ gs);
         is = sym f.is ∙ four mark s n gs;
-        after = number_first (AfterSequence shape) 8 (s ++ (n ++ gs)) f.frame.sequence (n ++ gs) f.good.0.0 refl
-            (number_first (AfterGroupCount shape) 2 (n ++ gs) (length f.frame.groups) gs f.good.0.2 refl
-            (f.good.0.1, record { list = f.frame.groups; count = refl; rise = f.good.0.3; are = f.good.0.4; good = f.good.1; is = refl }));
+        after = number_first (AfterSequence shape) 8 (s ++ (n ++ gs)) f.frame.sequence (n ++ gs) f.good.is.0 refl
+            (number_first (AfterGroupCount shape) 2 (n ++ gs) (length f.frame.groups) gs f.good.is.2 refl
+            (f.good.is.1, record { list = f.frame.groups; count = refl; rise = f.good.is.3; are = f.good.is.4; good = f.good.groups; is = refl }));
       }),
   (λ r.
       let counted = number_whole (AfterSequence shape) 8 r.rest r.after in
@@ -32,7 +32,7 @@ starts shape bytes = (
       let g = all.1 in
       record {
         frame = record { sequence = r.after.high; groups = g.list };
-        good = ((r.after.fits, omega (arith, all.0, g.count), subst (λ (n : ℕ). n < 256 ^ 2) (sym g.count) counted.fits, g.rise, g.are), g.good);
+        good = record { is = (r.after.fits, omega (arith, all.0, g.count), subst (λ (n : ℕ). n < 256 ^ 2) (sym g.count) counted.fits, g.rise, g.are); groups = g.good };
         is =
             four mark (little_bytes 8 r.after.high) (little_bytes 2 (length g.list)) (flat_map group_bytes g.list)
             ∙ sym (r.is ∙ ap (λ (l : List ℕ). mark ++ l)

@@ -9,7 +9,7 @@ pub returns-in-Ok-false-clause-took : goal.returns-in-Ok-false-clause-took
 returns-in-Ok-false-clause-took g c = (
   refl,
   (c.in-Some.text.now, c.in-Some.ensures),
-  λ f says. (rw c.in-Ok-false.field-0-test at c.in-Ok-false.ensures) (frame_bytes f) (bytes_of_frame f says.0.0) (hex_is c.args.line.now c.in-Some.text.now _ c.in-Some.ensures says.1),
+  λ f says. (rw c.in-Ok-false.field-0-test at c.in-Ok-false.ensures) (frame_bytes f) (bytes_of_frame f says.0.is) (hex_is c.args.line.now c.in-Some.text.now _ c.in-Some.ensures says.1),
   refl,
 )
 
@@ -19,7 +19,7 @@ returns-then-not-is_frame-clause-took g c =
       refl,
       (c.in-Some.text.now, c.in-Some.ensures),
       λ f says.
-          let same = hex_of_injective c.read_hex.new.bytes.items (frame_bytes f) read.0 (bytes_of_frame f says.0.0) (sym read.1 ∙ hex_is c.args.line.now c.in-Some.text.now _ c.in-Some.ensures says.1) in
+          let same = hex_of_injective c.read_hex.new.bytes.items (frame_bytes f) read.0 (bytes_of_frame f says.0.is) (sym read.1 ∙ hex_is c.args.line.now c.in-Some.text.now _ c.in-Some.ensures says.1) in
           false≢true (sym c.if-not-is_frame.true ∙ c.is_frame.ensures.1 (record { frame = f; good = says.0; is = sym (c.deref.ensures.value ∙ same) })),
       refl,
     )
