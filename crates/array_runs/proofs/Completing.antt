@@ -1,6 +1,6 @@
 -- What can be done is done, unless memory runs out.
 use Rattle.array_image.specs.Decided.{settled_data}
-use Rattle.std.proofs.Common.{◌≡◌, ℕ, ◌≤◌, ◌⊎◌, inl, inr, ⊎_elim, List, [], length, Bool, refl, ap, subst, ◌∙◌, arith}
+use Rattle.std.proofs.Common.{◌≡◌, ℕ, ◌≤◌, ◌⊎◌, inl, inr, ⊎_elim, List, [], length, Bool, true, refl, ap, subst, ◌∙◌, arith}
 use Rattle.std.specs.Prelude.{IsTrue}
 use Rattle.mars_base.specs.Causes.{Rose}
 use Rattle.pcm_media.specs.View.{View}

@@ -1,5 +1,5 @@
 // Work over the records of the array that a medium holds.
-ghost use Rattle.std.specs.Prelude.{◌≡◌, ◌⊎◌, ℕ, List, None, false, IsTrue, IsFalse, IfOk, IfErr};
+ghost use Rattle.std.specs.Prelude.{◌≡◌, ◌⊎◌, ℕ, List, None, true, false, IsTrue, IsFalse, IfOk, IfErr};
 ghost use Rattle.mars_shell.specs.Contract.{IsAlive, Wrote, index_at, InputSays, OutcomeOf, Counts, IsEarly, IsRefusal, depth_of, HasDepth, Serves, ServedCounts};
 ghost use Rattle.mars_shell.specs.OnCore.{RanOut};
 ghost use Rattle.mars_shell.specs.Run.{TakesTurns};

@@ -23,7 +23,7 @@ const CALLER: u8 = 0;
 pub struct Purge;
 
 impl ToldWork for Purge {
-    ghost use Rattle.std.specs.Prelude.{false};
+    ghost use Rattle.std.specs.Prelude.{true, false};
     ghost use Rattle.array_runs.specs.Outcome.{OutcomeOf};
     ghost use Rattle.told_commands.specs.Purge.{LeavesPurged, PurgesRecords};
     ghost use Rattle.told_commands.specs.Told.{ByEnd, HasRecords, names_on, WorksOn};

@@ -1,5 +1,5 @@
 // The trait of what is done over the records of an array and told at its end.
-ghost use Rattle.std.specs.Prelude.{◌≡◌, ℕ, Bool, List, [], false, None, Result, IsTrue, IfErr};
+ghost use Rattle.std.specs.Prelude.{◌≡◌, ℕ, Bool, List, [], true, false, None, Result, IsTrue, IfErr};
 ghost use Rattle.pcm_media.specs.View.{View};
 ghost use Rattle.array_shape.specs.declared.shape.Shape.{Shape};
 ghost use Rattle.eaw_face.specs.Causes.{IsAlive};

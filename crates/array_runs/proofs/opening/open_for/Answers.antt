@@ -1,4 +1,4 @@
-use Rattle.std.proofs.Common.{inl, refl, sym, subst, ap, ◌∙◌, arith}
+use Rattle.std.proofs.Common.{true, inl, refl, sym, subst, ap, ◌∙◌, arith}
 use Rattle.std.proofs.lemmas.Result.{err_from_is_err_and}
 use Rattle.array_runs.specs.Opening.{IsUnopened}
 use Rattle.array_runs.specs.Statuses.{IsEarly, IsRefusal}

@@ -1,4 +1,4 @@
-use Rattle.std.proofs.Common.{[], false, ⊎_elim, refl, sym, subst, ◌∙◌}
+use Rattle.std.proofs.Common.{[], true, false, ⊎_elim, refl, sym, subst, ◌∙◌}
 use Rattle.std.proofs.lemmas.List.{append-nil}
 use Rattle.reader_work.specs.Readership.{passes_for}
 use Rattle.mars_shell.specs.Joint.{JointWork}

@@ -1,5 +1,5 @@
 use Rattle.std.proofs.Common.{Bool, sym, subst, refl}
-use Rattle.std.specs.Prelude.{false}
+use Rattle.std.specs.Prelude.{true, false}
 use Rattle.array_runs.specs.Outcome.{OutcomeOf}
 use Rattle.mars_shell.specs.Late.{depth_of}
 use Rattle.mars_shell.specs.FramedRun.{RunsAs}

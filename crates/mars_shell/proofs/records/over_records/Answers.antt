@@ -1,4 +1,4 @@
-use Rattle.std.proofs.Common.{[], false, ⊎_elim, refl, sym, subst, ◌∙◌, arith}
+use Rattle.std.proofs.Common.{[], true, false, ⊎_elim, refl, sym, subst, ◌∙◌, arith}
 use Rattle.std.proofs.lemmas.List.{append-nil}
 use Rattle.array_runs.specs.Outcome.{OutcomeOf}
 use Rattle.mars_shell.specs.Run.{TakesTurns}
