@@ -36,7 +36,7 @@ take_whole (x ∷ xs) = ap (λ (l : List _). x ∷ l) (take_whole xs)
 
 -- where a reader comes to is in the list
 come_within : (names : List (List ℕ)) (base : Table) (list : List Done) (least : ℕ) (key : Key) (answer : Answer) → least ≤ length list → IsAnswer names base list least key answer → come_to least answer ≤ length list
-come_within names base list least key (Value asked at value) low is = is.2.1.0
+come_within names base list least key (Value asked at value) low is = is.3
 come_within names base list least key NoTable low is = low
 
 -- what is an answer in a list is one in a longer list
