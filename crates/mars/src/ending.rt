@@ -1,5 +1,6 @@
 // A run, and the report at its end.
 ghost use Rattle.std.specs.Prelude.{◌≡◌, ◌++◌, List, ℕ, Bool, map, IsTrue, string_bytes};
+ghost use Rattle.std.specs.Process.{exit_status};
 ghost use Rattle.mars_base.specs.Causes.{Rose};
 ghost use Rattle.texts.specs.Written.{IsWritten, Wrote};
 ghost use Rattle.array_runs.specs.Fault.{status_number};
@@ -11,6 +12,7 @@ ghost use Rattle.mars.specs.Ending.{IsUnbegun, error_line};
 use mars_shell::{OpenDoorway, Status, fault_text, run};
 use outside::{Sink, Source};
 use pcm_media::Media;
+use std::process::{ExitCode, Termination};
 use std::sync::Wait;
 use std::thread::Threads;
 use texts::{Piece, ShortText, write_front};
@@ -23,11 +25,27 @@ pub struct Told {
     pub ghost of_status: { number ≡ status_number status },
 }
 
-impl Told {
-    pub fn number(&self) -> u8
-        ensures { result ≡ self.now.number }
+/// The number that the program ends with. It is made of a status that was told, and of nothing else.
+#[derive(Drop)]
+pub struct Ending {
+    number: u8,
+}
+
+impl From<Told> for Ending {
+    fn from(told: Told) -> Ending
+        ensures { result.number ≡ status_number told.status }
     {
-        self.number
+        Ending {
+            number: told.number,
+        }
+    }
+}
+
+impl Termination for Ending {
+    fn report<R: Eprint>(self, _rt: &R) -> ExitCode
+        ensures { exit_status result ≡ self.number }
+    {
+        ExitCode::from(self.number)
     }
 }
 

@@ -13,7 +13,7 @@ mod image;
 mod kept;
 
 use crate::choice::{Image, choose};
-use crate::ending::{Told, run_told, tell_unbegun};
+use crate::ending::{Ending, Told, run_told, tell_unbegun};
 use crate::image::{fresh_image, no_image};
 use crate::kept::resident;
 use blank_media::BlankMedia;
@@ -24,18 +24,17 @@ use outside::{Sink, StdStream};
 use pcm_media::Media;
 use std::fs::File;
 use std::io::{ErrorKind, Input, Result as IoResult};
-use std::process::ExitCode;
 use std::rt::{Env, Files};
 use std::sync::Wait;
 use std::thread::Threads;
 use std::{env, io};
 
-fn main(rt: HostRuntime) -> ExitCode {
+fn main(rt: HostRuntime) -> Ending {
     // A file that is opened takes the number of a closed stream, if there is one, and replies would be written into an image.
     // These take them first, and stay open to the end.
     let _held = [null(&rt), null(&rt), null(&rt)];
     let mut errors = StdStream::new(rt.stderr());
-    ExitCode::from(whole(&rt, &mut errors).number())
+    Ending::from(whole(&rt, &mut errors))
 }
 
 // Reads as empty and refuses to be written. A system without it has no such protection.
