@@ -1,5 +1,5 @@
 -- What images hold, without their bytes.
-use Rattle.std.proofs.Common.{◌≡◌, ℕ, ◌^◌, ◌<◌, ◌≤◌, ◌⊎◌, inl, inr, ⊎_elim, List, [], ◌∷◌, ◌++◌, length, Bool, true, false, refl, sym, ap, subst, ◌∙◌, arith}
+use Rattle.std.proofs.Common.{◌≡◌, ℕ, ◌^◌, ◌<◌, ◌≤◌, ◌⊎◌, inl, inr, ⊎_elim, List, [], ◌∷◌, ◌++◌, length, take, Bool, true, false, refl, sym, ap, subst, ◌∙◌, arith}
 use Rattle.std.proofs.lemmas.List.Elements.{All-nil}
 use Rattle.std.specs.FinMap.{empty}
 use Rattle.history.specs.declared.transaction.Done.{Done}
@@ -12,6 +12,7 @@ use Rattle.row_bytes.specs.Header.{SaysShape}
 use Rattle.row_bytes.proofs.OneShape.{one_shape}
 use Rattle.eaw_device.specs.Opens.{header_of, Opens, AllOpen, OpensLike}
 use Rattle.page_store.specs.Index.{Index}
+use Rattle.history.specs.Legal.{records}
 use Rattle.history.specs.Writes.{Table}
 use Rattle.history.specs.Key.{main_name}
 use Rattle.record_table.specs.Does.{OpensNamed}
@@ -256,11 +257,12 @@ module _ (old : View) (shape : Shape) (form : ℕ) (names : List (List ℕ)) (ta
           = in_shape (λ (s : Shape). OpensLike s old.content image ⊎ Recovers s (index_in s old) taken.final 0 image) taken.shape taken.holds.array.header (λ all. taken.prefix_law.since all image left) in
           let same = this_shape taken.shape taken.holds.array.header in
           ⊎_elim (λ opens. as_before (like image opens))
-          (λ recovers. (
-            _,
-            subst (λ (called : List (List ℕ)). IsOf shape form called _ image)
+          (λ recovers.
+          let left_records : Table = records taken.final.base (take recovers.count (taken.final.history ++ taken.final.doubt)) in (
+            left_records,
+            subst (λ (called : List (List ℕ)). IsOf shape form called left_records image)
                 (names_left (index_in taken.shape old) taken.shape depth (settled_data taken.shape old.content.bytes) taken.turns taken.final taken.runs ∙ ap (λ (s : Shape). names_on s old) same ∙ reads.0)
-                (own taken.final.names _ image recovers.opens.0),
+                (own taken.final.names left_records image recovers.opens.0),
           )) seen
 
       run_by : (frames : Bool) (depth : ℕ) (input : List ℕ) (cut : Bool) (text : List ℕ) (ended : Ended) → RunsAs frames depth input cut text old ended new → HasSome

@@ -63,4 +63,4 @@ pub readers_few : (words : List (List ℕ)) (numbers : CallersNumbers) → AsksF
 readers_few words numbers asks = given_readers _ numbers.readers asks.4.1.readers
 
 pub drill_depth : (words : List (List ℕ)) (numbers : DrillNumbers) → AsksFor words (Drill numbers) → HasDepth numbers.writing
-drill_depth words numbers asks = given_depth _ numbers.writing asks.4.1.writing
+drill_depth words numbers asks = given_depth _ numbers.writing asks.4.3
